@@ -1,33 +1,20 @@
 -- What is made of a file's imports and of its exports is made of the file's own tables.
-use Rattle.std.proofs.Common.{◌≡◌, ◌∙◌, ℕ, List, Bool, true, false, Option, Some, None, refl, ap}
-use Rattle.std.proofs.Common.{inl, inr, ◌⊎◌, option_map, Result, subst}
+use Rattle.std.proofs.Common.{◌≡◌, ◌∙◌, ℕ, List, Option, Some, None, refl, ap}
+use Rattle.std.proofs.Common.{option_map, Result, subst}
 use Rattle.goblin_base.specs.declared.error.ErrorOf.{ErrorOf}
 use Rattle.goblin_base.specs.Answers.{AnswersOrMemory}
 use Rattle.goblin_base.specs.Reading.{IsRefused, Reading, ReadsOrMemory}
 use Rattle.goblin_base.proofs.Steps as steps
-use Rattle.readings.specs.Reads.{given, mapped, pick}
-use Rattle.goblin_pe_sect.specs.declared.data_directories.DataDirectory.{DataDirectory}
+use Rattle.readings.specs.Reads.{mapped}
 use Rattle.goblin_pe_sect.specs.declared.options.ParseOptions.{ParseOptions}
 use Rattle.goblin_pe_sect.specs.Addresses.{Addressing}
 use Rattle.goblin_pe_export.specs.ExportRecords.{ExportTables, NumberedExport}
 use Rattle.goblin_pe_import.specs.ImportRecords.{NumberedLibrary}
 use Rattle.goblin_pe.specs.declared.whole.Part.{Part}
-use Rattle.goblin_pe.specs.declared.whole.Part.TheVariants.{Absent}
 use Rattle.goblin_pe.specs.Whole.{TableParts, TablePlaces, collected_tables, export_part}
-use Rattle.goblin_pe.specs.Whole.{numbered_data_part, part_at, part_map, relocation_part, table_parts}
+use Rattle.goblin_pe.specs.Whole.{numbered_data_part, relocation_part, table_parts}
 
 -- ---- parts
-
--- the part of a table that is not asked for, or not there
-pub unasked_mapped : {X A B : Type 0} (view : X → B) (f : A → B) (strict asked : Bool)
-    (read : DataDirectory → Reading A) (directory : Option DataDirectory) (bytes : List ℕ)
-    → (asked ≡ false) ⊎ (directory ≡ None)
-    → option_map (part_map f)
-    ((pick asked (part_at strict read directory) (given Absent)).value bytes)
-    ≡ Some (part_map view Absent)
-unasked_mapped view f strict false read directory bytes is = refl
-unasked_mapped view f strict true read directory bytes (inl is) = absurd cc
-unasked_mapped view f strict true read directory bytes (inr is) = rw is refl
 
 -- what is made of what was made of a value
 pub twice_read : {R X Y Z : Type 0} (view : R → Z) (f : X → Y) (g : Y → Z) (r : Reading X)

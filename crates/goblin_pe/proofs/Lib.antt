@@ -1,8 +1,5 @@
--- Lemmas that callers may cite: loops over walks, ranges of a footprint, and of the crates below the parts
--- of a header, what reads back, and steps of readings and walks.
-pub mod Covered
-pub mod Folds
-pub mod Walked
+-- Lemmas of the crates below that callers may cite: the parts of a header, what reads back, and steps of
+-- readings and walks.
 pub use Rattle.goblin_base.proofs.Footprints
 pub use Rattle.goblin_base.proofs.Fronts
 pub use Rattle.goblin_base.proofs.Steps
@@ -14,15 +11,9 @@ pub use Rattle.goblin_pe_head.proofs.PeHeaderRoundTrip
 -- The others are the library's own: they change with it.
 pub mod Collected
 pub mod ImportParts
-pub mod ImportStarts
 pub mod KeptImports
-pub mod Keys
-pub mod Layouts
 pub mod ListedImports
 pub mod Parts
 pub mod PermissiveReads
-pub mod SectionNames
-pub mod SoundFiles
 pub mod TableRuns
-pub mod TablesReached
 pub mod TwinParts

@@ -1,6 +1,6 @@
 -- What becomes of a table that was asked for, as a part of a file.
 use Rattle.std.proofs.Common.{◌≡◌, ℕ, List, Bool, true, false, Option, Some, None, option_map, refl, ap, subst, ◌∙◌}
-use Rattle.std.specs.Prelude.{IfOk, Result, Ok, Err}
+use Rattle.std.specs.Prelude.{Result, Ok, Err}
 use Rattle.goblin_base.specs.declared.error.ErrorOf.{ErrorOf}
 use Rattle.goblin_base.specs.declared.error.ErrorOf.TheVariants.{BadMagic, BufferTooShort}
 use Rattle.goblin_base.specs.declared.error.ErrorOf.TheVariants.{Malformed, Memory, Read}
@@ -11,7 +11,7 @@ use Rattle.goblin_pe_sect.specs.declared.data_directories.DataDirectory.{DataDir
 use Rattle.goblin_pe.specs.declared.whole.Part.{Part}
 use Rattle.goblin_pe.specs.declared.whole.Part.TheVariants.{Absent, Refused}
 use Rattle.goblin_pe.specs.declared.whole.Part.TheVariants as part
-use Rattle.goblin_pe.specs.Whole.{BecomesPart, IfRead, part_at, part_map, part_of}
+use Rattle.goblin_pe.specs.Whole.{BecomesPart, part_at, part_map, part_of}
 
 abbrev IsNoMemory : {X : Type 0} → Result X ErrorOf → Type 0
 IsNoMemory (Ok x) = Unit {0}
@@ -164,23 +164,3 @@ read_from true strict reader (Some d) bytes table is = record {
 }
 
 -- ---- what holds of a table
-
-pub kept_both : {X : Type 0} (P Q : X → Type 0) (asked : Result X ErrorOf) → IfOk asked P
-    → IfOk asked Q → IfOk asked (λ x. P x × Q x)
-kept_both P Q (Ok x) h k = (h, k)
-kept_both P Q (Err e) h k = tt
-
--- it holds of the part that the table becomes
-pub becomes_kept : {X : Type 0} (P : X → Type 0) (strict : Bool) (asked : Result X ErrorOf)
-    (made : Result (Part X) ErrorOf) → IfOk asked P → BecomesPart strict asked made
-    → IfOk made (IfRead P)
-becomes_kept P strict (Ok x) made h is = rw is h
-becomes_kept P strict (Err (Memory m)) made h is = rw is tt
-becomes_kept P true (Err (Malformed c)) made h is = rw is tt
-becomes_kept P false (Err (Malformed c)) made h is = rw is tt
-becomes_kept P true (Err (BadMagic n)) made h is = rw is tt
-becomes_kept P false (Err (BadMagic n)) made h is = rw is tt
-becomes_kept P true (Err (BufferTooShort n w)) made h is = rw is tt
-becomes_kept P false (Err (BufferTooShort n w)) made h is = rw is tt
-becomes_kept P true (Err (Read f)) made h is = rw is tt
-becomes_kept P false (Err (Read f)) made h is = rw is tt

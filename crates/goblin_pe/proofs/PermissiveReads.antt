@@ -1,7 +1,7 @@
 -- What strict mode reads of tables and of whole files, permissive mode reads, too.
-use Rattle.std.proofs.Common.{◌≡◌, ◌==◌, ◌⊎◌, ◌∙◌, ℕ, Bool, true, false, cond, List, [], Option, Some}
-use Rattle.std.proofs.Common.{None, Result, ap, refl, sym, nat_eq, inl, inr, ◌∷◌, map}
-use Rattle.std.proofs.Common.{flat_map, option_map}
+use Rattle.std.proofs.Common.{◌≡◌, ℕ, Bool, true, false, cond, List, [], Option, Some}
+use Rattle.std.proofs.Common.{None, Result, ap, refl, sym, nat_eq, map}
+use Rattle.std.proofs.Common.{flat_map}
 use Rattle.goblin_base.specs.declared.error.ErrorOf.{ErrorOf}
 use Rattle.goblin_base.specs.declared.permissive.ParseMode.{ParseMode}
 use Rattle.goblin_base.specs.declared.permissive.ParseMode.TheVariants.{Permissive, Strict}
@@ -9,9 +9,9 @@ use Rattle.goblin_base.specs.Answers.{◌>>=◌}
 use Rattle.goblin_base.specs.Reading.{InModes, Reading, Reads, ReadsOrMemory, Repeats, RepeatsAs}
 use Rattle.goblin_base.specs.Tables.{Format}
 use Rattle.goblin_base.proofs.Kept.{Keeps}
-use Rattle.goblin_base.proofs.Steps.{mapped, same_value}
+use Rattle.goblin_base.proofs.Steps.{same_value}
 use Rattle.readings.specs.Reads as reads
-use Rattle.readings.specs.Reads.{given, in_its_place, pair_of}
+use Rattle.readings.specs.Reads.{given, in_its_place}
 use Rattle.readings.proofs.Modes.{as-beside, as-mapped, as-then, repeats-same}
 use Rattle.goblin_pe_sect.specs.declared.data_directories.DataDirectory.{DataDirectory}
 use Rattle.goblin_pe_sect.specs.declared.options.ParseOptions.{ParseOptions}
@@ -30,24 +30,17 @@ use Rattle.goblin_pe.specs.declared.whole.Part.TheVariants.{Absent, Refused}
 use Rattle.goblin_pe.specs.declared.whole.Part.TheVariants as part
 use Rattle.goblin_pe_export.specs.ExportReadings.{numbered_read}
 use Rattle.goblin_pe_import.specs.ImportEntries.{EntryValue}
-use Rattle.goblin_pe_import.specs.ImportReadings.{import_data, libraries_at, numbered_data, read_if}
+use Rattle.goblin_pe_import.specs.ImportReadings.{import_data, numbered_data, read_if}
 use Rattle.goblin_pe_import.specs.ImportReadings.{read_past_front}
-use Rattle.goblin_pe_import.specs.ImportRecords.{ImportedLibrary, NumberedLibrary}
+use Rattle.goblin_pe_import.specs.ImportRecords.{NumberedLibrary}
 use Rattle.goblin_pe_import.specs.Imports.{numbered_imports}
-use Rattle.goblin_pe_import.specs.TableSums.{amount_of}
-use Rattle.goblin_pe_import.specs.added.LeftOut.{libraries_of_directory}
-use Rattle.goblin_pe_import.proofs.ImportBound.{pair_of-left}
-use Rattle.goblin_pe_import.proofs.added.LeftOutLibraries.{front_has_none, none_made}
-use Rattle.goblin_pe_import.proofs.LibraryIndexes.{unnumbered}
 use Rattle.goblin_pe_import.proofs.PermissiveReads.{libraries_at-repeats, numbered_libraries_at-repeats}
-use Rattle.goblin_pe.specs.Damages.{imports_left_out_at, left_out_of}
 use Rattle.goblin_pe.specs.Modes.{ReadsInModes, in_mode, in_permissive_mode, is_front, unless_front}
-use Rattle.goblin_pe.specs.Whole.{IfRead, ListedParts, NumberedTables, TablePlaces, WholeFile, directory_at}
+use Rattle.goblin_pe.specs.Whole.{ListedParts, NumberedTables, TablePlaces, WholeFile, directory_at}
 use Rattle.goblin_pe.specs.Whole.{entry_format, export_part, imports_in, listed_tables, lists_of}
 use Rattle.goblin_pe.specs.Whole.{mapped_in, numbered_data_part, addressing_by, part_at, part_map, part_of}
 use Rattle.goblin_pe.specs.Whole.{places_in, relocation_part, section_table_offset, sections_after}
 use Rattle.goblin_pe.specs.Whole.{table_parts, whole_file, whole_in, whole_of, whole_with}
-use Rattle.goblin_pe.proofs.Parts.{read_from}
 
 -- ---- answers
 
@@ -107,38 +100,6 @@ repeats-numbered_data format addressing rva = record {
 
 -- ---- import data from which no library is left out
 
--- a list is not of the front, or has nothing, so that permissive mode has it, too
-abbrev IsUnhidden : {A : Type 0} → Option ℕ → List A → Type 0
-IsUnhidden place xs = (is_front place ≡ false) ⊎ (xs ≡ [])
-
-none_left : {A : Type 0} (front : Bool) (xs : List A) → xs ≡ [] → cond front [] xs ≡ xs
-none_left true xs none = sym none
-none_left false xs none = refl
-
-unhidden : {A : Type 0} (place : Option ℕ) (xs : List A) → IsUnhidden place xs
-    → unless_front place xs ≡ xs
-unhidden place xs (inl past) = rw past refl
-unhidden place xs (inr none) = none_left (is_front place) xs none
-
-at_place : (format : Format EntryValue) (addressing : Addressing) (bytes : List ℕ) (o : ℕ)
-    (xs : List ImportedLibrary) → (libraries_at true format addressing o).value bytes ≡ Some xs
-    → libraries_of_directory format addressing bytes o ≡ 0
-    → (front : Bool) → (o == 0) ≡ front → IsUnhidden (Some o) xs
-at_place format addressing bytes o xs is none false at = inl at
-at_place format addressing bytes o xs is none true at =
-    inr (none_made _ true bytes o xs (front_has_none format addressing bytes o at none) is)
-
-data_unhidden : (format : Format EntryValue) (addressing : Addressing) (bytes : List ℕ)
-    (place : Option ℕ) (xs : List ImportedLibrary)
-    → (in_its_place true 0 place
-    >>= λ o. (read_past_front true (libraries_at true format addressing) o).value bytes) ≡ Some xs
-    → amount_of (libraries_of_directory format addressing bytes) place ≡ 0 → IsUnhidden place xs
-data_unhidden format addressing bytes None xs is none = inl refl
-data_unhidden format addressing bytes (Some o) xs is none =
-    at_place format addressing bytes o xs is none (o == 0) refl
-
--- ---- parts
-
 -- what is known of a part that strict mode has
 record IsPart {A : Type 0} (value : Option A) (p : Part A) : Type 0 where
   table : A
@@ -174,11 +135,11 @@ unfolding file_offset
 map-mode mode opts sections alignment = refl
 
 -- where the import directory is, by a map of addresses to file offsets
-abbrev place_by : Addressing → Option DataDirectory → Option ℕ
+abbrev pub place_by : Addressing → Option DataDirectory → Option ℕ
 place_by addressing imports = imports >>= λ directory. addressing.offset directory.virtual_address
 
 module _ (format : Format EntryValue) (addressing : Addressing) (bytes : List ℕ) where
-  abbrev libraries_of : Bool → DataDirectory → Reading (List NumberedLibrary)
+  abbrev pub libraries_of : Bool → DataDirectory → Reading (List NumberedLibrary)
   libraries_of strict d = numbered_data strict format addressing d.virtual_address
 
   imports_read : (d : DataDirectory) (p : Part (List NumberedLibrary))
@@ -218,39 +179,6 @@ unless_made {A} {B} made none place (part.Read xs) =
 unless_made made none place Refused = refl
 
 -- ---- imports from which no library is left out
-
-part_unhidden : {A : Type 0} (place : Option ℕ) (p : Part (List A)) → IfRead (IsUnhidden place) p
-    → part_map (unless_front place) p ≡ p
-part_unhidden place Absent h = refl
-part_unhidden place (part.Read xs) h = ap part.Read (unhidden place xs h)
-part_unhidden place Refused h = refl
-
-unhidden_numbered : (place : Option ℕ) (xs : List NumberedLibrary)
-    → IsUnhidden place (map (λ x. x.library) xs) → IsUnhidden place xs
-unhidden_numbered place xs (inl past) = inl past
-unhidden_numbered place [] (inr none) = inr refl
-unhidden_numbered place (x ∷ xs) (inr none) = absurd cc
-
-module _ (format : Format EntryValue) (addressing : Addressing) (bytes : List ℕ) where
-  imports_unhidden : (asked : Bool) (imports : Option DataDirectory)
-      (p : Part (List NumberedLibrary))
-      → cond asked ((part_at true (libraries_of format addressing bytes true) imports).value bytes)
-      (Some Absent) ≡ Some p
-      → (imports_left_out_at format addressing bytes (cond asked imports None)).libraries ≡ 0
-      → IfRead (IsUnhidden (place_by addressing imports)) p
-  unfolding import_data
-  imports_unhidden asked imports Absent e none = tt
-  imports_unhidden asked imports (part.Read xs) e none =
-      let from = read_from asked true (libraries_of format addressing bytes true) imports bytes xs e in
-      let place = addressing.offset from.at.virtual_address in
-      let whole = unnumbered true format addressing bytes from.at.virtual_address
-      ∙ ap (option_map (map (λ x. x.library))) from.read in
-      rw from.is
-      (unhidden_numbered place xs
-      (data_unhidden format addressing bytes place _ whole (rw (from.is_asked, from.is) at none)))
-  imports_unhidden asked imports Refused e none = tt
-
--- ---- the tables
 
 module _ (opts : ParseOptions) (addressing : Addressing) (places : TablePlaces) where
   abbrev strictly : ParseOptions
@@ -298,20 +226,6 @@ module _ (opts : ParseOptions) (addressing : Addressing) (places : TablePlaces) 
         made,
         unless_made (map (λ x. x.import)) refl place (imports_in places.magic t.imports),
       ) refl
-
-  -- permissive mode has the same tables where strict mode has them, and no library is left out
-  pub tables_same : (bytes : List ℕ) → (left_out_of opts addressing places bytes).libraries ≡ 0
-      → (t : NumberedTables) → (table_parts strictly addressing places).value bytes ≡ Some t
-      → permissive_tables t ≡ t
-  unfolding table_parts numbered_data_part left_out_of
-  tables_same bytes none t is =
-      let m = mapped _ _ t is in
-      let imports = pair_of-left _ _ m.value.0 (pair_of-left _ _ m.value m.is) in
-      let same = part_unhidden place m.value.0.0
-      (imports_unhidden (entry_format places.magic) addressing bytes opts.parse_imports (directory_at places 1) m.value.0.0 imports none) in
-      ap permissive_tables (sym m.made)
-      ∙ ap (λ (i : Part (List NumberedLibrary)). record { imports = i; exports = m.value.0.1; relocations = m.value.1 }) same
-      ∙ m.made
 
 -- ---- a whole file
 

@@ -9,11 +9,6 @@ use Rattle.goblin_pe_sect.specs.SectionTable.{Section}
 use Rattle.goblin_pe_sect.specs.Addresses.{Addressing}
 use Rattle.goblin_pe_head.specs.HeaderReadings.{pe_header}
 use Rattle.goblin_pe_head.specs.PeHeader.{PeHeader}
-use Rattle.goblin_pe.specs.declared.whole.Part.{Part}
-use Rattle.goblin_pe.specs.declared.whole.Part.TheVariants.{Absent, Refused}
-use Rattle.goblin_pe.specs.declared.whole.Part.TheVariants as part
-use Rattle.goblin_pe.specs.declared.whole.layout.Layout.{Layout}
-use Rattle.goblin_pe.specs.Layouts.{layout_map, layout_places}
 use Rattle.goblin_pe.specs.Whole.{TablePlaces, mapped_in, addressing_by, places_in, sections_after}
 
 -- a reader of a table, from the options, the map of addresses and the places of the tables:
@@ -33,13 +28,3 @@ abbrev pub file_table : {A : Type 0} → TableReader A → ParseOptions → Read
 file_table read opts =
     let strict = is_strict opts.parse_mode in
     pe_header strict >>= λ h. sections_after strict h >>= table_with read opts h
-
--- a table of a layout
-abbrev pub layout_table : {A : Type 0} → TableReader A → Layout → Reading A
-layout_table read l = let m = layout_map l in read m.opts m.addressing (layout_places l)
-
--- what `f` makes of a table that was read, and a default if it was not
-abbrev pub read_or : {A B : Type 0} → B → (A → B) → Part A → B
-read_or default f Absent = default
-read_or default f (part.Read table) = f table
-read_or default f Refused = default

@@ -1,13 +1,6 @@
 pub mod Callers
-pub mod Checksums
-pub mod Damages
-pub mod DirectoryParts
-pub mod Keys
-pub mod LayoutCursors
-pub mod Layouts
 pub mod Modes
 pub mod TableRuns
-pub mod TakenMemory
 pub mod TwinParts
 pub mod Whole
 pub mod added
@@ -66,7 +59,10 @@ pub use Rattle.goblin_pe_import.specs.ImportLookup
 pub use Rattle.goblin_pe_import.specs.ImportReadings
 pub use Rattle.goblin_pe_import.specs.ImportRecords
 pub use Rattle.goblin_pe_import.specs.Imports
+pub use Rattle.goblin_pe_import.specs.KeptEntries
 pub use Rattle.goblin_pe_import.specs.LookupReadings
+pub use Rattle.goblin_pe_import.specs.Steps
+pub use Rattle.goblin_pe_import.specs.TableSums
 pub use Rattle.goblin_pe_export.specs.ExportReadings
 pub use Rattle.goblin_pe_export.specs.ExportRecords
 pub use Rattle.goblin_pe_export.specs.Exports

@@ -23,19 +23,15 @@
 //! [`reorder_whole_tables`] reads one file with two tables of sections. The order of sections
 //! changes nothing if their windows are disjoint.
 
-mod footprint;
 mod header;
-mod key;
 mod modes;
 mod order;
 mod parts;
 mod whole;
 
-pub use footprint::{footprint_whole, mark_whole};
 pub use goblin_pe_export::laws::{ExportRead, twin_exports};
 pub use goblin_pe_import::laws::{footprint_imports, twin_imports, twin_lookup};
 pub use header::twin_header;
-pub use key::FileKey;
 pub use modes::{mode_header, mode_tables, mode_whole};
 pub use order::{Request, Tables, TablesOf, reorder_whole_tables};
 pub use parts::{Parts, PartsOf, twin_parts};

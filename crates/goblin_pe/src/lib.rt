@@ -3,7 +3,6 @@
 #![tactic(auto)]
 
 pub mod added;
-mod image_checksum;
 pub mod laws;
 pub mod whole;
 pub mod write;
@@ -20,8 +19,4 @@ pub use goblin_pe_sect::{
     address_map, data_directories, options, relocation, section_table, table, utils, windows,
 };
 pub use goblin_pe_symbol::symbol;
-pub use image_checksum::{checksum, checksum_field, file_checksum};
-pub use whole::{
-    Damage, FileImports, Layout, Part, Places, Whole, section_records_of, section_table_offset,
-    sections_of, size_of_headers,
-};
+pub use whole::{Part, Places, Whole, section_table_offset, sections_of, size_of_headers};

@@ -23,20 +23,14 @@ use goblin_pe_sect::{ParseOptions, SectionTable};
 use std::alloc::Global;
 use std::marker::Model;
 
-mod damage;
-mod imports;
-mod layout;
-mod libraries;
 mod listed;
-mod places;
-mod reached;
+pub(crate) mod places;
+pub(crate) mod sections;
 
-pub use damage::Damage;
-pub use imports::FileImports;
-pub use layout::{Layout, section_records_of, section_table_offset, sections_of};
 use listed::{ListedTables, export_parts};
 use places::file_alignment;
 pub use places::{Places, size_of_headers};
+pub use sections::{section_table_offset, sections_of};
 
 /// A table of a file, as [`Whole::read`] found it.
 #[derive(Debug, Drop)]

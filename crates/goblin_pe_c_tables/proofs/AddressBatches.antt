@@ -11,7 +11,7 @@ use Rattle.goblin_pe_export.specs.declared.added.exports.Exports.{Exports}
 use Rattle.goblin_pe.specs.Addresses.{MapOfAddresses}
 use Rattle.goblin_pe.specs.ExportRecords.{ExportTables}
 use Rattle.goblin_pe.specs.added.ExportWalks.{walked_tables}
-use Rattle.goblin_pe.specs.Layouts.{address_part}
+use Rattle.goblin_pe.specs.added.Layouts.{address_part}
 use Rattle.goblin_pe.specs.Whole.{TablePlaces, part_map}
 use Rattle.goblin_pe.specs.declared.whole.Part.{Part}
 use Rattle.goblin_pe.specs.declared.whole.Part.TheVariants.{Absent, Refused}

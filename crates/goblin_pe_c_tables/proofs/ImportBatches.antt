@@ -8,16 +8,16 @@ use Rattle.goblin_pe.specs.Addresses.{MapOfAddresses}
 use Rattle.goblin_pe.specs.Imports.{NumberedImport}
 use Rattle.goblin_pe.specs.KeptEntries.{entries_from}
 use Rattle.goblin_pe.specs.added.ImportWalks.{imports_next, walked_value}
-use Rattle.goblin_pe.specs.LayoutCursors.{GivesFileWithin, IsImportWalk, IsImportWalkAt, file_ahead}
-use Rattle.goblin_pe.specs.LayoutCursors.{file_bytes, file_cursor, file_cursor_ahead, file_cursor_left}
+use Rattle.goblin_pe.specs.added.LayoutCursors.{GivesFileWithin, IsImportWalk, IsImportWalkAt, file_ahead}
+use Rattle.goblin_pe.specs.added.LayoutCursors.{file_bytes, file_cursor, file_cursor_ahead, file_cursor_left}
 use Rattle.goblin_pe.specs.TableSums.{amount_of}
 use Rattle.goblin_pe.specs.Steps.{AreCounted}
 use Rattle.goblin_pe.specs.added.StepsAhead.{AtSteps, HaveRunOut}
-use Rattle.goblin_pe.proofs.ImportStarts.{walk-ahead, walk-left}
-use Rattle.goblin_pe.specs.Layouts.{IsFileImportsCause, file_imports_left}
+use Rattle.goblin_pe.proofs.added.ImportStarts.{walk-ahead, walk-left}
+use Rattle.goblin_pe.specs.added.Layouts.{IsFileImportsCause, file_imports_left}
 use Rattle.goblin_pe.specs.Whole.{TablePlaces}
-use Rattle.goblin_pe.specs.declared.whole.imports.FileImports.{FileImports}
-use Rattle.goblin_pe.specs.declared.whole.imports.FileImports.TheVariants.{Narrow, Wide}
+use Rattle.goblin_pe.specs.declared.added.file_imports.FileImports.{FileImports}
+use Rattle.goblin_pe.specs.declared.added.file_imports.FileImports.TheVariants.{Narrow, Wide}
 use Rattle.goblin_pe_c_tables.specs.declared.import.PeImport.{PeImport}
 use Rattle.goblin_pe_c_tables.specs.declared.next.PeImportCursor.{PeImportCursor}
 use Rattle.goblin_pe_c_tables.specs.Batches.{Fills, GivesImports, GivesInFile, GoesOn, ImportBatch, cursor_numbers, cursor_said, import_cursor}

@@ -4,9 +4,9 @@ use Rattle.goblin_base.specs.declared.error.ErrorOf.{ErrorOf}
 use Rattle.goblin_base.specs.Answers.{FirstFault}
 use Rattle.goblin_base.specs.Reading.{IsRefused}
 use Rattle.goblin_pe_sect.specs.SectionTable.{Section}
-use Rattle.goblin_pe.specs.declared.whole.layout.Layout.{Layout}
+use Rattle.goblin_pe.specs.declared.added.layout.Layout.{Layout}
 use Rattle.goblin_pe.specs.Addresses.{MapOfAddresses}
-use Rattle.goblin_pe.specs.Layouts.{layout_bytes, layout_map, layout_places, layout_sections}
+use Rattle.goblin_pe.specs.added.Layouts.{layout_bytes, layout_map, layout_places, layout_sections}
 use Rattle.goblin_pe.specs.Whole.{TablePlaces}
 use Rattle.goblin_pe_c_headers.specs.declared.options.PeOptions.{PeOptions}
 use Rattle.goblin_pe_c_headers.specs.declared.places.PePlaces.{PePlaces}

@@ -12,10 +12,10 @@ use Rattle.goblin_pe_head.specs.CoffReadings.{sections_at}
 use Rattle.goblin_pe_head.specs.HeaderReadings.{pe_header, stub_at}
 use Rattle.goblin_pe_head.specs.PeHeader.{PeHeader}
 use Rattle.goblin_pe_head.specs.declared.optional_header.OptionalHeader.{OptionalHeader}
-use Rattle.goblin_pe.specs.Damages.{IsDamage, IsDamaged, IsSound, left_out_of}
+use Rattle.goblin_pe.specs.added.Damages.{IsDamage, IsDamaged, IsSound, left_out_of}
 use Rattle.goblin_pe.specs.Whole.{TablePlaces, layout, mapped_in, places_in, section_table_offset, sections_after}
-use Rattle.goblin_pe.specs.declared.whole.damage.Damage.{Damage}
-use Rattle.goblin_pe.proofs.SoundFiles.{sound_made}
+use Rattle.goblin_pe.specs.declared.added.damage.Damage.{Damage}
+use Rattle.goblin_pe.proofs.added.SoundFiles.{sound_made}
 use Rattle.goblin_pe_c_headers.specs.Options.{header_options, longest_of, options_at, view_of}
 use Rattle.goblin_pe_c_headers.specs.Places.{image_places, placed_sections}
 use Rattle.goblin_pe_c_headers.specs.declared.image.PeImage.{PeImage}

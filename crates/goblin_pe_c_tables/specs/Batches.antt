@@ -14,19 +14,19 @@ use Rattle.goblin_pe.specs.ExportRecords.{ExportTables}
 use Rattle.goblin_pe.specs.added.ExportWalks.{NumberedExport, exports_left, numbered_from}
 use Rattle.goblin_pe_export.specs.declared.added.exports.Exports.{Exports}
 use Rattle.goblin_pe.specs.Imports.{NumberedImport}
-use Rattle.goblin_pe.specs.LayoutCursors.{IsFileCursorCause, IsImportWalk, file_cursor_left}
-use Rattle.goblin_pe.specs.LayoutCursors.{file_ahead, file_cursor_ahead, import_begin}
+use Rattle.goblin_pe.specs.added.LayoutCursors.{IsFileCursorCause, IsImportWalk, file_cursor_left}
+use Rattle.goblin_pe.specs.added.LayoutCursors.{file_ahead, file_cursor_ahead, import_begin}
 use Rattle.goblin_pe.specs.TableSums.{amount_of}
 use Rattle.goblin_pe.specs.Reads.{given, pick}
-use Rattle.goblin_pe.specs.Layouts.{address_part, file_imports_left}
+use Rattle.goblin_pe.specs.added.Layouts.{address_part, file_imports_left}
 use Rattle.goblin_pe.specs.added.StepsAhead.{AtSteps}
 use Rattle.goblin_pe.specs.Whole.{TablePlaces, export_part, relocation_part}
 use Rattle.goblin_pe_sect.specs.Addresses.{Addressing}
 use Rattle.goblin_pe.specs.declared.whole.Part.{Part}
 use Rattle.goblin_pe.specs.declared.whole.Part.TheVariants.{Absent, Refused}
 use Rattle.goblin_pe.specs.declared.whole.Part.TheVariants as part
-use Rattle.goblin_pe.specs.declared.whole.imports.FileImports.{FileImports}
-use Rattle.goblin_pe.specs.declared.whole.imports.FileImports.TheVariants.{Narrow, Wide}
+use Rattle.goblin_pe.specs.declared.added.file_imports.FileImports.{FileImports}
+use Rattle.goblin_pe.specs.declared.added.file_imports.FileImports.TheVariants.{Narrow, Wide}
 use Rattle.goblin_pe_c_tables.specs.declared.block.PeRelocationBlock.{PeRelocationBlock}
 use Rattle.goblin_pe_c_tables.specs.declared.export.PeExport.{PeExport}
 use Rattle.goblin_pe_c_tables.specs.declared.export_directory.PeExportAddress.{PeExportAddress}

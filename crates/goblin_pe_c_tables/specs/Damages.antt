@@ -12,10 +12,10 @@ use Rattle.goblin_pe_head.specs.CoffReadings.{sections_at}
 use Rattle.goblin_pe_import.specs.added.ImportCursors.{before_record}
 use Rattle.goblin_pe_import.specs.TableSums.{amount_of}
 use Rattle.goblin_pe_import.specs.added.StepsAhead.{AtSteps}
-use Rattle.goblin_pe.specs.Damages.{AreDamaged, IsDamage, exports_left_out}
-use Rattle.goblin_pe.specs.LayoutCursors.{file_cursor_ahead}
+use Rattle.goblin_pe.specs.added.Damages.{AreDamaged, IsDamage, exports_left_out}
+use Rattle.goblin_pe.specs.added.LayoutCursors.{file_cursor_ahead}
 use Rattle.goblin_pe.specs.Whole.{TablePlaces, export_part}
-use Rattle.goblin_pe.specs.declared.whole.damage.Damage.{Damage}
+use Rattle.goblin_pe.specs.declared.added.damage.Damage.{Damage}
 use Rattle.goblin_pe_c_headers.specs.Faults.{fault, fault_of, image_fault, no_fault}
 use Rattle.goblin_pe_c_headers.specs.Places.{image_places, placed_sections}
 use Rattle.goblin_pe_c_headers.specs.declared.fault.PeFault.{PeFault}

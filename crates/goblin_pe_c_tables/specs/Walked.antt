@@ -15,9 +15,9 @@ use Rattle.goblin_pe_head.specs.HeaderReadings.{pe_header}
 use Rattle.goblin_pe_head.specs.PeHeader.{PeHeader}
 use Rattle.goblin_pe.specs.Addresses.{MapOfAddresses}
 use Rattle.goblin_pe_export.specs.added.ExportAddresses.{without_names}
-use Rattle.goblin_pe.specs.Layouts.{address_part}
+use Rattle.goblin_pe.specs.added.Layouts.{address_part}
 use Rattle.goblin_pe.specs.Modes.{in_mode}
-use Rattle.goblin_pe.specs.declared.whole.damage.Damage.{Damage}
+use Rattle.goblin_pe.specs.declared.added.damage.Damage.{Damage}
 use Rattle.goblin_pe.specs.declared.whole.Part.{Part}
 use Rattle.goblin_pe.specs.declared.whole.Part.TheVariants.{Absent, Refused}
 use Rattle.goblin_pe.specs.declared.whole.Part.TheVariants as part

@@ -4,7 +4,7 @@ ghost use Rattle.std.specs.Prelude.{◌≡◌, ◌≢◌, ◌-◌, IfErr, List, 
 ghost use Rattle.goblin_base.specs.declared.error.ErrorOf.{ErrorOf};
 ghost use Rattle.goblin_base.specs.Answers.{IsMemory};
 ghost use Rattle.goblin_pe.specs.Addresses.{MapOfAddresses};
-ghost use Rattle.goblin_pe.specs.Layouts.{layout_bytes, layout_map, layout_places};
+ghost use Rattle.goblin_pe.specs.added.Layouts.{layout_bytes, layout_map, layout_places};
 ghost use Rattle.goblin_pe.specs.Whole.{TablePlaces};
 ghost use Rattle.goblin_pe_c_tables.specs.Batches.{GivesRecords, WalksOver, at_room};
 ghost use Rattle.goblin_pe_c_tables.specs.Steps.{section_steps};
@@ -13,7 +13,8 @@ ghost use Rattle.goblin_pe_c_headers.specs.declared.batch.PeBatch.{PeBatch};
 
 use crate::places::layout_of;
 use crate::steps::section_steps;
-use goblin_pe::{Layout, ResultOf};
+use goblin_pe::ResultOf;
+use goblin_pe::added::Layout;
 use goblin_pe_c_headers::batch::{PeBatch, ended};
 use goblin_pe_c_headers::fault::{PeFault, fault_of, no_fault};
 use goblin_pe_c_headers::image::PeImage;

@@ -10,8 +10,9 @@ ghost use Rattle.goblin_pe_c_headers.specs.Onward.{IsRefusedNext};
 
 use crate::batch::{Batched, at_room};
 use crate::places::directory_offset;
+use goblin_pe::added::Layout;
 use goblin_pe::relocation::{RelocationBlock, RelocationData};
-use goblin_pe::{Layout, Part, ResultOf};
+use goblin_pe::{Part, ResultOf};
 use goblin_pe_c_headers::batch::{PeBatch, ended, goes_on};
 use goblin_pe_c_headers::cursor::PeBaseRelocationCursor;
 

@@ -2,8 +2,8 @@
 
 ghost use Rattle.std.specs.Prelude.{◌≡◌, ◌≤◌, None, false, length};
 ghost use Rattle.goblin_pe_sect.specs.Addresses.{reads_strictly};
-ghost use Rattle.goblin_pe.specs.Damages.{IsDamage};
-ghost use Rattle.goblin_pe.specs.Layouts.{layout_bytes, layout_map, layout_places};
+ghost use Rattle.goblin_pe.specs.added.Damages.{IsDamage};
+ghost use Rattle.goblin_pe.specs.added.Layouts.{layout_bytes, layout_map, layout_places};
 ghost use Rattle.goblin_pe_c_tables.specs.Damages.{AnswersDamage, AnswersRunsOut, DamageSteps, ImportSteps};
 ghost use Rattle.goblin_pe_c_tables.specs.Damages.{IsDamagedBy, ReadsDamage, all_imports, all_pointers};
 ghost use Rattle.goblin_pe_c_tables.specs.Damages.{damage_record, damage_refusal};
@@ -14,10 +14,10 @@ ghost use Rattle.goblin_pe_c_tables.specs.Walked.{SoundIsWalkedAlike};
 use crate::next::is_over;
 use crate::places::{directory_offset, layout_of};
 use crate::steps::{or_fault, section_steps, steps_fault};
-use goblin_pe::added::ImportCursor;
+use goblin_pe::added::{Damage, ImportCursor, Layout};
 use goblin_pe::header::{CoffHeader, DosStub};
 use goblin_pe::options::ParseOptions;
-use goblin_pe::{Damage, Error, Layout, Part, Result};
+use goblin_pe::{Error, Part, Result};
 use goblin_pe_c_headers::fault::{PeFault, fault_of, no_fault, out_of_steps, refused_image};
 use goblin_pe_c_headers::image::PeImage;
 use goblin_pe_c_headers::options::PeOptions;
@@ -109,7 +109,7 @@ fn damage_record(damage: &Damage) -> PeDamage
 }
 
 // Why strict mode refuses the section names of an image with these bytes, if it does.
-#[tactic(auto, using(goblin_pe::proofs::SectionNames::damage_made))]
+#[tactic(auto, using(goblin_pe::proofs::added::SectionNames::damage_made))]
 fn name_damage(bytes: &[u8], image: &PeImage) -> Option<Error>
     ensures { IsDamage (image_names image.now) bytes.now result }
 {

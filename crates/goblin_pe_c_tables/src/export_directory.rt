@@ -5,7 +5,7 @@ ghost use Rattle.std.specs.Prelude.{slice_get};
 ghost use Rattle.goblin_pe_sect.specs.Addresses.{map_of};
 ghost use Rattle.goblin_pe_export.specs.ExportRecords.{rva_of};
 ghost use Rattle.goblin_pe_export.specs.added.ExportWalks.{walked_tables};
-ghost use Rattle.goblin_pe.specs.Layouts.{layout_bytes, layout_map, layout_places};
+ghost use Rattle.goblin_pe.specs.added.Layouts.{layout_bytes, layout_map, layout_places};
 ghost use Rattle.goblin_pe_c_tables.specs.Batches.{AddressBatch, GivesAddresses, GivesBatch};
 ghost use Rattle.goblin_pe_c_tables.specs.Batches.{IsAddressBatchFault, IsAddressesFault, SaysDirectory};
 ghost use Rattle.goblin_pe_c_headers.specs.Onward.{GivesOnward};
@@ -15,9 +15,9 @@ ghost use Rattle.goblin_pe_c_tables.specs.ExportDirectories.{is_forwarder, no_ex
 
 use crate::batch::{Batched, at_room};
 use crate::places::layout_of;
-use goblin_pe::added::Exports;
+use goblin_pe::added::{Exports, Layout};
 use goblin_pe::export::{ExportAddressTableEntry, ExportDirectoryTable};
-use goblin_pe::{Layout, Part, Result, ResultOf};
+use goblin_pe::{Part, Result, ResultOf};
 use goblin_pe_c_headers::batch::PeBatch;
 use goblin_pe_c_headers::image::PeImage;
 use goblin_pe_c_headers::onward::fill_onward;

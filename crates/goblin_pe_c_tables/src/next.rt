@@ -4,12 +4,12 @@ ghost use Rattle.std.specs.Prelude.{◌≡◌, ◌⊎◌, ◌+◌, ◌<◌, ◌�
 ghost use Rattle.std.specs.Prelude.{◌-◌, length, max, min};
 ghost use Rattle.goblin_base.specs.Answers.{IsMemory};
 ghost use Rattle.goblin_base.specs.Reading.{Reads};
-ghost use Rattle.goblin_pe.specs.LayoutCursors.{file_ahead};
+ghost use Rattle.goblin_pe.specs.added.LayoutCursors.{file_ahead};
 ghost use Rattle.goblin_pe_export.specs.added.ExportWalks.{KeepsOver, exports_left};
 ghost use Rattle.goblin_pe_export.specs.added.ExportWalks.{exports_position};
 ghost use Rattle.goblin_pe_export.specs.added.ExportWalks.{pointer_count};
-ghost use Rattle.goblin_pe.specs.Layouts.{IsFileImportsCause, file_imports_left, layout_map};
-ghost use Rattle.goblin_pe.specs.Layouts.{layout_bytes, layout_places};
+ghost use Rattle.goblin_pe.specs.added.Layouts.{IsFileImportsCause, file_imports_left, layout_map};
+ghost use Rattle.goblin_pe.specs.added.Layouts.{layout_bytes, layout_places};
 ghost use Rattle.goblin_pe_c_tables.specs.Batches.{ExportWalkBatch, Fills, GivesExports, GivesImports};
 ghost use Rattle.goblin_pe_c_tables.specs.Batches.{GivesInFile, GoesOn, ImportBatch, export_walk};
 ghost use Rattle.goblin_pe_c_tables.specs.Batches.{IsExportBatchFault, IsImportsFault};
@@ -22,9 +22,9 @@ use crate::batch::{Batched, at_room};
 use crate::export::{PeExport, plain_record, put_export};
 use crate::import::{PeImport, put_import};
 use goblin_base::answer_for;
-use goblin_pe::added::{Exports, ImportCursor, Imports};
+use goblin_pe::added::{Exports, FileImports, ImportCursor, Imports, Layout};
 use goblin_pe::import::Bitfield;
-use goblin_pe::{FileImports, Layout, Part, Result, ResultOf};
+use goblin_pe::{Part, Result, ResultOf};
 use goblin_pe_c_headers::batch::{PeBatch, goes_on};
 
 /// Where a walk over imports or libraries is. Zeros begin it. The other numbers are internal: copy

@@ -17,12 +17,12 @@ ghost use Rattle.goblin_pe_c_tables.specs.PartialImages.{sections_of};
 ghost use Rattle.goblin_pe_c_tables.specs.PartialImages.{partial_image, stub_size, table_there};
 
 use crate::read::rich_record;
-use goblin_pe::added::{HeaderParts, unnamed_records};
+use goblin_pe::added::{HeaderParts, section_records_of, unnamed_records};
 use goblin_pe::header::{CoffHeader, DosHeader, DosStub, Header, RichHeader};
 use goblin_pe::optional_header::{OptionalHeader, StandardFields, WindowsFields};
 use goblin_pe::options::ParseOptions;
 use goblin_pe::section_table::SectionRecords;
-use goblin_pe::{Places, Result, section_records_of};
+use goblin_pe::{Places, Result};
 use goblin_pe_c_headers::fault::{PeFault, fault_of, no_fault};
 use goblin_pe_c_headers::headers::{PeOptionalHeader, fill_optional};
 use goblin_pe_c_headers::image::PeImage;

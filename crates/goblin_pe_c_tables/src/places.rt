@@ -4,14 +4,16 @@
 ghost use Rattle.std.specs.Prelude.{◌≡◌, ◌<◌, IfErr, IfOk};
 ghost use Rattle.goblin_base.specs.Answers.{IsMemory};
 ghost use Rattle.goblin_base.specs.Reading.{ReadsOrMemory};
-ghost use Rattle.goblin_pe.specs.Layouts.{layout_bytes, layout_map, layout_places, layout_sections};
+ghost use Rattle.goblin_pe.specs.added.Layouts.{layout_bytes, layout_map, layout_places};
+ghost use Rattle.goblin_pe.specs.added.Layouts.{layout_sections};
 ghost use Rattle.goblin_pe.specs.Whole.{table_places};
 ghost use Rattle.goblin_pe_c_tables.specs.Places.{TakesIndexAt, directory_offset, map_at};
 ghost use Rattle.goblin_pe_c_headers.specs.Places.{image_places, placed_sections};
 ghost use Rattle.goblin_pe_c_tables.specs.Places.{places_said};
 
+use goblin_pe::added::Layout;
 use goblin_pe::address_map::MappedRecords;
-use goblin_pe::{Layout, Places, ResultOf};
+use goblin_pe::{Places, ResultOf};
 use goblin_pe_c_headers::image::{PeImage, places_of};
 use goblin_pe_c_headers::options::{PeOptions, longest_of, options_at, view_of};
 use goblin_pe_c_headers::places::{PePlaces, section_records};

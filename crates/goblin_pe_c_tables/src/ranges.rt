@@ -7,7 +7,7 @@ ghost use Rattle.goblin_pe.specs.Whole.{whole_in};
 ghost use Rattle.goblin_pe_c_tables.specs.Footprints.{Lists, range_record_of};
 ghost use Rattle.goblin_pe_c_tables.specs.Walked.{WalksGive, walked_in};
 
-use goblin_pe::laws::mark_whole;
+use goblin_pe::added::mark_whole;
 use goblin_pe::options::{ParseOptions, View};
 use goblin_pe::{Result, ResultOf};
 use goblin_pe_c_headers::options::{PeOptions, options_in, view_of};

@@ -10,8 +10,9 @@ ghost use Rattle.goblin_pe_c_headers.specs.Options.{header_options};
 ghost use Rattle.goblin_pe_c_headers.specs.RichHeaders.{rich_of};
 ghost use Rattle.goblin_pe_c_tables.specs.ReadImages.{ImageLeadsBack, ImageRowsAreRead, image_of};
 
+use goblin_pe::added::section_records_of;
 use goblin_pe::header::{DOS_STUB_OFFSET, Header, RichHeader};
-use goblin_pe::{Places, Result, section_records_of, section_table_offset};
+use goblin_pe::{Places, Result, section_table_offset};
 use goblin_pe_c_headers::headers::fill_optional;
 use goblin_pe_c_headers::image::{PeImage, PeRichHeader};
 use goblin_pe_c_headers::kind::Kind;

@@ -6,7 +6,8 @@ use Rattle.std.specs.Str.{bytes_eq}
 use Rattle.goblin_pe.specs.declared.error.ErrorOf.{ErrorOf}
 use Rattle.goblin_pe.specs.declared.optional_header.OptionalHeader.{OptionalHeader}
 use Rattle.goblin_pe.specs.declared.options.ParseOptions.{ParseOptions}
-use Rattle.goblin_pe.specs.Callers.{file_table, read_or}
+use Rattle.goblin_pe.specs.Callers.{file_table}
+use Rattle.goblin_pe.specs.added.LayoutTables.{read_or}
 use Rattle.goblin_pe.specs.ErrorText.{error_text}
 use Rattle.goblin_pe.specs.ExportRecords.{ExportRow, ExportTables, NumberedExport}
 use Rattle.goblin_pe.specs.Imports.{NumberedImport}

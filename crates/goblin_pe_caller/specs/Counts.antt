@@ -6,7 +6,7 @@ use Rattle.goblin_pe.specs.declared.export.ExportAddressTableEntry.TheVariants.{
 use Rattle.goblin_pe.specs.declared.export.ExportAddressTableEntry.TheVariants.{ForwarderRVA}
 use Rattle.goblin_pe.specs.declared.options.ParseMode.TheVariants.{Permissive}
 use Rattle.goblin_pe.specs.declared.options.ParseOptions.{ParseOptions}
-use Rattle.goblin_pe.specs.Callers.{read_or}
+use Rattle.goblin_pe.specs.added.LayoutTables.{read_or}
 use Rattle.goblin_pe.specs.Options.{default_options}
 use Rattle.goblin_pe.specs.Reading.{Reading}
 use Rattle.goblin_pe.specs.Reads.{mapped}

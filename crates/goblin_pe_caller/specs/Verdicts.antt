@@ -1,7 +1,7 @@
 -- Verdicts that are kept.
 use Rattle.std.specs.Prelude.{◌≡◌, ℕ, List}
 use Rattle.std.specs.Option.{is_some}
-use Rattle.goblin_pe.specs.Keys.{IsKeyOf}
+use Rattle.goblin_pe.specs.added.Keys.{IsKeyOf}
 use Rattle.goblin_pe.specs.Options.{default_options}
 use Rattle.goblin_pe.specs.Whole.{whole_file}
 use Rattle.goblin_pe_caller.specs.declared.verdict.Verdict.{Verdict}

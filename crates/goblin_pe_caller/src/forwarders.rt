@@ -2,21 +2,21 @@
 
 ghost use Rattle.std.specs.Prelude.{◌≡◌, IfErr, IsSomeAnd, count_by};
 ghost use Rattle.goblin_pe.specs.Answers.{IsMemory};
-ghost use Rattle.goblin_pe.specs.Callers.{layout_table, read_or};
-ghost use Rattle.goblin_pe.specs.Layouts.{layout_bytes};
+ghost use Rattle.goblin_pe.specs.added.LayoutTables.{layout_table, read_or};
+ghost use Rattle.goblin_pe.specs.added.Layouts.{layout_bytes};
 ghost use Rattle.goblin_pe.specs.added.ExportWalks.{exports_left};
 ghost use Rattle.goblin_pe.specs.HeaderReadings.{pe_header};
 ghost use Rattle.goblin_pe.specs.Options.{is_strict};
 ghost use Rattle.goblin_pe.specs.Reading.{Reads, ReadsOrMemory};
 ghost use Rattle.goblin_pe.specs.Reads.{mapped};
-ghost use Rattle.goblin_pe.specs.TakenMemory.{TakesIndex};
+ghost use Rattle.goblin_pe.specs.added.TakenMemory.{TakesIndex};
 ghost use Rattle.goblin_pe.specs.Whole.{export_part};
 ghost use Rattle.goblin_pe_caller.specs.Audits.{forwarder_count, forwarders, is_forwarder};
 
-use goblin_pe::added::Exports;
+use goblin_pe::added::{Exports, Layout};
 use goblin_pe::header::Header;
 use goblin_pe::options::ParseOptions;
-use goblin_pe::{Layout, Part, Result};
+use goblin_pe::{Part, Result};
 use std::alloc::Global;
 
 /// How many exports of a file are forwarders. The count is 0 if the exports are absent or refused.

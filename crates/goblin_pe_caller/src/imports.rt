@@ -2,19 +2,21 @@
 
 ghost use Rattle.std.specs.Prelude.{IfErr, IsSomeAnd, false, option_map, true};
 ghost use Rattle.goblin_pe.specs.Answers.{Answers, IsMemory, all_of};
-ghost use Rattle.goblin_pe.specs.Callers.{layout_table, read_or};
+ghost use Rattle.goblin_pe.specs.added.LayoutTables.{layout_table, read_or};
 ghost use Rattle.goblin_pe.specs.HeaderReadings.{pe_header};
-ghost use Rattle.goblin_pe.specs.Layouts.{IsFileImportsCause, file_imports_left, layout_bytes};
+ghost use Rattle.goblin_pe.specs.added.Layouts.{IsFileImportsCause, file_imports_left};
+ghost use Rattle.goblin_pe.specs.added.Layouts.{layout_bytes};
 ghost use Rattle.goblin_pe.specs.Reading.{Reads, ReadsOrMemory};
 ghost use Rattle.goblin_pe.specs.Reads.{mapped};
-ghost use Rattle.goblin_pe.specs.TakenMemory.{TakesIndex};
+ghost use Rattle.goblin_pe.specs.added.TakenMemory.{TakesIndex};
 ghost use Rattle.goblin_pe.specs.added.Questions.{counted, has_any};
 ghost use Rattle.goblin_pe.specs.Whole.{import_list};
 ghost use Rattle.goblin_pe_caller.specs.Audits.{imports_from, is_from};
 
+use goblin_pe::added::{FileImports, Layout};
 use goblin_pe::header::Header;
 use goblin_pe::options::ParseOptions;
-use goblin_pe::{FileImports, Layout, Part, Result, ResultOf};
+use goblin_pe::{Part, Result, ResultOf};
 use std::alloc::Global;
 
 /// Whether a file, read in strict mode, imports something from the library of this name. The case

@@ -8,7 +8,7 @@ ghost use Rattle.goblin_pe.specs.Answers.{IsSliceFault, Writes};
 ghost use Rattle.goblin_pe.specs.BaseRelocations.{block_items, relocation_bytes, word_items};
 ghost use Rattle.goblin_pe.specs.CoffHeader.{coff_fields, coff_header};
 ghost use Rattle.goblin_pe.specs.DataDirectories.{present_from};
-ghost use Rattle.goblin_pe.specs.Callers.{read_or};
+ghost use Rattle.goblin_pe.specs.added.LayoutTables.{read_or};
 ghost use Rattle.goblin_pe.specs.Mapping.{file_offset};
 ghost use Rattle.goblin_pe.specs.Options.{default_options};
 ghost use Rattle.goblin_pe.specs.Reading.{Reads, ReadsOrMemory};

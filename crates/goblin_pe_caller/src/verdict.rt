@@ -11,7 +11,7 @@ ghost use Rattle.goblin_pe_caller.specs.Verdicts.{IsVerdictOn};
 
 use crate::report::refusal;
 use goblin_pe::Result;
-use goblin_pe::laws::FileKey;
+use goblin_pe::added::FileKey;
 use goblin_pe::options::ParseOptions;
 use std::alloc::Global;
 

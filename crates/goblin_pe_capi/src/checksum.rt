@@ -1,10 +1,10 @@
 //! The call that computes the checksum of an image.
 
 ghost use Rattle.std.specs.Prelude.{◌+◌, None, Some, if◌then◌else◌};
-ghost use Rattle.goblin_pe.specs.Checksums.{image_checksum};
+ghost use Rattle.goblin_pe.specs.added.Checksums.{image_checksum};
 ghost use Rattle.goblin_pe_c_headers.specs.Found.{Puts};
 
-use goblin_pe::checksum;
+use goblin_pe::added::checksum;
 use goblin_pe_c_headers::image::PeImage;
 
 /// Computes the checksum of `image.bytes`, for `optional_header.windows_fields.check_sum`. Windows

@@ -1,3 +1,3 @@
+pub mod ExportAddresses
 pub mod ExportWalks
 pub mod LeftOutExports
-pub mod ExportAddresses

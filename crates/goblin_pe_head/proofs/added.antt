@@ -1,3 +1,3 @@
-pub mod WholeParts
 pub mod HeaderRanges
 pub mod SectionsThere
+pub mod WholeParts

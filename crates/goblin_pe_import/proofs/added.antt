@@ -1,10 +1,10 @@
-pub mod StepsAhead
-pub mod LeftOutLibraries
-pub mod PlainEntries
+pub mod ImportCursors
 pub mod ImportFaults
 pub mod ImportSteps
-pub mod ImportCursors
-pub mod ImportsWalk
 pub mod ImportsValue
+pub mod ImportsWalk
+pub mod LeftOutLibraries
 pub mod LibrariesWalk
+pub mod PlainEntries
 pub mod SlotSums
+pub mod StepsAhead

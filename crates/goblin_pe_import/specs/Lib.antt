@@ -4,8 +4,8 @@ pub mod ImportLookup
 pub mod ImportReadings
 pub mod ImportRecords
 pub mod Imports
-pub mod LookupReadings
-pub mod added
-pub mod TableSums
 pub mod KeptEntries
+pub mod LookupReadings
 pub mod Steps
+pub mod TableSums
+pub mod added

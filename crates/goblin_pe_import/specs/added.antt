@@ -1,5 +1,5 @@
+pub mod ImportCursors
 pub mod ImportWalks
-pub mod StepsAhead
 pub mod LeftOut
 pub mod Libraries
-pub mod ImportCursors
+pub mod StepsAhead

@@ -1,12 +1,12 @@
 //! How much there is of what a call read, as a number that tells it from other answers.
 
 use goblin_base::{ErrorOf, ResultOf, Strtab};
+use goblin_pe::added::{Damage, Layout};
 use goblin_pe::export::{Export, ExportData};
 use goblin_pe::import::{Import, ImportData, SyntheticImportDirectoryEntry};
 use goblin_pe::laws::{PartsOf, TablesOf};
 use goblin_pe::table::Table;
-use goblin_pe::whole::Damage;
-use goblin_pe::{Layout, Part, Whole};
+use goblin_pe::{Part, Whole};
 use goblin_pe_sect::{SectionTable, WindowIndex};
 use std::alloc::Global;
 use std::borrow::CowSlice;

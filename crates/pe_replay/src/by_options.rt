@@ -4,13 +4,13 @@ use crate::answer::show_answer;
 use crate::sample::{LIBRARY, counting, no_exports};
 use crate::{laws, refused};
 use fixture::sample::{ALIGNMENT, EXPORTS, IMPORTS, LOOKUP, TABLE, TABLE_END, section};
-use goblin_pe::added::{footprint_exports, footprint_header};
+use goblin_pe::added::{FileKey, Layout, footprint_exports, footprint_header, footprint_whole};
 use goblin_pe::export::{Export, ExportData};
 use goblin_pe::import::{
     ImportData, SyntheticImportDirectoryEntry as Library, SyntheticImportLookupTableEntry as Lookup,
 };
-use goblin_pe::laws::{FileKey, footprint_imports, footprint_whole};
-use goblin_pe::{Layout, Places, Whole};
+use goblin_pe::laws::footprint_imports;
+use goblin_pe::{Places, Whole};
 use goblin_pe_export::laws::read_exports;
 use goblin_pe_head::Header;
 use goblin_pe_sect::address_map::MappedRecords;

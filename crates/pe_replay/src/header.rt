@@ -4,7 +4,7 @@ ghost use Rattle.std.specs.Prelude.{◌≤◌, IfOk, length};
 
 use crate::refused;
 use goblin_base::Endian;
-use goblin_pe::laws::footprint_whole;
+use goblin_pe::added::footprint_whole;
 use goblin_pe_head::Header;
 use goblin_pe_sect::ParseOptions;
 use std::io;

@@ -3,11 +3,11 @@
 use fixture::sample::{
     ALIGNMENT, EXPORTS, IMPORTS, LOOKUP, SAMPLE_LEN, directory, sample, sample_section,
 };
-use goblin_pe::added::{footprint_exports, footprint_header};
+use goblin_pe::added::{footprint_exports, footprint_header, footprint_whole};
 use goblin_pe::import::ImportDirectoryEntry;
 use goblin_pe::laws::{
-    PartsOf, footprint_imports, footprint_whole, twin_exports, twin_header, twin_imports,
-    twin_lookup, twin_parts, twin_whole,
+    PartsOf, footprint_imports, twin_exports, twin_header, twin_imports, twin_lookup, twin_parts,
+    twin_whole,
 };
 use goblin_pe_head::CoffHeader;
 use goblin_pe_sect::ParseOptions;

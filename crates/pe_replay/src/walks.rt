@@ -3,8 +3,8 @@
 use crate::refused;
 use fixture::sample::in_mode;
 use goblin_base::{Error, ErrorOf, ParseMode};
-use goblin_pe::added::Exports;
-use goblin_pe::{FileImports, Layout, Part, Whole};
+use goblin_pe::added::{Exports, FileImports, Layout};
+use goblin_pe::{Part, Whole};
 use goblin_pe_head::Header;
 use goblin_pe_sect::ParseOptions;
 use std::io;

@@ -156,7 +156,7 @@ impl Places {
     }
 
     // All tables, with addresses mapped by this index of the sections.
-    pub(super) fn listed<'a>(
+    pub(crate) fn listed<'a>(
         &self,
         alloc: Global,
         bytes: &'a [u8],
@@ -186,15 +186,15 @@ impl Places {
 }
 
 // Import data, and the imports made from it.
-pub(super) type ImportRead<'a> = (Part<ImportData<'a>>, Part<Vec<Import<'a>>>);
+pub(crate) type ImportRead<'a> = (Part<ImportData<'a>>, Part<Vec<Import<'a>>>);
 
 // Export data, and the exports that it lists.
-pub(super) type ExportRead<'a> = (ExportData<'a>, Vec<Export<'a>>);
+pub(crate) type ExportRead<'a> = (ExportData<'a>, Vec<Export<'a>>);
 
-pub(super) struct ListedTables<'a> {
-    pub(super) imports: ImportRead<'a>,
-    pub(super) exports: Part<ExportRead<'a>>,
-    pub(super) relocations: Part<RelocationData<'a>>,
+pub(crate) struct ListedTables<'a> {
+    pub(crate) imports: ImportRead<'a>,
+    pub(crate) exports: Part<ExportRead<'a>>,
+    pub(crate) relocations: Part<RelocationData<'a>>,
 }
 
 // The export data of a directory, and the exports that it lists.
@@ -214,7 +214,7 @@ fn exports_of<'a>(
 }
 
 // Export data and the exports that it lists, each as a part of its own.
-pub(super) fn export_parts<'a>(
+pub(crate) fn export_parts<'a>(
     read: Part<ExportRead<'a>>,
 ) -> (Part<ExportData<'a>>, Part<Vec<Export<'a>>>)
     ensures data { result.0 ≡ part_map (λ x. x.0) (part_map export_read_view read.entry) }

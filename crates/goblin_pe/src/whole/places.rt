@@ -20,7 +20,7 @@ use goblin_pe_sect::{DataDirectory, ParseOptions};
 
 // A table that was asked for, as a part. Permissive mode passes over every refusal except
 // `Error::Memory`.
-pub(super) fn part_of<'e, T: Drop>(
+pub(crate) fn part_of<'e, T: Drop>(
     table: ResultOf<'e, T>,
     opts: &ParseOptions,
 ) -> ResultOf<'e, Part<T>>
@@ -34,13 +34,13 @@ pub(super) fn part_of<'e, T: Drop>(
 }
 
 // The index of the export directory.
-pub(super) const EXPORT_TABLE: usize = 0;
+pub(crate) const EXPORT_TABLE: usize = 0;
 
 // The index of the import directory.
-pub(super) const IMPORT_TABLE: usize = 1;
+pub(crate) const IMPORT_TABLE: usize = 1;
 
 // The index of the directory of base relocations.
-pub(super) const BASE_RELOCATION_TABLE: usize = 5;
+pub(crate) const BASE_RELOCATION_TABLE: usize = 5;
 
 /// Where the tables of a file lie, and how they are read.
 ///
@@ -92,7 +92,7 @@ pub fn size_of_headers(header: &Option<OptionalHeader>) -> u32
 
 // The file alignment of the sections' raw data in bytes, from an optional header; 0 without one.
 #[tactic(auto, unfolding(crate::specs::Whole::places_in))]
-pub(super) fn file_alignment(header: &Option<OptionalHeader>) -> u32
+pub(crate) fn file_alignment(header: &Option<OptionalHeader>) -> u32
     ensures { result ≡ (places_in header.now).file_alignment }
 {
     match header {
@@ -135,7 +135,7 @@ impl Places {
     }
 
     // Whether the magic says that entries of the import tables have four bytes, not eight.
-    pub(super) fn has_narrow_entries(&self) -> bool
+    pub(crate) fn has_narrow_entries(&self) -> bool
         ensures { result ≡ (self.now.magic == 0x10B) }
     {
         self.magic == MAGIC_32
@@ -143,7 +143,7 @@ impl Places {
 
     // The base relocations, as a part.
     #[tactic(auto, unfolding(crate::specs::Whole::relocation_part))]
-    pub(super) fn relocations<'a>(
+    pub(crate) fn relocations<'a>(
         &self,
         bytes: &'a [u8],
         address_map: &AddressMap,

@@ -1,9 +1,10 @@
 //! The bytes of a data directory, by its index and in both views.
 
 use fixture::sample::{put, sample};
+use goblin_pe::added::Layout;
 use goblin_pe::header::Header;
 use goblin_pe::options::ParseOptions;
-use goblin_pe::{Cause, Error, Layout, Part};
+use goblin_pe::{Cause, Error, Part};
 use std::alloc::Global;
 
 /// Whether the import directory has its bytes: a record, and the one that ends it.

@@ -7,10 +7,9 @@ use fixture::sample::{
     sample_section, sample_with,
 };
 use goblin_base::{ParseMode, ResultOf};
-use goblin_pe::added::{footprint_exports, footprint_header};
+use goblin_pe::added::{footprint_exports, footprint_header, footprint_whole};
 use goblin_pe::laws::{
-    footprint_imports, footprint_whole, twin_exports, twin_header, twin_imports, twin_lookup,
-    twin_whole,
+    footprint_imports, twin_exports, twin_header, twin_imports, twin_lookup, twin_whole,
 };
 use goblin_pe_sect::ParseOptions;
 use std::alloc::Global;

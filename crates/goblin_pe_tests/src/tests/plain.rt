@@ -1,11 +1,11 @@
 //! The plain steps of walks give what is plain, which their contracts leave open.
 
 use fixture::sample::{put, sample};
-use goblin_pe::added::{Exports, Imports, WalkedImport};
+use goblin_pe::Part;
+use goblin_pe::added::{Exports, FileImports, Imports, Layout, WalkedImport};
 use goblin_pe::header::Header;
 use goblin_pe::import::SyntheticImportLookupTableEntry;
 use goblin_pe::options::ParseOptions;
-use goblin_pe::{FileImports, Layout, Part};
 use std::alloc::Global;
 
 /// Whether an import is by the name `Go`, where `is_named`; else by the ordinal 7.

@@ -1,7 +1,7 @@
 use Rattle.std.proofs.Common.{◌≡◌, ℕ, Ok, Option, Some, None, IsSomeAnd, ap, inl, true}
 use Rattle.std.proofs.lemmas.Result.{err_from_is_err_and}
 use Rattle.goblin_pe_sect.specs.Addresses.{reads_strictly}
-use Rattle.goblin_pe.specs.declared.whole.damage.Damage.{Damage}
+use Rattle.goblin_pe.specs.declared.added.damage.Damage.{Damage}
 use Rattle.goblin_pe_c_headers.specs.Places.{image_places, placed_sections}
 use Rattle.goblin_pe_c_headers.specs.declared.image.PeImage.{PeImage}
 use Rattle.goblin_pe_c_headers.specs.declared.options.PeOptions.{PeOptions}

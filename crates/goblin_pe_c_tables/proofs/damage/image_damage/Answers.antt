@@ -1,8 +1,8 @@
 use Rattle.std.proofs.Common.{Option, subst, sym}
 use Rattle.goblin_base.specs.declared.error.ErrorOf.{ErrorOf}
 use Rattle.goblin_pe_head.specs.HeaderReadings.{stub_at}
-use Rattle.goblin_pe.specs.Damages.{IsDamage}
-use Rattle.goblin_pe.proofs.SectionNames.{damage_read}
+use Rattle.goblin_pe.specs.added.Damages.{IsDamage}
+use Rattle.goblin_pe.proofs.added.SectionNames.{damage_read}
 use Rattle.goblin_pe_c_tables.proofs.damage.image_damage.Goals as goal
 
 pub returns : goal.returns

@@ -1,6 +1,6 @@
 use Rattle.std.proofs.Common.{refl}
 use Rattle.std.proofs.lemmas.Result.{err_from_is_err_and}
-use Rattle.goblin_pe.specs.Layouts.{address_part, layout_bytes, layout_map, layout_places}
+use Rattle.goblin_pe.specs.added.Layouts.{address_part, layout_bytes, layout_map, layout_places}
 use Rattle.goblin_pe_c_tables.specs.Batches.{IsAddressesFault, SaysDirectory}
 use Rattle.goblin_pe_c_tables.specs.ExportDirectories.{directory_view}
 use Rattle.goblin_pe_c_headers.specs.Places.{image_places}

@@ -1,7 +1,7 @@
 -- The records hold the libraries that have come so far.
 use Rattle.std.proofs.Common.{◌≡◌, ◌-◌, length}
 use Rattle.goblin_pe_sect.specs.Addresses.{map_of}
-use Rattle.goblin_pe.specs.Layouts.{layout_map, layout_places}
+use Rattle.goblin_pe.specs.added.Layouts.{layout_map, layout_places}
 use Rattle.goblin_pe_c_tables.proofs.LibraryBatches.{AtLibraries}
 use Rattle.goblin_pe_c_tables.proofs.library.fill_libraries.Given as goal
 

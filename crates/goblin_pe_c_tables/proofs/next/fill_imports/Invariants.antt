@@ -1,6 +1,6 @@
 -- The records hold the imports that have come so far.
 use Rattle.std.proofs.Common.{◌-◌, length}
-use Rattle.goblin_pe.specs.Layouts.{layout_map, layout_places}
+use Rattle.goblin_pe.specs.added.Layouts.{layout_map, layout_places}
 use Rattle.goblin_pe_c_tables.proofs.ImportBatches.{AtImports}
 use Rattle.goblin_pe_c_tables.proofs.next.fill_imports.Given as goal
 

@@ -1,7 +1,7 @@
 use Rattle.std.proofs.Common.{◌∙◌, ℕ, List, Option, Some, ap, arith, length, unwrap_or}
 use Rattle.goblin_pe_sect.specs.BaseRelocations.{relocation_bytes}
 use Rattle.goblin_pe_sect.specs.declared.relocation.base.RelocationData.{RelocationData}
-use Rattle.goblin_pe.specs.Layouts.{layout_map, layout_places}
+use Rattle.goblin_pe.specs.added.Layouts.{layout_map, layout_places}
 use Rattle.goblin_pe.specs.Whole.{part_map}
 use Rattle.goblin_pe.specs.declared.whole.Part.{Part}
 use Rattle.goblin_pe_c_tables.specs.Batches.{BlockBatch}

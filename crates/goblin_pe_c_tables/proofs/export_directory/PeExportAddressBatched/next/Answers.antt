@@ -3,7 +3,7 @@ use Rattle.goblin_pe_export.specs.added.ExportWalks.{walked_tables}
 use Rattle.goblin_pe_sect.specs.Addresses.{MapOfAddresses}
 use Rattle.goblin_pe_c_headers.specs.Onward.{GivesOnward}
 use Rattle.goblin_pe_c_tables.specs.ExportDirectories.{addresses_said}
-use Rattle.goblin_pe.specs.Layouts.{layout_map, layout_places}
+use Rattle.goblin_pe.specs.added.Layouts.{layout_map, layout_places}
 use Rattle.goblin_pe_c_tables.specs.Batches.{AddressBatch}
 use Rattle.goblin_pe_c_tables.proofs.AddressBatches.{addresses-given, addresses-none}
 use Rattle.goblin_pe_c_tables.proofs.export_directory.PeExportAddressBatched.next.Goals as goal

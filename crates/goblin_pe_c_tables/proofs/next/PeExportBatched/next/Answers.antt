@@ -1,6 +1,6 @@
 use Rattle.std.proofs.Common.{ap, arith, nat_le, ◌≡◌, ◌⊎◌, ℕ, ◌+◌, subst}
 use Rattle.goblin_pe_export.specs.added.ExportWalks.{exports_position}
-use Rattle.goblin_pe.specs.Layouts.{layout_map, layout_places}
+use Rattle.goblin_pe.specs.added.Layouts.{layout_map, layout_places}
 use Rattle.goblin_pe_c_tables.proofs.ExportBatches.{exports-given, exports-none}
 use Rattle.goblin_pe_c_tables.proofs.next.PeExportBatched.next.Goals as goal
 

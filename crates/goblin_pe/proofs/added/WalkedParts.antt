@@ -1,0 +1,168 @@
+-- The tables of a file as walks: permissive mode refuses no import data, and a part has what a walk over it
+-- collects.
+use Rattle.std.proofs.Common.{◌≡◌, ℕ, Bool, true, false, cond, List, Option, Some, None, IsSome, refl, subst, ap, length, not, ◌&&◌, ◌==◌, option_map, Result, Ok, Err, flat_map}
+use Rattle.goblin_base.specs.declared.error.ErrorOf.{ErrorOf}
+use Rattle.goblin_base.specs.Answers.{◌>>=◌, all_of}
+use Rattle.goblin_base.specs.Reading.{IsRefused, Reading}
+use Rattle.goblin_base.specs.Tables as tables
+use Rattle.goblin_base.specs.Tables.{Format, ends_table, made_of, slot_at, slot_table, stop}
+use Rattle.goblin_base.proofs.Below.{each_below-there, least-before}
+use Rattle.readings.specs.Reads.{given, in_its_place, mapped, pick}
+use Rattle.readings.specs.Walks.{IsWalkOf, Walks}
+use Rattle.goblin_pe_sect.specs.declared.data_directories.DataDirectory.{DataDirectory}
+use Rattle.goblin_pe_sect.specs.declared.options.ParseOptions.{ParseOptions}
+use Rattle.goblin_pe_sect.specs.AddressReadings.{offset_at}
+use Rattle.goblin_pe_sect.specs.Options.{is_strict}
+use Rattle.goblin_pe_sect.specs.Addresses.{Addressing}
+use Rattle.goblin_pe_import.specs.declared.import.directory_entry.ImportDirectoryEntry.{ImportDirectoryEntry}
+use Rattle.goblin_pe_import.specs.ImportEntries.{EntryValue}
+use Rattle.goblin_pe_import.specs.ImportReadings.{import_data, kept_library, libraries_at}
+use Rattle.goblin_pe_import.specs.ImportReadings.{library_of, numbered_data, read_if, read_past_front}
+use Rattle.goblin_pe_import.specs.ImportRecords.{NumberedLibrary, import_slots}
+use Rattle.goblin_pe_import.specs.Imports.{NumberedImport}
+use Rattle.goblin_pe_import.specs.Imports.{numbered_imports}
+use Rattle.goblin_pe_import.proofs.LibraryIndexes.{unnumbered}
+use Rattle.goblin_pe.specs.declared.whole.Part.{Part}
+use Rattle.goblin_pe.specs.declared.whole.Part.TheVariants.{Absent}
+use Rattle.goblin_pe.specs.declared.whole.Part.TheVariants as part
+use Rattle.goblin_pe.specs.declared.added.file_imports.FileImports.{FileImports}
+use Rattle.goblin_pe.specs.added.Layouts.{IsFileImportsCause, file_imports_left}
+use Rattle.goblin_pe.specs.Whole.{TablePlaces, directory_at, entry_format, import_list}
+use Rattle.goblin_pe.specs.Whole.{numbered_data_part, part_at, part_map}
+use Rattle.goblin_pe.specs.Whole.{part_of}
+use Rattle.std.proofs.Common.{◌≡◌, ℕ, List, Bool, true, false, Option, Some, None, refl, ap}
+use Rattle.std.proofs.Common.{inl, inr, ◌⊎◌, option_map, Result, subst}
+use Rattle.goblin_base.specs.Reading.{IsRefused, Reading}
+use Rattle.readings.specs.Reads.{given, mapped, pick}
+use Rattle.goblin_pe_import.specs.ImportRecords.{NumberedLibrary}
+use Rattle.goblin_pe.specs.declared.whole.Part.TheVariants.{Absent}
+use Rattle.goblin_pe.specs.Whole.{TablePlaces}
+use Rattle.goblin_pe.specs.Whole.{numbered_data_part, part_at, part_map}
+use Rattle.std.proofs.Common.{◌≡◌, ℕ, List, Bool, true, false, Option, Some, None, option_map, refl, ap, subst}
+use Rattle.std.specs.Prelude.{IfOk, Result, Ok, Err}
+use Rattle.goblin_base.specs.declared.error.ErrorOf.TheVariants.{BadMagic, BufferTooShort}
+use Rattle.goblin_base.specs.declared.error.ErrorOf.TheVariants.{Malformed, Memory, Read}
+use Rattle.goblin_base.specs.Reading.{Reading}
+use Rattle.readings.specs.Reads.{given, mapped, pick}
+use Rattle.goblin_pe.specs.Whole.{BecomesPart, IfRead, part_at, part_map, part_of}
+
+left-there : {A : Type 0} (o : Option A) → IsSome (tables.or_left_out false o)
+left-there None = refl
+left-there (Some x) = refl
+
+placed-there : {A B : Type 0} (d : A) (o : Option A) (f : A → Option B) → ((x : A) → IsSome (f x)) → IsSome (in_its_place false d o >>= f)
+placed-there d None f all = all d
+placed-there d (Some x) f all = all x
+
+module _ (format : Format EntryValue) (addressing : Addressing) (bytes : List ℕ) where
+  slot-there : (slot : Option ImportDirectoryEntry) → ends_table import_slots.is_last slot ≡ false → IsSome (slot >>= λ r. (kept_library false format addressing r).value bytes)
+  slot-there None e = absurd cc
+  slot-there (Some r) e = left-there ((library_of false format addressing r).value bytes)
+
+  libraries-there : (o : ℕ) → IsSome ((libraries_at false format addressing o).value bytes)
+  unfolding slot_table stop
+  libraries-there o =
+      each_below-there (made_of import_slots (λ r. (kept_library false format addressing r).value bytes) bytes o) (stop import_slots bytes o)
+      (λ j below.
+      slot-there (slot_at import_slots bytes o j)
+      (least-before (λ i. ends_table import_slots.is_last (slot_at import_slots bytes o i)) (length bytes) j below))
+
+  past-front-there : (o : ℕ) → IsSome ((read_past_front false (libraries_at false format addressing) o).value bytes)
+  past-front-there o = by (not false && o == 0)
+    where
+      by : (test : Bool)
+          → IsSome ((read_if (libraries_at false format addressing) (cond test None (Some o))).value bytes)
+      by true = cc
+      by false = libraries-there o
+
+  pub data-there : (strict : Bool) (rva : ℕ) → strict ≡ false → IsSome ((import_data strict format addressing rva).value bytes)
+  unfolding import_data
+  data-there true rva permissive = absurd cc
+  data-there false rva permissive = placed-there 0 ((offset_at addressing.offset rva).value bytes) (λ o. (read_past_front false (libraries_at false format addressing) o).value bytes) past-front-there
+
+-- ---- the part
+
+was-there : {A B : Type 0} (f : A → B) (o : Option A) → IsSome (option_map f o) → IsSome o
+was-there f None some = absurd cc
+was-there f (Some x) some = refl
+
+part-value : {A B : Type 0} (kept : List A → List B) (strict : Bool) (read : Option (List A)) (all : Option (List B)) → (strict ≡ false → IsSome read) → option_map (λ xs. xs) all ≡ option_map kept read → option_map (λ xs. part.Read xs) all ≡ option_map (part_map kept) (part_of strict read)
+part-value kept strict (Some xs) (Some ys) there e = ap (option_map (λ zs. part.Read zs)) e
+part-value kept strict (Some xs) None there e = absurd cc
+part-value kept true None (Some ys) there e = absurd cc
+part-value kept true None None there e = refl
+part-value kept false None all there e = let never = there refl in absurd cc
+
+part-refused : {A B : Type 0} (kept : List A → List B) (strict : Bool) (read : Option (List A)) → (strict ≡ false → IsSome read) → option_map kept read ≡ None → option_map (part_map kept) (part_of strict read) ≡ None
+part-refused kept strict (Some xs) there e = absurd cc
+part-refused kept true None there e = refl
+part-refused kept false None there e = let never = there refl in absurd cc
+
+module _ (opts : ParseOptions) (addressing : Addressing) (places : TablePlaces) (d : DataDirectory) (asked : opts.parse_imports ≡ true) (here : (directory_at places 1) ≡ Some d) (bytes : List ℕ) where
+  abbrev strict : Bool
+  strict = is_strict opts.parse_mode
+
+  abbrev format : Format EntryValue
+  format = entry_format places.magic
+
+  abbrev kept : List NumberedLibrary → List NumberedImport
+  kept = flat_map (numbered_imports format.width)
+
+  abbrev libraries : Reading (List NumberedLibrary)
+  libraries = numbered_data strict format addressing d.virtual_address
+
+  there : strict ≡ false → IsSome (libraries.value bytes)
+  there permissive =
+      was-there _ _
+      (subst IsSome (unnumbered strict format addressing bytes d.virtual_address)
+      (data-there format addressing bytes strict d.virtual_address permissive))
+
+  -- a walk that is refused before its first import
+  pub list-refused : (result : Result FileImports ErrorOf) (e : ErrorOf) → Walks file_imports_left IsFileImportsCause (λ xs. xs) result (mapped kept libraries) bytes → result ≡ Err e → IsRefused (import_list opts addressing places) bytes e
+  unfolding import_list numbered_data_part
+  list-refused result e walks is =
+      let h = subst (λ (r : Result FileImports ErrorOf). Walks file_imports_left IsFileImportsCause (λ xs. xs) r (mapped kept libraries) bytes) is walks in
+      rw (asked, here) (part-refused kept strict (libraries.value bytes) there h.0, h.1)
+
+  -- what a walk collects
+  pub list-walked : (result : Result FileImports ErrorOf) (imports : FileImports) → Walks file_imports_left IsFileImportsCause (λ xs. xs) result (mapped kept libraries) bytes → result ≡ Ok imports → IsWalkOf (λ xs. part.Read xs) (import_list opts addressing places) bytes (file_imports_left imports) (IsFileImportsCause imports)
+  unfolding import_list numbered_data_part
+  list-walked result imports walks is =
+      let walk = subst (λ (r : Result FileImports ErrorOf). Walks file_imports_left IsFileImportsCause (λ xs. xs) r (mapped kept libraries) bytes) is walks in
+      record {
+        value = rw (asked, here) (part-value kept strict (libraries.value bytes) (all_of (file_imports_left imports)) there walk.value);
+        cause = λ e fault. rw (asked, here) (walk.cause e fault);
+      }
+
+-- ---- the list of imports beside the libraries
+
+-- the part of a table that is not asked for, or not there
+pub unasked_mapped : {X A B : Type 0} (view : X → B) (f : A → B) (strict asked : Bool)
+    (read : DataDirectory → Reading A) (directory : Option DataDirectory) (bytes : List ℕ)
+    → (asked ≡ false) ⊎ (directory ≡ None)
+    → option_map (part_map f)
+    ((pick asked (part_at strict read directory) (given Absent)).value bytes)
+    ≡ Some (part_map view Absent)
+unasked_mapped view f strict false read directory bytes is = refl
+unasked_mapped view f strict true read directory bytes (inl is) = absurd cc
+unasked_mapped view f strict true read directory bytes (inr is) = rw is refl
+
+pub kept_both : {X : Type 0} (P Q : X → Type 0) (asked : Result X ErrorOf) → IfOk asked P
+    → IfOk asked Q → IfOk asked (λ x. P x × Q x)
+kept_both P Q (Ok x) h k = (h, k)
+kept_both P Q (Err e) h k = tt
+
+-- it holds of the part that the table becomes
+pub becomes_kept : {X : Type 0} (P : X → Type 0) (strict : Bool) (asked : Result X ErrorOf)
+    (made : Result (Part X) ErrorOf) → IfOk asked P → BecomesPart strict asked made
+    → IfOk made (IfRead P)
+becomes_kept P strict (Ok x) made h is = rw is h
+becomes_kept P strict (Err (Memory m)) made h is = rw is tt
+becomes_kept P true (Err (Malformed c)) made h is = rw is tt
+becomes_kept P false (Err (Malformed c)) made h is = rw is tt
+becomes_kept P true (Err (BadMagic n)) made h is = rw is tt
+becomes_kept P false (Err (BadMagic n)) made h is = rw is tt
+becomes_kept P true (Err (BufferTooShort n w)) made h is = rw is tt
+becomes_kept P false (Err (BufferTooShort n w)) made h is = rw is tt
+becomes_kept P true (Err (Read f)) made h is = rw is tt
+becomes_kept P false (Err (Read f)) made h is = rw is tt

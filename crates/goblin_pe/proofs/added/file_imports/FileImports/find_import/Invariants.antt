@@ -1,0 +1,12 @@
+use Rattle.std.proofs.Common.{Bool, find, option_map}
+use Rattle.std.specs.Fn.{FnReturnsAt}
+use Rattle.goblin_pe_import.specs.Imports.{NumberedImport}
+use Rattle.goblin_pe_import.specs.added.ImportWalks.{walked_value}
+use Rattle.readings.specs.Tests.{IsTest}
+use Rattle.goblin_pe.proofs.added.Folds.{Gathers}
+use Rattle.goblin_pe.proofs.added.file_imports.FileImports.find_import.Given as goal
+
+abbrev pub invariant-imports : goal.invariant-imports
+invariant-imports g l =
+    (p : NumberedImport → Bool) → IsTest walked_value (FnReturnsAt g.F.Fn l.fn.test) p
+    → Gathers (find p) l.fn.self l.import-iterator (option_map walked_value l.found)

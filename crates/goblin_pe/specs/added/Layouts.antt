@@ -1,0 +1,108 @@
+-- What a reader of any table of a file needs, and the tables as walks.
+use Rattle.std.specs.Prelude.{◌≡◌, ℕ, List, Option, Some, Result, Ok, Err}
+use Rattle.goblin_base.specs.declared.error.ErrorOf.{ErrorOf}
+use Rattle.goblin_base.specs.Reading.{IsRefused, Reading}
+use Rattle.readings.specs.Walks.{IsWalkOf}
+use Rattle.goblin_pe_sect.specs.declared.options.ParseOptions.{ParseOptions}
+use Rattle.goblin_pe_sect.specs.declared.options.View.{View}
+use Rattle.goblin_pe_head.specs.declared.header.pe_header.Header.{Header}
+use Rattle.goblin_pe_sect.specs.Addresses.{MapOfAddresses, map_in, map_of}
+use Rattle.goblin_pe_export.specs.declared.added.exports.Exports.{Exports}
+use Rattle.goblin_pe_export.specs.added.ExportAddresses.{export_addresses}
+use Rattle.goblin_pe_export.specs.ExportRecords.{ExportTables, NumberedExport}
+use Rattle.goblin_pe_export.specs.added.ExportWalks.{AreExportsOver, exports_left, exports_position}
+use Rattle.goblin_pe_export.specs.added.ExportWalks.{walked_tables}
+use Rattle.goblin_pe_import.specs.ImportLookup.{entries_32, entries_64}
+use Rattle.goblin_pe_import.specs.Imports.{NumberedImport}
+use Rattle.goblin_pe_import.specs.added.ImportWalks.{IsImportsCause, imports_bound, imports_left}
+use Rattle.goblin_pe.specs.declared.whole.Part.{Part}
+use Rattle.goblin_pe.specs.declared.whole.Part.TheVariants.{Absent, Refused}
+use Rattle.goblin_pe.specs.declared.whole.Part.TheVariants as part
+use Rattle.goblin_pe.specs.declared.added.file_imports.FileImports.{FileImports}
+use Rattle.goblin_pe.specs.declared.added.file_imports.FileImports.TheVariants.{Narrow, Wide}
+use Rattle.goblin_pe.specs.declared.added.layout.Layout.{Layout}
+use Rattle.goblin_pe_sect.specs.Options.{is_strict}
+use Rattle.goblin_pe_sect.specs.SectionTable.{Section, recorded_sections}
+use Rattle.goblin_pe_sect.specs.Addresses.{Addressing}
+use Rattle.goblin_pe_head.specs.PeHeader.{header_value}
+use Rattle.goblin_pe.specs.Whole.{TablePlaces, directory_at, mapped_in, part_at, places_in, sections_after}
+use Rattle.goblin_pe.specs.Whole.{table_places}
+
+-- ---- what a reader of any table needs
+
+-- the bytes of the file
+abbrev pub layout_bytes : Layout → List ℕ
+layout_bytes l = l.bytes.now
+
+-- its sections, without their names from the string table
+abbrev pub layout_sections : Layout → List Section
+layout_sections l = recorded_sections l.records
+
+-- where the tables lie
+abbrev pub layout_places : Layout → TablePlaces
+layout_places l = table_places l.places
+
+-- how addresses are mapped, and how the bytes there are read
+abbrev pub layout_map : Layout → MapOfAddresses
+layout_map l = map_of l.address_map
+
+-- It is the layout of these bytes with this header, in a view. Its tables lie where the header
+-- says. Its addresses are mapped by the sections of the file, and in the loader's view also by the
+-- front of the file, with the header's file alignment and these options.
+pub record IsLayoutOf (view : View) (opts : ParseOptions) (bytes : List ℕ) (header : Header)
+    (l : Layout) : Type 0 where
+  pub over : layout_bytes l ≡ bytes
+  pub by : (layout_map l).opts ≡ opts
+  pub placed : layout_places l ≡ places_in header.optional_header
+  pub mapped : (sections : List Section)
+      → (sections_after (is_strict opts.parse_mode) (header_value header)).value bytes
+      ≡ Some sections
+      → layout_map l
+      ≡ map_in opts (mapped_in view (header_value header) sections)
+      (places_in header.optional_header).file_alignment
+
+-- ---- tables as walks
+
+-- A call gives what the reading says: a table as a walk, a table that is absent or refused, or a
+-- refusal of the call itself.
+abbrev pub PartWalks : {S A B : Type 0} → (S → List (Option A)) → (S → ErrorOf → Type 0)
+    → (List A → B) → Result (Part S) ErrorOf → Reading (Part B) → List ℕ → Type 0
+PartWalks left IsCause gather (Ok Absent) reading bytes = reading.value bytes ≡ Some Absent
+PartWalks left IsCause gather (Ok (part.Read walk)) reading bytes =
+    IsWalkOf (λ xs. part.Read (gather xs)) reading bytes (left walk) (IsCause walk)
+PartWalks left IsCause gather (Ok Refused) reading bytes = reading.value bytes ≡ Some Refused
+PartWalks left IsCause gather (Err e) reading bytes =
+    IsRefused reading bytes e
+
+-- ---- the walk over the imports, whose entries have four bytes or eight
+
+-- the imports still to come
+abbrev pub file_imports_left : FileImports → List (Option NumberedImport)
+file_imports_left (Narrow imports) = imports_left entries_32 imports
+file_imports_left (Wide imports) = imports_left entries_64 imports
+
+-- the cause that is true if one of these is a refusal
+abbrev pub IsFileImportsCause : FileImports → ErrorOf → Type 0
+IsFileImportsCause (Narrow imports) e = IsImportsCause entries_32 imports e
+IsFileImportsCause (Wide imports) e = IsImportsCause entries_64 imports e
+
+-- an upper bound of the number of imports to come
+abbrev pub file_imports_bound : FileImports → ℕ
+file_imports_bound (Narrow imports) = imports_bound imports
+file_imports_bound (Wide imports) = imports_bound imports
+
+-- ---- the walk over the exports
+
+-- what an export directory leads to, and the exports that are still to come
+abbrev pub walked_exports : Exports → ExportTables × List NumberedExport
+walked_exports walk = (walked_tables walk, exports_left walk)
+
+-- what the export directory leads to, without the names of the exports
+unfoldable pub address_part : ParseOptions → Addressing → TablePlaces
+    → Reading (Part ExportTables)
+address_part opts addressing places =
+    part_at (is_strict opts.parse_mode) (export_addresses addressing) (directory_at places 0)
+
+-- A walk over these bytes, with this map of addresses, before the first name pointer.
+abbrev pub IsExportWalk : MapOfAddresses → List ℕ → Exports → Type 0
+IsExportWalk m bytes walk = AreExportsOver bytes m walk × (exports_position walk ≡ 0)
