@@ -98,8 +98,6 @@ repeats-numbered_data format addressing rva = record {
       front_or_not _ _ (numbered_libraries_at-repeats addressing format) bytes (addressing.offset rva);
 }
 
--- ---- import data from which no library is left out
-
 -- what is known of a part that strict mode has
 record IsPart {A : Type 0} (value : Option A) (p : Part A) : Type 0 where
   table : A

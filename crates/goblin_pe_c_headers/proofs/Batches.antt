@@ -73,14 +73,14 @@ yes-of_not true is = refl
 yes-of_not false is = absurd (cc is)
 
 -- without room it is not told
-pub told-at_room : {A IsCut : Type 0} {rest : List (Option A)} (room count : ℕ) (is_done : Bool) → (is_done ≡ true → rest ≡ [])
+pub done-at_room : {A IsCut : Type 0} {rest : List (Option A)} (room count : ℕ) (is_done : Bool) → (is_done ≡ true → rest ≡ [])
     → (is_done ≡ false → (room ≤ count) ⊎ IsCut ⊎ IsRefusedNext rest) → TellsEnd IsCut rest room count (is_done && not (room == 0))
-told-at_room room count true ended goes_on = record {
+done-at_room room count true ended goes_on = record {
   ended = λ _. ended refl;
   without_room = λ none. rw none refl;
   goes_on = λ is. inl (let none = eqb-true room 0 (yes-of_not (room == 0) is) in omega (arith, none));
 }
-told-at_room room count false ended goes_on = record { ended = λ is. absurd (cc is); without_room = λ _. refl; goes_on = goes_on }
+done-at_room room count false ended goes_on = record { ended = λ is. absurd (cc is); without_room = λ _. refl; goes_on = goes_on }
 
 -- ---- the loop
 
@@ -210,37 +210,37 @@ module _ {P R A B S : Type 0} {table : Table P R A B} {left : S → List (Option
       own (x ∷ xs) counted filled = absurd (omega (arith, counted, none))
 
   -- the batch says that this is the end
-  abbrev pub Told : Type 0 → Bool → Type 0
-  Told IsCut is_done = TellsEnd IsCut (drop count (left start)) (length old) count is_done
+  abbrev pub TellsDone : Type 0 → Bool → Type 0
+  TellsDone IsCut is_done = TellsEnd IsCut (drop count (left start)) (length old) count is_done
 
-  pub told-end : {IsCut : Type 0} → left now ≡ [] → count < length records → Told IsCut true
-  told-end none within = record {
+  pub done-end : {IsCut : Type 0} → left now ≡ [] → count < length records → TellsDone IsCut true
+  done-end none within = record {
     ended = λ is. items-left ∙ none;
     without_room = λ room. absurd (let same = h.held.same in omega (arith, room, same, within));
     goes_on = λ is. absurd (cc is);
   }
 
   -- where there may be no room
-  pub told-none : {IsCut : Type 0} → left now ≡ [] → Told IsCut (not (length old == 0))
-  told-none none = told-at_room (length old) count true (λ _. items-left ∙ none) (λ is. absurd (cc is))
+  pub done-none : {IsCut : Type 0} → left now ≡ [] → TellsDone IsCut (not (length old == 0))
+  done-none none = done-at_room (length old) count true (λ _. items-left ∙ none) (λ is. absurd (cc is))
 
   -- or not, as there is no more room, or it was cut, or a refusal comes
-  pub told-full : {IsCut : Type 0} → length records ≤ count → Told IsCut false
-  told-full full = record {
+  pub done-full : {IsCut : Type 0} → length records ≤ count → TellsDone IsCut false
+  done-full full = record {
     ended = λ is. absurd (cc is);
     without_room = λ _. refl;
     goes_on = λ is. inl (let same = h.held.same in omega (arith, full, same));
   }
 
-  pub told-cut : {IsCut : Type 0} → IsCut → Told IsCut false
-  told-cut cut = record {
+  pub done-cut : {IsCut : Type 0} → IsCut → TellsDone IsCut false
+  done-cut cut = record {
     ended = λ is. absurd (cc is);
     without_room = λ _. refl;
     goes_on = λ is. inr (inl cut);
   }
 
-  pub told-refused : {IsCut : Type 0} → left now ≡ None ∷ [] → Told IsCut false
-  told-refused is = record {
+  pub done-refused : {IsCut : Type 0} → left now ≡ None ∷ [] → TellsDone IsCut false
+  done-refused is = record {
     ended = λ is. absurd (cc is);
     without_room = λ _. refl;
     goes_on = λ _. inr (inr (subst (λ (items : List (Option A)). IsRefusedNext items) (sym (items-left ∙ is)) tt));

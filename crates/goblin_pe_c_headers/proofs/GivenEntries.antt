@@ -7,7 +7,7 @@ use Rattle.goblin_pe_head.specs.declared.header.rich.RichMetadata.{RichMetadata}
 use Rattle.goblin_pe_head.specs.RichMetadata.{metadata_items}
 use Rattle.goblin_pe_c_headers.specs.Items.{values_of}
 use Rattle.goblin_pe_c_headers.specs.RichHeaders.{GivesEntriesOf, IsRefusedEntry, entries_from, is_rest, rich_table}
-use Rattle.goblin_pe_c_headers.proofs.Batches.{AtItems, items-end, items-fault, items-full, items-more, items-refused, items-start, items-stay, told-end, told-full, told-refused}
+use Rattle.goblin_pe_c_headers.proofs.Batches.{AtItems, items-end, items-fault, items-full, items-more, items-refused, items-start, items-stay, done-end, done-full, done-refused}
 use Rattle.goblin_pe_c_headers.proofs.RichEntries.{entries_count, entries_more, entries_none, entries_rest}
 
 -- the records hold the entries up to an index
@@ -33,14 +33,14 @@ module _ {key : ℕ} {stretch : List ℕ} {from : ℕ} {old : List RichMetadata}
       → GivesEntriesOf key stretch (record { position = from; records = old }) (record { position = index; records = records }) (record { count = count; is_done = true })
   entry-end none ended within =
       let left = entries_none key stretch index none ended in
-      (items-end h.at index left (rw left refl) (items-stay h.at), (told-end h.at left within, h.moved))
+      (items-end h.at index left (rw left refl) (items-stay h.at), (done-end h.at left within, h.moved))
 
   -- bytes are left that are no entry, after some
   pub entry-rest : is_rest stretch index ≡ true → count ≢ 0
       → GivesEntriesOf key stretch (record { position = from; records = old }) (record { position = index; records = records }) (record { count = count; is_done = false })
   entry-rest is some =
       let left = entries_rest key stretch index is in
-      (items-refused h.at left some, (told-refused h.at left, h.moved))
+      (items-refused h.at left some, (done-refused h.at left, h.moved))
 
   -- or at once
   pub entry-fault : is_rest stretch index ≡ true → count ≡ 0 → count < length records
@@ -52,4 +52,4 @@ module _ {key : ℕ} {stretch : List ℕ} {from : ℕ} {old : List RichMetadata}
   -- there is no more room
   pub entry-full : (n : ℕ) → n ≡ count → length records ≤ count
       → GivesEntriesOf key stretch (record { position = from; records = old }) (record { position = index; records = records }) (record { count = n; is_done = false })
-  entry-full n all full = rw all (items-full h.at full, (told-full h.at full, h.moved))
+  entry-full n all full = rw all (items-full h.at full, (done-full h.at full, h.moved))

@@ -7,7 +7,7 @@ use Rattle.std.proofs.lemmas.Option.{get_or_from_slice_get, slice_get_cases, sli
 use Rattle.goblin_base.specs.Tables.{records_in}
 use Rattle.goblin_base.proofs.RecordItems.{length-records_in}
 use Rattle.goblin_pe_c_headers.specs.Onward.{GivesRows, row_table, unrefused}
-use Rattle.goblin_pe_c_headers.proofs.Batches.{AtItems, items-end, items-full, items-more, items-start, items-stay, told-end, told-full}
+use Rattle.goblin_pe_c_headers.proofs.Batches.{AtItems, items-end, items-full, items-more, items-start, items-stay, done-end, done-full}
 
 -- ---- a loop that fills records
 
@@ -48,12 +48,12 @@ module _ {W B : Type 0} {view : W → B} {items : List B} {from : ℕ} {old : Li
         | inl there ↦ absurd (cc (there.2, none))
         | inr past ↦ drop_of_length-le items past.0
       ] in
-      (items-end h.at index (ap unrefused no) (ap (λ (xs : List B). Some (unrefused xs)) no) (items-stay h.at), (told-end h.at (ap unrefused no) within, h.moved))
+      (items-end h.at index (ap unrefused no) (ap (λ (xs : List B). Some (unrefused xs)) no) (items-stay h.at), (done-end h.at (ap unrefused no) within, h.moved))
 
   -- and where no room is
   pub onward-full : (n : ℕ) → n ≡ count → length records ≤ count
       → GivesRows view items (record { position = from; records = old }) (record { position = index; records = records }) (record { count = n; is_done = false })
-  onward-full n all full = rw all (items-full h.at full, (told-full h.at full, h.moved))
+  onward-full n all full = rw all (items-full h.at full, (done-full h.at full, h.moved))
 
 -- ---- the records in bytes
 

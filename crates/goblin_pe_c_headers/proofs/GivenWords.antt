@@ -9,7 +9,7 @@ use Rattle.goblin_pe_c_headers.specs.declared.batch.PeBatch.{PeBatch}
 use Rattle.goblin_pe_c_headers.specs.declared.cursor.PeBaseRelocationCursor.{PeBaseRelocationCursor}
 use Rattle.goblin_pe_c_headers.specs.declared.word.PeBaseRelocation.{PeBaseRelocation}
 use Rattle.goblin_pe_c_headers.specs.Onward.{GivesOnward, unrefused, values_before}
-use Rattle.goblin_pe_c_headers.specs.Words.{GivesWords, block_words, word_said, word_table, words_said}
+use Rattle.goblin_pe_c_headers.specs.Words.{GivesWords, block_words, word_for_c, word_table, words_for_c}
 use Rattle.goblin_pe_c_headers.proofs.Batches.{fills-by}
 
 -- the records after some of them
@@ -48,16 +48,16 @@ given-few {W} items old new n batch onward =
 
 -- what is given of the words from a cursor on is given of the block
 pub words_given : (bytes : List ℕ) (c : PeBaseRelocationCursor) (old new : List PeBaseRelocation) (n : ℕ) (batch : PeBatch) (words : List ℕ) → words ≡ block_words bytes c
-    → GivesOnward (words_said c.page_rva words) (record { position = 0; records = old }) (record { position = n; records = new }) batch
+    → GivesOnward (words_for_c c.page_rva words) (record { position = 0; records = old }) (record { position = n; records = new }) batch
     → GivesWords bytes (record { position = c; records = old }) (record { position = record c { offset = c.offset + 2 * n }; records = new }) batch
 words_given bytes c old new n batch words is onward =
-    let items = words_said c.page_rva (block_words bytes c) in
+    let items = words_for_c c.page_rva (block_words bytes c) in
     let moved : n ≡ batch.count = onward.1.1 ∙ omega arith in
-    let given = subst (λ (w : List ℕ). GivesOnward (words_said c.page_rva w) (record { position = 0; records = old }) (record { position = n; records = new }) batch) is onward in
+    let given = subst (λ (w : List ℕ). GivesOnward (words_for_c c.page_rva w) (record { position = 0; records = old }) (record { position = n; records = new }) batch) is onward in
     let next : PeBaseRelocationCursor = record c { offset = c.offset + 2 * n } in
-    let left = records-dropped (λ (word : List ℕ). word_said c.page_rva (word_record Little word)) n (block_words bytes c) in
+    let left = records-dropped (λ (word : List ℕ). word_for_c c.page_rva (word_record Little word)) n (block_words bytes c) in
     let there : (word_table bytes).from next ≡ Some (unrefused (drop n items)) =
-    ap (λ (ws : List ℕ). Some (unrefused (words_said c.page_rva ws))) (sym (drop-drop (2 * n) c.offset (take (min c.end (length bytes)) bytes)))
+    ap (λ (ws : List ℕ). Some (unrefused (words_for_c c.page_rva ws))) (sym (drop-drop (2 * n) c.offset (take (min c.end (length bytes)) bytes)))
     ∙ ap (λ (xs : List PeBaseRelocation). Some (unrefused xs)) left in (
       fills-by (λ w. w) (λ w. w) (λ (i : ℕ). Some (unrefused (drop i items))) (word_table bytes).from _ _ (unrefused items) (unrefused items) 0 n c next old new batch.count given.0 refl there (λ cut. cut)
           (λ none. ap (λ (o : ℕ). record c { offset = o }) (omega (arith, none))),

@@ -5,7 +5,7 @@ use Rattle.goblin_pe_symbol.proofs.SymbolHeads.{symbols_next, symbols_past}
 use Rattle.goblin_pe_c_headers.specs.declared.symbol.PeSymbol.{PeSymbol}
 use Rattle.goblin_pe_c_headers.specs.Symbols.{GivesSymbols, index_after, named_symbol, named_symbol_table, named_symbol_view, next_index, symbols_onward}
 use Rattle.goblin_pe_c_headers.specs.Onward.{unrefused}
-use Rattle.goblin_pe_c_headers.proofs.Batches.{AtItems, items-end, items-full, items-more, items-start, items-stay, told-end, told-full}
+use Rattle.goblin_pe_c_headers.proofs.Batches.{AtItems, items-end, items-full, items-more, items-start, items-stay, done-end, done-full}
 
 -- all bytes are fewer than were asked for
 pub all_left : (n : ℕ) (xs : List ℕ) → length xs < n → take n xs ≡ xs
@@ -43,9 +43,9 @@ module _ {table : List ℕ} {names : ℕ → Option (List ℕ)} {from : ℕ} {ol
       → GivesSymbols table names (record { position = from; records = old }) (record { position = position; records = records }) (record { count = count; is_done = true })
   giving_all past within =
       let none = symbols_past (length table / 18) table position past in
-      (items-end h.at position (ap unrefused none) (ap (λ (xs : List SymbolItem). Some (unrefused xs)) none) (items-stay h.at), (told-end h.at (ap unrefused none) within, h.moved))
+      (items-end h.at position (ap unrefused none) (ap (λ (xs : List SymbolItem). Some (unrefused xs)) none) (items-stay h.at), (done-end h.at (ap unrefused none) within, h.moved))
 
   -- where there is no more room
   pub giving_full : (n : ℕ) → n ≡ count → length records ≤ count
       → GivesSymbols table names (record { position = from; records = old }) (record { position = position; records = records }) (record { count = n; is_done = false })
-  giving_full n is full = rw is (items-full h.at full, (told-full h.at full, h.moved))
+  giving_full n is full = rw is (items-full h.at full, (done-full h.at full, h.moved))

@@ -73,9 +73,9 @@ file_name kind.File records = before_nul records
 file_name other records = []
 
 -- the first of these records, of this kind
-abbrev pub fields_said : AuxiliaryKind → List ℕ → PeAuxiliary → PeAuxiliary
-fields_said kind.None records zeros = zeros
-fields_said kind.FunctionDefinition records zeros =
+abbrev pub auxiliary_fields : AuxiliaryKind → List ℕ → PeAuxiliary → PeAuxiliary
+auxiliary_fields kind.None records zeros = zeros
+auxiliary_fields kind.FunctionDefinition records zeros =
     let read = function_definition_record Little (take 18 records) in
     record zeros {
       tag_index = read.tag_index;
@@ -83,17 +83,17 @@ fields_said kind.FunctionDefinition records zeros =
       pointer_to_line_number = read.pointer_to_line_number;
       pointer_to_next_function = read.pointer_to_next_function;
     }
-fields_said kind.BeginAndEndFunction records zeros =
+auxiliary_fields kind.BeginAndEndFunction records zeros =
     let read = begin_and_end_function_record Little (take 18 records) in
     record zeros {
       pointer_to_next_function = read.pointer_to_next_function;
       line_number = read.line_number;
     }
-fields_said kind.WeakExternal records zeros =
+auxiliary_fields kind.WeakExternal records zeros =
     let read = weak_external_record Little (take 18 records) in
     record zeros { tag_index = read.tag_index; characteristics = read.characteristics }
-fields_said kind.File records zeros = record zeros { string_offset = file_offset records }
-fields_said kind.SectionDefinition records zeros =
+auxiliary_fields kind.File records zeros = record zeros { string_offset = file_offset records }
+auxiliary_fields kind.SectionDefinition records zeros =
     let read = section_definition_record Little (take 18 records) in
     record zeros {
       number = read.number;
@@ -105,6 +105,6 @@ fields_said kind.SectionDefinition records zeros =
     }
 
 -- the record says the first of these records, of this kind
-abbrev pub AuxiliarySaid : AuxiliaryKind → List ℕ → PeAuxiliary → Type 0
-AuxiliarySaid kind records a =
-    (a.file.now ≡ file_name kind records) × (a ≡ fields_said kind records (zero_auxiliary a))
+abbrev pub AuxiliaryView : AuxiliaryKind → List ℕ → PeAuxiliary → Type 0
+AuxiliaryView kind records a =
+    (a.file.now ≡ file_name kind records) × (a ≡ auxiliary_fields kind records (zero_auxiliary a))

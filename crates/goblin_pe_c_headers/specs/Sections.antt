@@ -79,15 +79,15 @@ with_name (Some name) row =
 
 -- What the sections of an image are read by: the mode, the limit of a name, the file, the offset of
 -- the string table in it, and how far the sections moved to the front.
-pub record NamingSaid : Type 0 where
+pub record NamingView : Type 0 where
   pub strict : Bool
   pub longest : Option ℕ
   pub bytes : List ℕ
   pub strings : ℕ
   pub displacement : Option ℕ
 
-abbrev pub naming_said : Naming → NamingSaid
-naming_said n = record {
+abbrev pub naming_for_c : Naming → NamingView
+naming_for_c n = record {
   strict = is_strict n.opts.parse_mode;
   longest = n.longest;
   bytes = n.bytes.now;
@@ -96,7 +96,7 @@ naming_said n = record {
 }
 
 -- those of a Terse Executable moved
-abbrev pub naming_of : PeImage → NamingSaid
+abbrev pub naming_of : PeImage → NamingView
 naming_of image = record {
   strict = is_strict (header_options image.options).parse_mode;
   longest = longest_of image.options;
@@ -106,14 +106,14 @@ naming_of image = record {
 }
 
 -- the row of the section header with these bytes
-abbrev pub row_of : NamingSaid → ℕ → List ℕ → SectionRow
+abbrev pub row_of : NamingView → ℕ → List ℕ → SectionRow
 row_of n i header =
     let s = section_moved n.displacement (section_record Little header) in
     with_name (real_name_in n.strict n.longest n.bytes n.strings s.name)
     (unnamed_row header i (unnamed s))
 
 -- the rows of the section headers in these bytes
-abbrev pub section_rows : NamingSaid → List ℕ → List SectionRow
+abbrev pub section_rows : NamingView → List ℕ → List SectionRow
 section_rows n headers =
     map (λ i. row_of n i (slice_range headers (40 * i) (40 * i + 40)))
     (range_with_len 0 (length headers / 40))

@@ -130,8 +130,8 @@ symbol_tables header =
     (λ symbols. mapped (λ strings. (symbols, strings)) (strings_of header))
 
 -- the n bytes at p; n may be 0
-abbrev pub strings_said : ℕ → ℕ → Reading (List ℕ)
-strings_said p n = because (StringTable p n) (bytes_between p (p + n))
+abbrev pub strings_from_c : ℕ → ℕ → Reading (List ℕ)
+strings_from_c p n = because (StringTable p n) (bytes_between p (p + n))
 
 -- how many bytes the texts of the string table that a header leads to have, by its length, which
 -- includes the four bytes that say it; none where there is no such table
@@ -153,7 +153,7 @@ abbrev pub tables_with : CoffHeader → Option ℕ → Reading (List ℕ × List
 tables_with header None = given ([], [])
 tables_with header (Some n) =
     slice_at header.pointer_to_symbol_table (18 * header.number_of_symbol_table)
-    beside strings_said (symbols_end header + 4) n
+    beside strings_from_c (symbols_end header + 4) n
 
 -- the tables that a header leads to, whatever their bytes are
 unfoldable pub found_tables : CoffHeader → Reading (List ℕ × List ℕ)
@@ -169,7 +169,7 @@ FindsTables =
 -- the texts of the string table, by how many bytes these have
 abbrev pub strings_with : CoffHeader → Option ℕ → Reading (Option (List ℕ))
 strings_with header None = given None
-strings_with header (Some n) = mapped (λ s. Some s) (strings_said (symbols_end header + 4) n)
+strings_with header (Some n) = mapped (λ s. Some s) (strings_from_c (symbols_end header + 4) n)
 
 -- the texts of the string table that a header leads to, if there is one
 unfoldable pub string_bytes : CoffHeader → Reading (Option (List ℕ))

@@ -11,16 +11,16 @@ use Rattle.goblin_pe_c_headers.specs.Onward.{Batch, FillsNext, Table, unrefused}
 
 -- the row of a word of a block for the page at this address: its type in the high four bits, and in
 -- the low twelve the offset in the page
-abbrev pub word_said : ℕ → RelocationWord → PeBaseRelocation
-word_said page word = record {
+abbrev pub word_for_c : ℕ → RelocationWord → PeBaseRelocation
+word_for_c page word = record {
   rva = (page + word.value % 4096) % 2 ^ 64;
   typ = word.value / 4096;
   reserved = 0;
 }
 
 -- the rows of these bytes of a block for the page at this address; a byte that is left is none
-abbrev pub words_said : ℕ → List ℕ → List PeBaseRelocation
-words_said page words = records_in 2 (λ bytes. word_said page (word_record Little bytes)) words
+abbrev pub words_for_c : ℕ → List ℕ → List PeBaseRelocation
+words_for_c page words = records_in 2 (λ bytes. word_for_c page (word_record Little bytes)) words
 
 -- the words of a block from a cursor on, as far as the file has them
 abbrev pub block_words : List ℕ → PeBaseRelocationCursor → List ℕ
@@ -34,7 +34,7 @@ abbrev pub word_table : List ℕ
 word_table bytes = record {
   view = λ w. w;
   said = λ w. w;
-  from = λ c. Some (unrefused (words_said c.page_rva (block_words bytes c)));
+  from = λ c. Some (unrefused (words_for_c c.page_rva (block_words bytes c)));
 }
 
 -- The rows hold the words from the cursor on, which then is after them.

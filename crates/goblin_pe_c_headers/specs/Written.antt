@@ -18,29 +18,29 @@ use Rattle.goblin_pe_c_headers.specs.declared.section.PeSection.{PeSection}
 -- ---- what records say
 
 -- the entry of a directory; where its record ends does not matter
-abbrev pub entry_said : DataDirectory → Option (ℕ × DataDirectory)
-entry_said d = Some (0, d)
+abbrev pub entry_from_c : DataDirectory → Option (ℕ × DataDirectory)
+entry_from_c d = Some (0, d)
 
 -- the optional header, if there is one
-abbrev pub optional_said : PeImage → Option OptionalHeader
-optional_said image =
+abbrev pub optional_from_c : PeImage → Option OptionalHeader
+optional_from_c image =
     if image.has_optional_header
     then Some (record {
       standard_fields = image.optional_header.standard_fields;
       windows_fields = image.optional_header.windows_fields;
-      data_directories = record { data_directories = map entry_said image.directories };
+      data_directories = record { data_directories = map entry_from_c image.directories };
     })
     else None
 
 -- the header, its Rich header part of the stub, with the PE signature
-abbrev pub header_said : PeImage → List ℕ → PeHeader
-header_said image stub = record {
+abbrev pub header_from_c : PeImage → List ℕ → PeHeader
+header_from_c image stub = record {
   dos_header = image.dos_header;
   dos_stub = stub;
   rich_header = None;
   signature = 0x4550;
   coff_header = image.coff_header;
-  optional_header = optional_said image;
+  optional_header = optional_from_c image;
 }
 
 -- the DOS stub: the built-in one, or bytes of the file
@@ -72,11 +72,11 @@ with_header out header = if length out == 0 then Some out else overwritten out 0
 abbrev pub WritesHeader : PeImage → Output → Output → Result Unit ErrorOf → Type 0
 WritesHeader image old new =
     let stub = (image_stub image).value image.bytes.now in
-    let made = option_and_then (λ s. header_bytes Little (header_said image s)) stub in
+    let made = option_and_then (λ s. header_bytes Little (header_from_c image s)) stub in
     WritesOut (option_and_then (with_header old.out) made)
     (λ size. IsSomeAnd made (λ header. size ≡ length header))
     (FirstFault stub ((image_stub image).IsCause image.bytes.now) (λ s.
-    FirstFault made (IsUnwrittenPart (optional_said image))
+    FirstFault made (IsUnwrittenPart (optional_from_c image))
     (λ header. IsSliceFault old.out 0 (length header))))
     old new
 

@@ -371,7 +371,7 @@ pub fn out_of_steps() -> PeFault
 }
 
 // The numbers of a cause.
-fn cause_numbers(cause: &Cause) -> PeFault
+fn cause_for_c(cause: &Cause) -> PeFault
     ensures value { result ≡ fault_of (Malformed cause.now) }
     ensures text { IsNumbered (Malformed cause.now)
         → refusal_text result ≡ Some (error_text (Malformed cause.now)) }
@@ -472,7 +472,7 @@ pub fn fault_of(error: &Error) -> PeFault
     ensures text { IsNumbered error.now → refusal_text result ≡ Some (error_text error.now) }
 {
     match error {
-        Error::Malformed(cause) => cause_numbers(cause),
+        Error::Malformed(cause) => cause_for_c(cause),
         Error::BadMagic(magic) => fault(Status::BadMagic, 0, *magic, 0),
         Error::BufferTooShort(count, what) => fault(
             Status::BufferTooShort,

@@ -3,8 +3,8 @@
 ghost use Rattle.std.specs.Prelude.{◌≡◌, map};
 ghost use Rattle.goblin_base.specs.Reading.{Reads};
 ghost use Rattle.goblin_pe_head.specs.PeHeader.{header_value};
-ghost use Rattle.goblin_pe_c_headers.specs.Written.{entry_said, header_said, image_stub};
-ghost use Rattle.goblin_pe_c_headers.specs.Written.{optional_said};
+ghost use Rattle.goblin_pe_c_headers.specs.Written.{entry_from_c, header_from_c, image_stub};
+ghost use Rattle.goblin_pe_c_headers.specs.Written.{optional_from_c};
 
 use crate::image::PeImage;
 use goblin_base::Result;
@@ -14,34 +14,34 @@ use goblin_pe_head::optional_header::OptionalHeader;
 use goblin_pe_sect::data_directories::{DataDirectories, DataDirectory, NUM_DATA_DIRECTORIES};
 
 // The entry of a directory. Where its record ends does not matter to who writes it.
-fn entry_said(directory: DataDirectory) -> Option<(usize, DataDirectory)>
-    ensures { result ≡ entry_said directory }
+fn entry_from_c(directory: DataDirectory) -> Option<(usize, DataDirectory)>
+    ensures { result ≡ entry_from_c directory }
 {
     Some((0, directory))
 }
 
 // The entries of these directories.
-fn entries_said(
+fn entries_from_c(
     directories: [DataDirectory; NUM_DATA_DIRECTORIES],
 ) -> [Option<(usize, DataDirectory)>; NUM_DATA_DIRECTORIES]
-    ensures { result ≡ map entry_said directories }
+    ensures { result ≡ map entry_from_c directories }
 {
     let mut entries = [None; NUM_DATA_DIRECTORIES];
     'directories: for i in 0..NUM_DATA_DIRECTORIES {
-        entries[i] = entry_said(directories[i]);
+        entries[i] = entry_from_c(directories[i]);
     }
     entries
 }
 
 // The optional header, if there is one.
-fn optional_said(image: &PeImage) -> Option<OptionalHeader>
-    ensures { result ≡ optional_said image.now }
+fn optional_from_c(image: &PeImage) -> Option<OptionalHeader>
+    ensures { result ≡ optional_from_c image.now }
 {
     if !image.has_optional_header {
         return None;
     }
     let data_directories = DataDirectories {
-        data_directories: entries_said(image.directories),
+        data_directories: entries_from_c(image.directories),
     };
     Some(OptionalHeader {
         standard_fields: image.optional_header.standard_fields,
@@ -68,9 +68,9 @@ pub fn stub_of<'a>(image: &PeImage<'a>) -> Result<&'a [u8]>
 }
 
 /// The header that an image and the bytes of its DOS stub say, its Rich header part of the stub.
-pub fn header_said<'a>(image: &PeImage, stub: &'a [u8]) -> Header<'a>
-    ensures value { header_value result ≡ header_said image.now stub.now }
-    ensures optional { result.optional_header ≡ optional_said image.now }
+pub fn header_from_c<'a>(image: &PeImage, stub: &'a [u8]) -> Header<'a>
+    ensures value { header_value result ≡ header_from_c image.now stub.now }
+    ensures optional { result.optional_header ≡ optional_from_c image.now }
 {
     Header {
         dos_header: image.dos_header,
@@ -78,6 +78,6 @@ pub fn header_said<'a>(image: &PeImage, stub: &'a [u8]) -> Header<'a>
         rich_header: None,
         signature: PE_MAGIC,
         coff_header: image.coff_header,
-        optional_header: optional_said(image),
+        optional_header: optional_from_c(image),
     }
 }

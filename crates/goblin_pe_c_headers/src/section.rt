@@ -14,7 +14,7 @@ ghost use Rattle.goblin_pe_c_headers.specs.Calls.{ReadsWithout};
 ghost use Rattle.goblin_pe_c_headers.specs.Onward.{GivesRows, no_batch};
 ghost use Rattle.goblin_pe_c_headers.specs.Places.{headers_there};
 ghost use Rattle.goblin_pe_c_headers.specs.Relocations.{relocations_begin};
-ghost use Rattle.goblin_pe_c_headers.specs.Sections.{SectionBatch, naming_of, naming_said};
+ghost use Rattle.goblin_pe_c_headers.specs.Sections.{SectionBatch, naming_of, naming_for_c};
 ghost use Rattle.goblin_pe_c_headers.specs.Sections.{real_name_in, row_of, row_view, section_rows};
 ghost use Rattle.goblin_pe_c_headers.specs.Sections.{section_view, unnamed_row, with_name};
 ghost use Rattle.goblin_pe_c_headers.specs.Written.{Output, SetsName, WritesOut};
@@ -226,7 +226,7 @@ fn stored_section(headers: &[u8], index: usize, displacement: Option<u32>) -> Se
 fn row_at<'a>(naming: &Naming<'a>, headers: &'a [u8], index: usize) -> PeSection<'a>
     requires { index < length headers.now / 40 }
     ensures { let header = slice_range headers.now (40 * index) (40 * index + 40) in
-        row_view result ≡ row_of (naming_said naming.now) index header }
+        row_view result ≡ row_of (naming_for_c naming.now) index header }
 {
     let begin = SIZEOF_SECTION_TABLE * index;
     let header = &headers[begin..begin + SIZEOF_SECTION_TABLE];
@@ -246,7 +246,7 @@ fn fill_sections<'a>(
 ) -> PeBatch
     ensures { let old : SectionBatch = record { position = position.old; records = records.old } in
         let new : SectionBatch = record { position = position.new; records = records.new } in
-        GivesRows row_view (section_rows (naming_said naming.now) headers.now) old new result }
+        GivesRows row_view (section_rows (naming_for_c naming.now) headers.now) old new result }
 {
     let first = *position;
     let there = headers.len() / SIZEOF_SECTION_TABLE;
@@ -264,7 +264,7 @@ fn fill_sections<'a>(
 
 // What the names of an image's sections are read by.
 fn naming_of<'a>(image: &PeImage<'a>) -> Naming<'a>
-    ensures { naming_said result ≡ naming_of image.now }
+    ensures { naming_for_c result ≡ naming_of image.now }
 {
     Naming {
         bytes: image.bytes,

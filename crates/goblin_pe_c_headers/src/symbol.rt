@@ -12,7 +12,7 @@ ghost use Rattle.goblin_pe_c_headers.specs.Options.{longest_of};
 ghost use Rattle.goblin_pe_c_headers.specs.Symbols.{FindsTables, GivesSymbols, NamesOfText};
 ghost use Rattle.goblin_pe_c_headers.specs.Symbols.{SymbolBatch, auxiliary_of, found_tables, name_at_end};
 ghost use Rattle.goblin_pe_c_headers.specs.Symbols.{name_in, name_in_piece, named_symbol};
-ghost use Rattle.goblin_pe_c_headers.specs.Symbols.{named_symbol_view, string_at, strings_said};
+ghost use Rattle.goblin_pe_c_headers.specs.Symbols.{named_symbol_view, string_at, strings_from_c};
 ghost use Rattle.goblin_pe_c_headers.specs.Symbols.{symbol_named, texts_of};
 
 use crate::batch::{PeBatch, ended, goes_on};
@@ -223,8 +223,8 @@ fn fill_symbols_at<'a>(
 }
 
 // The texts of a string table: its bytes at an offset; there may be none.
-fn strings_said(bytes: &[u8], offset: usize, length: usize) -> Result<&[u8]>
-    ensures { Reads (λ s. s.now) result (strings_said offset length) bytes.now }
+fn strings_from_c(bytes: &[u8], offset: usize, length: usize) -> Result<&[u8]>
+    ensures { Reads (λ s. s.now) result (strings_from_c offset length) bytes.now }
 {
     if bytes.len() < offset || bytes.len() - offset < length {
         return Err(Error::Malformed(Cause::StringTable(offset, length)));
@@ -272,7 +272,7 @@ fn find_tables<'a>(bytes: &'a [u8], header: &CoffHeader, longest: Option<u32>) -
     };
     let size = COFF_SYMBOL_SIZE * header.number_of_symbol_table as usize;
     let records = pread_slice(bytes, header.pointer_to_symbol_table as usize, size)?;
-    let strings = strings_said(bytes, texts_begin(header), length)?;
+    let strings = strings_from_c(bytes, texts_begin(header), length)?;
     Ok(Tables {
         records,
         strings,
@@ -315,7 +315,7 @@ pub fn string_at<'a>(image: &PeImage<'a>, offset: usize) -> Option<&'a str>
 {
     let header = &image.coff_header;
     let length = texts_of(image.bytes, header).ok()??;
-    let strings = strings_said(image.bytes, texts_begin(header), length).ok()?;
+    let strings = strings_from_c(image.bytes, texts_begin(header), length).ok()?;
     let offset = offset.checked_sub(LENGTH_FIELD_SIZE)?;
     name_in_piece(strings, offset, longest_of(&image.options))
 }

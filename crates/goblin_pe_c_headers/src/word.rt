@@ -1,8 +1,8 @@
 //! The base relocations of a block, in batches.
 
 ghost use Rattle.std.specs.Prelude.{◌≡◌, ◌+◌, ◌<◌, ◌^◌, length, slice_get};
-ghost use Rattle.goblin_pe_c_headers.specs.Words.{GivesWords, WordBatch, block_words, word_said};
-ghost use Rattle.goblin_pe_c_headers.specs.Words.{words_said};
+ghost use Rattle.goblin_pe_c_headers.specs.Words.{GivesWords, WordBatch, block_words, word_for_c};
+ghost use Rattle.goblin_pe_c_headers.specs.Words.{words_for_c};
 
 use crate::batch::PeBatch;
 use crate::cursor::PeBaseRelocationCursor;
@@ -29,8 +29,8 @@ pub struct PeBaseRelocation {
 const SIZE: usize = 2;
 
 // The row of a word of a block for this page. (A cursor may have any page.)
-fn word_said(page: usize, word: RelocationWord) -> PeBaseRelocation
-    ensures { result ≡ word_said page word }
+fn word_for_c(page: usize, word: RelocationWord) -> PeBaseRelocation
+    ensures { result ≡ word_for_c page word }
 {
     PeBaseRelocation {
         rva: page.wrapping_add(usize::from(word.offset())),
@@ -42,14 +42,14 @@ fn word_said(page: usize, word: RelocationWord) -> PeBaseRelocation
 // The row of the word at an index of a block for this page, if there is one.
 #[tactic(auto, using(crate::proofs::GivenOnward::record_inside, crate::proofs::GivenOnward::record_outside))]
 fn word_at(page: usize, words: &[u8], index: usize) -> Option<PeBaseRelocation>
-    ensures { result ≡ slice_get (words_said page words.now) index }
+    ensures { result ≡ slice_get (words_for_c page words.now) index }
 {
     if words.len() / SIZE <= index {
         return None;
     }
     let begin = SIZE * index;
     let word = RelocationWord::in_record(&words[begin..begin + SIZE], Endian::Little);
-    Some(word_said(page, word))
+    Some(word_for_c(page, word))
 }
 
 // The words of a block from a cursor on.

@@ -18,10 +18,10 @@ use Rattle.goblin_pe.specs.declared.whole.Part.TheVariants.{Absent, Refused}
 use Rattle.goblin_pe.specs.declared.whole.Part.TheVariants as part
 use Rattle.goblin_pe_c_headers.specs.Onward.{GivesOnward, unrefused}
 use Rattle.goblin_pe_c_headers.specs.declared.batch.PeBatch.{PeBatch}
-use Rattle.goblin_pe_c_headers.proofs.Batches.{items-end, items-stay, told-none}
+use Rattle.goblin_pe_c_headers.proofs.Batches.{items-end, items-stay, done-none}
 use Rattle.goblin_pe_c_headers.proofs.GivenOnward.{onward-start}
 use Rattle.goblin_pe_c_tables.specs.Batches.{AddressBatch, GivesAddresses, addresses_in, at_room}
-use Rattle.goblin_pe_c_tables.specs.ExportDirectories.{address_said, addresses_said}
+use Rattle.goblin_pe_c_tables.specs.ExportDirectories.{address_for_c, addresses_for_c}
 
 -- ---- items with their indexes
 
@@ -40,23 +40,23 @@ numbered {A} xs i = elim (slice_get_cases xs i).1 [
 
 module _ (addressing : Addressing) (tables : ExportTables) where
   abbrev one : ℕ × ExportAddressTableEntry → PeExportAddress
-  one x = address_said addressing (tables.export_directory_table.ordinal_base + x.0) x.1
+  one x = address_for_c addressing (tables.export_directory_table.ordinal_base + x.0) x.1
 
   -- the record at an index
   pub address-some : (i : ℕ) (entry : ExportAddressTableEntry) → Some entry ≡ slice_get tables.export_address_table i
-      → Some (address_said addressing (tables.export_directory_table.ordinal_base + i) entry) ≡ slice_get (addresses_said addressing tables) i
+      → Some (address_for_c addressing (tables.export_directory_table.ordinal_base + i) entry) ≡ slice_get (addresses_for_c addressing tables) i
   address-some i entry is =
       ap (λ (o : Option ExportAddressTableEntry). option_map one (option_map (λ x. (i, x)) o)) is
       ∙ ap (option_map one) (sym (numbered tables.export_address_table i))
       ∙ sym (slice_get-map one (enumerate_from 0 tables.export_address_table) i)
 
-  pub address-none : (i : ℕ) → None ≡ slice_get tables.export_address_table i → None ≡ slice_get (addresses_said addressing tables) i
+  pub address-none : (i : ℕ) → None ≡ slice_get tables.export_address_table i → None ≡ slice_get (addresses_for_c addressing tables) i
   address-none i is =
       ap (λ (o : Option ExportAddressTableEntry). option_map one (option_map (λ x. (i, x)) o)) is
       ∙ ap (option_map one) (sym (numbered tables.export_address_table i))
       ∙ sym (slice_get-map one (enumerate_from 0 tables.export_address_table) i)
 
-  pub length-addresses : length (addresses_said addressing tables) ≡ length tables.export_address_table
+  pub length-addresses : length (addresses_for_c addressing tables) ≡ length tables.export_address_table
   length-addresses =
       length-map (enumerate_from 0 tables.export_address_table) one ∙ length-enumerate_from 0 tables.export_address_table
 
@@ -67,7 +67,7 @@ onward-none {W} items from old past =
     let start = onward-start (λ (w : W). w) items from old in
     let none : drop from items ≡ [] = drop_of_length-le items past in (
       items-end start.at from (ap unrefused none) (ap (λ (xs : List W). Some (unrefused xs)) none) (items-stay start.at),
-      (told-none start.at (ap unrefused none), start.moved),
+      (done-none start.at (ap unrefused none), start.moved),
     )
 
 -- ---- in a file
@@ -82,7 +82,7 @@ module _ (m : MapOfAddresses) (places : TablePlaces) (bytes : List ℕ) (found :
 
   -- where the directory was read
   pub addresses-given : (walk : Exports) → found ≡ part.Read walk → (batch : PeBatch) (new : AddressBatch)
-      → GivesOnward (addresses_said m.addressing (walked_tables walk)) old new batch → GivesAddresses m places bytes old new batch
+      → GivesOnward (addresses_for_c m.addressing (walked_tables walk)) old new batch → GivesAddresses m places bytes old new batch
   addresses-given walk is batch new gives = given (part.Read (walked_tables walk)) (ap (part_map walked_tables) is) batch new gives
 
   -- where there are none

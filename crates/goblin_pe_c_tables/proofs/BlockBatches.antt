@@ -24,9 +24,9 @@ use Rattle.goblin_pe_c_headers.specs.declared.batch.PeBatch.{PeBatch}
 use Rattle.goblin_pe_c_tables.specs.declared.block.PeRelocationBlock.{PeRelocationBlock}
 use Rattle.goblin_pe_c_headers.specs.Items.{without_causes}
 use Rattle.goblin_pe_c_headers.specs.Onward.{IsRefusedNext, values_before}
-use Rattle.goblin_pe_c_tables.specs.Batches.{BlockBatch, GivesBlocksIn, GivesBlocks, IsBlockCause, IsBlocksFault, at_room, block_said, block_table, blocks_from, placed, relocations_begin}
+use Rattle.goblin_pe_c_tables.specs.Batches.{BlockBatch, GivesBlocksIn, GivesBlocks, IsBlockCause, IsBlocksFault, at_room, block_for_c, block_table, blocks_from, placed, relocations_begin}
 use Rattle.goblin_pe_c_tables.specs.Places.{offset_in}
-use Rattle.goblin_pe_c_headers.proofs.Batches.{AtItems, items-end, items-fault, items-full, items-more, items-refused, items-start, items-stay, items-taken, items-then, told-end, told-full, told-none, told-refused}
+use Rattle.goblin_pe_c_headers.proofs.Batches.{AtItems, items-end, items-fault, items-full, items-more, items-refused, items-start, items-stay, items-taken, items-then, done-end, done-full, done-none, done-refused}
 
 -- ---- a refusal is never Memory
 
@@ -109,7 +109,7 @@ blocks-start begin directory from old =
     record { at = items-start (block_table begin (part.Read directory)) (blocks_from begin (part.Read directory)) from from old refl; moved = omega arith }
 
 module _ {begin : ℕ} {directory : List ℕ} {from : ℕ} {old : List PeRelocationBlock} {offset : ℕ} {records : List PeRelocationBlock} {count : ℕ} (h : AtBlocks begin directory from old offset records count) where
-  pub blocks-more : (block : RelocationBlock) (r : PeRelocationBlock) (place next : ℕ) → FindsItem directory offset (Some (Ok block)) → place ≡ begin + offset → r ≡ block_said (place, block_value block)
+  pub blocks-more : (block : RelocationBlock) (r : PeRelocationBlock) (place next : ℕ) → FindsItem directory offset (Some (Ok block)) → place ≡ begin + offset → r ≡ block_for_c (place, block_value block)
       → count < length records → next ≡ offset + block.size → AtBlocks begin directory from old next (set records count r) (count + 1)
   unfolding items-more items-then
   blocks-more block r place next found here says within is =
@@ -118,7 +118,7 @@ module _ {begin : ℕ} {directory : List ℕ} {from : ℕ} {old : List PeRelocat
       sum_by_push (λ (x : ℕ × Block). x.1.size) h.at.values b in
       let moved = h.moved in
       record {
-        at = items-more h.at b next next r (block-then begin directory offset (block_value block) next found is) within (says ∙ ap (λ (n : ℕ). block_said (n, block_value block)) here) refl;
+        at = items-more h.at b next next r (block-then begin directory offset (block_value block) next found is) within (says ∙ ap (λ (n : ℕ). block_for_c (n, block_value block)) here) refl;
         moved = omega (arith, pushed, moved, is);
       }
 
@@ -134,17 +134,17 @@ module _ {begin : ℕ} {directory : List ℕ} {from : ℕ} {old : List PeRelocat
   blocks-end none within =
       let no = block-none begin directory offset none in (
         items-end h.at offset no (ap (λ (items : List (Option (ℕ × Block))). Some items) no) (items-stay h.at),
-        (told-end h.at no within, moves),
+        (done-end h.at no within, moves),
       )
 
   pub blocks-full : length records ≤ count → AreGiven false
-  blocks-full full = (items-full h.at full, (told-full h.at full, moves))
+  blocks-full full = (items-full h.at full, (done-full h.at full, moves))
 
   module _ (e : ErrorOf) (is : FindsItem directory offset (Some (Err e))) where
     pub blocks-refused : count ≢ 0 → AreGiven false
     blocks-refused some =
         let no = block-refused begin directory offset e is in
-        (items-refused h.at no some, (told-refused h.at no, moves))
+        (items-refused h.at no some, (done-refused h.at no, moves))
 
     pub blocks-fault : count ≡ 0 → count < length records → (p : ℕ) → p ≡ from
         → IsRefusedNext (blocks_from begin (part.Read directory) from) × IsBlockCause from (part.Read directory) e × (0 < length old)
@@ -212,7 +212,7 @@ module _ (m : MapOfAddresses) (places : TablePlaces) (bytes : List ℕ) (x : ℕ
       let begin = relocations_begin m.addressing places in
       let start = items-start (block_table begin p) (blocks_from begin p) x x old refl in (
         items-end start x (none x) (ap (λ (items : List (Option (ℕ × Block))). Some items) (none x)) (λ room. refl),
-        (told-none start (none x), omega arith),
+        (done-none start (none x), omega arith),
       )
 
   pub blocks-none : (found : Part RelocationData) → (relocation_part m.opts m.addressing places).value bytes ≡ Some (part_map relocation_bytes found)

@@ -24,16 +24,16 @@ counted-then steps a b c (Some p) (Some q) h more = omega (arith, h, more)
 
 -- nothing is ahead at a cursor that is over
 module _ (m : MapOfAddresses) (magic : ℕ) (bytes : List ℕ) where
-  over-ahead : (c : ImportCursor) (place next untested : Option ℕ) → c.place ≡ place → c.next_record ≡ next → c.untested ≡ untested
-      → (is_none place && is_none next && is_none untested) ≡ true → (strict : Bool) → reads_strictly m ≡ strict → file_cursor_ahead m magic bytes c ≡ 0
+  over-ahead : (c : ImportCursor) (place next pending : Option ℕ) → c.place ≡ place → c.next_record ≡ next → c.pending ≡ pending
+      → (is_none place && is_none next && is_none pending) ≡ true → (strict : Bool) → reads_strictly m ≡ strict → file_cursor_ahead m magic bytes c ≡ 0
   over-ahead c None None None is1 is2 is3 over true mode = rw (is1, is2, is3, mode) refl
   over-ahead c None None None is1 is2 is3 over false mode = rw (is1, is2, is3, mode) refl
-  over-ahead c (Some x) next untested is1 is2 is3 over strict mode = absurd (cc over)
-  over-ahead c None (Some x) untested is1 is2 is3 over strict mode = absurd (cc over)
+  over-ahead c (Some x) next pending is1 is2 is3 over strict mode = absurd (cc over)
+  over-ahead c None (Some x) pending is1 is2 is3 over strict mode = absurd (cc over)
   over-ahead c None None (Some x) is1 is2 is3 over strict mode = absurd (cc over)
 
   pub none-ahead : (c : ImportCursor) → is_over c ≡ true → file_cursor_ahead m magic bytes c ≡ 0
-  none-ahead c over = over-ahead c c.place c.next_record c.untested refl refl refl over (reads_strictly m) refl
+  none-ahead c over = over-ahead c c.place c.next_record c.pending refl refl refl over (reads_strictly m) refl
 
 -- the walk has come to its end
 pub steps-end : (n steps ahead now next : ℕ) (limit left : Option ℕ) → AreCounted (Some steps) limit ahead now → AtSteps n limit left now next → next ≡ 0

@@ -20,27 +20,27 @@ use Rattle.goblin_pe.specs.declared.added.file_imports.FileImports.{FileImports}
 use Rattle.goblin_pe.specs.declared.added.file_imports.FileImports.TheVariants.{Narrow, Wide}
 use Rattle.goblin_pe_c_tables.specs.declared.import.PeImport.{PeImport}
 use Rattle.goblin_pe_c_tables.specs.declared.next.PeImportCursor.{PeImportCursor}
-use Rattle.goblin_pe_c_tables.specs.Batches.{Fills, GivesImports, GivesInFile, GoesOn, ImportBatch, cursor_numbers, cursor_said, import_cursor}
-use Rattle.goblin_pe_c_tables.specs.Batches.{import_table, is_over, option_said, position_ahead}
-use Rattle.goblin_pe_c_tables.specs.Imports.{import_said, import_view}
+use Rattle.goblin_pe_c_tables.specs.Batches.{Fills, GivesImports, GivesInFile, GoesOn, ImportBatch, cursor_for_c, cursor_from_c, import_cursor}
+use Rattle.goblin_pe_c_tables.specs.Batches.{import_table, is_over, option_from_c, position_ahead}
+use Rattle.goblin_pe_c_tables.specs.Imports.{import_for_c, import_view}
 use Rattle.goblin_pe_c_headers.specs.Onward.{AtBatch, IsRefusedNext, TellsEnd, unrefused}
-use Rattle.goblin_pe_c_headers.proofs.Batches.{AtItems, batch-more, items-cut, items-end, items-fault, items-full, items-gives, items-refused, items-start, items-then, told-cut, told-end, told-full, told-refused}
+use Rattle.goblin_pe_c_headers.proofs.Batches.{AtItems, batch-more, items-cut, items-end, items-fault, items-full, items-gives, items-refused, items-start, items-then, done-cut, done-end, done-full, done-refused}
 
 -- ---- the numbers of a cursor
 
-number-said : (o : Option ℕ) → option_said (is_some o) (unwrap_or o 0) ≡ o
+number-said : (o : Option ℕ) → option_from_c (is_some o) (unwrap_or o 0) ≡ o
 number-said None = refl
 number-said (Some n) = refl
 
-pub said-again : (c : ImportCursor) → cursor_said (cursor_numbers c) ≡ c
-said-again c = rw (number-said c.next_record, number-said c.place, number-said c.untested) refl
+pub said-again : (c : ImportCursor) → cursor_from_c (cursor_for_c c) ≡ c
+said-again c = rw (number-said c.next_record, number-said c.place, number-said c.pending) refl
 
 -- ---- a walk goes on
 
 module _ (m : MapOfAddresses) (places : TablePlaces) (bytes : List ℕ) where
   -- at the numbers of its cursor
   pub goes-at : (p : PeImportCursor) (c : ImportCursor) (imports : FileImports) → IsImportWalk m places.magic bytes imports
-      → file_imports_left imports ≡ file_cursor_left m places.magic bytes c → file_cursor imports ≡ c → p ≡ cursor_numbers c
+      → file_imports_left imports ≡ file_cursor_left m places.magic bytes c → file_cursor imports ≡ c → p ≡ cursor_for_c c
       → GoesOn m places bytes p imports
   goes-at p c imports walk left at numbers = record {
     walk = walk;
@@ -53,12 +53,12 @@ module _ (m : MapOfAddresses) (places : TablePlaces) (bytes : List ℕ) where
   }
 
   -- nothing is left at a cursor that is over
-  pub over-left : (c : ImportCursor) (place next untested : Option ℕ) → c.place ≡ place → c.next_record ≡ next → c.untested ≡ untested
-      → (is_none place && is_none next && is_none untested) ≡ true → file_cursor_left m places.magic bytes c ≡ []
+  pub over-left : (c : ImportCursor) (place next pending : Option ℕ) → c.place ≡ place → c.next_record ≡ next → c.pending ≡ pending
+      → (is_none place && is_none next && is_none pending) ≡ true → file_cursor_left m places.magic bytes c ≡ []
   unfolding entries_from imports_next
   over-left c None None None is1 is2 is3 over = rw (is1, is2, is3) refl
-  over-left c (Some x) next untested is1 is2 is3 over = absurd (cc over)
-  over-left c None (Some x) untested is1 is2 is3 over = absurd (cc over)
+  over-left c (Some x) next pending is1 is2 is3 over = absurd (cc over)
+  over-left c None (Some x) pending is1 is2 is3 over = absurd (cc over)
   over-left c None None (Some x) is1 is2 is3 over = absurd (cc over)
 
   -- where a batch begins
@@ -103,18 +103,18 @@ pub filled-none : (records : List PeImport) (first : ℕ) → Fills records reco
 filled-none records first = (
   omega arith,
   λ base before at.
-      subst (λ (values : List NumberedImport). AtBatch import_view import_said base values records first) (sym (append-nil before)) at,
+      subst (λ (values : List NumberedImport). AtBatch import_view import_for_c base values records first) (sym (append-nil before)) at,
 )
 
 pub filled-more : (old records : List PeImport) (first count : ℕ) (x : WalkedImport) (r : PeImport) → count < length records
-    → import_view r ≡ import_said (walked_value x) → (values : List NumberedImport) → Fills old records first count values
+    → import_view r ≡ import_for_c (walked_value x) → (values : List NumberedImport) → Fills old records first count values
     → Fills old (set records count r) first (count + 1) (values ++ walked_value x ∷ [])
 filled-more old records first count x r within says values h = (
   (let so_far = h.0 in omega (arith, so_far, length-append values (walked_value x ∷ []))),
   λ base before at.
-      subst (λ (values : List NumberedImport). AtBatch import_view import_said base values (set records count r) (count + 1))
+      subst (λ (values : List NumberedImport). AtBatch import_view import_for_c base values (set records count r) (count + 1))
       (append_assoc before values (walked_value x ∷ []))
-      (batch-more import_view import_said base (before ++ values) records count (walked_value x) r (h.1 base before at) within says),
+      (batch-more import_view import_for_c base (before ++ values) records count (walked_value x) r (h.1 base before at) within says),
 )
 
 -- ---- steps
@@ -166,12 +166,12 @@ module _ {m : MapOfAddresses} {places : TablePlaces} {bytes : List ℕ} {steps :
     (h : AtImports m places bytes steps start from old now p left records count) where
   -- an import has come, and those of its library that there is room for
   pub library-more : (x : WalkedImport) (next last : FileImports) (q : PeImportCursor) (limit : Option ℕ) (left1 left2 : ℕ) (r : PeImport) (new : List PeImport) (end : ℕ)
-      → GivesFileWithin now (Some left) (Some (Ok x)) next limit → left1 ≡ unwrap_or limit 0 → count < length records → import_view r ≡ import_said (walked_value x)
+      → GivesFileWithin now (Some left) (Some (Ok x)) next limit → left1 ≡ unwrap_or limit 0 → count < length records → import_view r ≡ import_for_c (walked_value x)
       → GivesInFile next last (Fills (set records count r) new (count + 1) end)
       → file_ahead next + left2 ≡ file_ahead last + left1 → GoesOn m places bytes q last
       → AtImports m places bytes steps start from old last q left2 new end
   library-more x next last q limit left1 left2 r new end gives is within says fills spent goes =
-      let at = batch-more import_view import_said old h.at.values records count (walked_value x) r h.at.held within says in
+      let at = batch-more import_view import_for_c old h.at.values records count (walked_value x) r h.at.held within says in
       let filled = library-given next last (Fills (set records count r) new (count + 1) end) fills in
       let one = limit-left left limit (file_ahead now) (file_ahead next) gives.looked in
       let counted = h.counted in
@@ -179,7 +179,7 @@ module _ {m : MapOfAddresses} {places : TablePlaces} {bytes : List ℕ} {steps :
       record {
         at = items-then h.at (walked_value x ∷ filled.values) last q new end
             (gives.steps.0 ∙ ap (λ (items : List (Option NumberedImport)). Some (walked_value x) ∷ items) filled.yielded)
-            (subst (λ (values : List NumberedImport). AtBatch import_view import_said old values new end) (append_assoc h.at.values (walked_value x ∷ []) filled.values)
+            (subst (λ (values : List NumberedImport). AtBatch import_view import_for_c old values new end) (append_assoc h.at.values (walked_value x ∷ []) filled.values)
             (filled.held.1 old (h.at.values ++ walked_value x ∷ []) at))
             (omega (arith, last_is)) goes.left;
         goes = goes;
@@ -202,7 +202,7 @@ module _ {m : MapOfAddresses} {places : TablePlaces} {bytes : List ℕ} {steps :
 
   -- there is no more room
   pub imports-full : length records ≤ count → AreGiven p left false
-  imports-full full = items-gives h.at (Says p left false) p (items-full h.at full) (told-full h.at full, kept)
+  imports-full full = items-gives h.at (Says p left false) p (items-full h.at full) (done-full h.at full, kept)
 
   module _ (next : FileImports) (limit : Option ℕ) (given : GivesFileWithin now (Some left) None next limit) (q : PeImportCursor)
       (goes : GoesOn m places bytes q next) (within : count < length records) (rest : ℕ) (is : rest ≡ unwrap_or limit 0) where
@@ -222,23 +222,23 @@ module _ {m : MapOfAddresses} {places : TablePlaces} {bytes : List ℕ} {steps :
     imports-end true ends =
         let none : file_imports_left next ≡ [] =
         walk-left m places.magic bytes (file_cursor next) next (goes.walk, refl)
-        ∙ over-left m places bytes (file_cursor next) (file_cursor next).place (file_cursor next).next_record (file_cursor next).untested refl refl refl (sym ends) in
+        ∙ over-left m places bytes (file_cursor next) (file_cursor next).place (file_cursor next).next_record (file_cursor next).pending refl refl refl (sym ends) in
         items-gives h.at (Says q rest true) q
         (items-end h.at q (given.steps.0 ∙ none) (goes.left ∙ ap (λ (items : List (Option NumberedImport)). Some items) none) stays)
-        (told-end h.at (given.steps.0 ∙ none) within, looked)
+        (done-end h.at (given.steps.0 ∙ none) within, looked)
     imports-end false ends = elim given.ended [
       | inl ended ↦ absurd (cc (ends ∙ ap is_over ended))
       | inr run ↦
           let out : rest ≡ 0 = is ∙ limit-out (length (file_bytes now)) left limit (file_ahead now) (file_ahead next) run in
           items-gives h.at (Says q rest false) q
           (items-cut h.at q out (goes.left ∙ ap (λ (items : List (Option NumberedImport)). Some items) (sym given.steps.0)) stays)
-          (told-cut h.at out, looked)
+          (done-cut h.at out, looked)
     ]
 
   module _ (e : ErrorOf) (next : FileImports) (limit : Option ℕ) (given : GivesFileWithin now (Some left) (Some (Err e)) next limit) where
     -- a refusal comes after something
     pub imports-refused : count ≢ 0 → AreGiven p left false
-    imports-refused some = items-gives h.at (Says p left false) p (items-refused h.at given.steps.0 some) (told-refused h.at given.steps.0, kept)
+    imports-refused some = items-gives h.at (Says p left false) p (items-refused h.at given.steps.0 some) (done-refused h.at given.steps.0, kept)
 
     -- or at once
     pub imports-fault : count ≡ 0 → count < length records

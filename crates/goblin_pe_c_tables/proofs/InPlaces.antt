@@ -10,29 +10,29 @@ use Rattle.goblin_pe.specs.added.Layouts.{layout_bytes, layout_map, layout_place
 use Rattle.goblin_pe.specs.Whole.{TablePlaces}
 use Rattle.goblin_pe_c_headers.specs.declared.options.PeOptions.{PeOptions}
 use Rattle.goblin_pe_c_headers.specs.declared.places.PePlaces.{PePlaces}
-use Rattle.goblin_pe_c_tables.specs.Places.{map_at, places_said}
+use Rattle.goblin_pe_c_tables.specs.Places.{map_at, places_from_c}
 use Rattle.goblin_pe_c_headers.specs.Places.{placed_sections}
 
 -- The layout by these places.
 pub record IsAt (o : PeOptions) (p : PePlaces) (bytes : List ℕ) (l : Layout) : Type 0 where
   pub read : (placed_sections p).value bytes ≡ Some (layout_sections l)
   pub over : layout_bytes l ≡ bytes
-  pub placed : layout_places l ≡ places_said p
+  pub placed : layout_places l ≡ places_from_c p
   pub mapped : layout_map l ≡ map_at o p (layout_sections l)
 
 module _ (o : PeOptions) (p : PePlaces) (bytes : List ℕ) (l : Layout) (at : IsAt o p bytes l)
     (P : MapOfAddresses → TablePlaces → List ℕ → Type 0) where
   -- what holds of it holds of what the places say
   pub holds-at : P (layout_map l) (layout_places l) (layout_bytes l)
-      → P (map_at o p (layout_sections l)) (places_said p) bytes
+      → P (map_at o p (layout_sections l)) (places_from_c p) bytes
   holds-at holds =
-      subst (λ (m : MapOfAddresses). P m (places_said p) bytes) at.mapped
+      subst (λ (m : MapOfAddresses). P m (places_from_c p) bytes) at.mapped
       (subst (λ (places : TablePlaces). P (layout_map l) places bytes) at.placed
       (subst (λ (b : List ℕ). P (layout_map l) (layout_places l) b) at.over holds))
 
   -- so it is given
   pub given-at : P (layout_map l) (layout_places l) (layout_bytes l)
-      → IsSomeAnd ((placed_sections p).value bytes) (λ s. P (map_at o p s) (places_said p) bytes)
+      → IsSomeAnd ((placed_sections p).value bytes) (λ s. P (map_at o p s) (places_from_c p) bytes)
   given-at holds = rw at.read (holds-at holds)
 
 -- and so is a fault
@@ -40,7 +40,7 @@ pub fault-at : (o : PeOptions) (p : PePlaces) (bytes : List ℕ) (l : Layout) �
     → (IsFault : MapOfAddresses → TablePlaces → List ℕ → ErrorOf → Type 0) (e : ErrorOf)
     → IsFault (layout_map l) (layout_places l) (layout_bytes l) e
     → FirstFault ((placed_sections p).value bytes) ((placed_sections p).IsCause bytes)
-    (λ s. IsFault (map_at o p s) (places_said p) bytes) e
+    (λ s. IsFault (map_at o p s) (places_from_c p) bytes) e
 fault-at o p bytes l at IsFault e fault =
     rw at.read (holds-at o p bytes l at (λ m places b. IsFault m places b e) fault)
 

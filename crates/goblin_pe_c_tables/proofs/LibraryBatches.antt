@@ -10,12 +10,12 @@ use Rattle.goblin_pe.specs.added.ImportWalks.{no_imports}
 use Rattle.goblin_pe.specs.added.Libraries.{AreLibrariesOver, GivesNextLibrary, IsCursorEndCause, IsLibrariesCause, LibraryValue, after_library, cursor_libraries, libraries_bytes, libraries_cursor, libraries_format, libraries_left, libraries_map, libraries_next, library_value}
 use Rattle.goblin_pe.specs.Whole.{TablePlaces, entry_format}
 use Rattle.goblin_pe_c_tables.specs.declared.next.PeImportCursor.{PeImportCursor}
-use Rattle.goblin_pe_c_tables.specs.Batches.{cursor_numbers, import_cursor}
-use Rattle.goblin_pe_c_tables.specs.Libraries.{GivesLibraries, LibraryBatch, library_said, library_table, library_view, position_after, position_by}
+use Rattle.goblin_pe_c_tables.specs.Batches.{cursor_for_c, import_cursor}
+use Rattle.goblin_pe_c_tables.specs.Libraries.{GivesLibraries, LibraryBatch, library_for_c, library_table, library_view, position_after, position_by}
 use Rattle.goblin_pe_c_headers.specs.Onward.{IsRefusedNext, TellsEnd, values_before}
 use Rattle.goblin_pe_import.specs.declared.added.library_walk.WalkedLibrary.{WalkedLibrary}
 use Rattle.goblin_pe_c_tables.specs.declared.library.PeLibrary.{PeLibrary}
-use Rattle.goblin_pe_c_headers.proofs.Batches.{AtItems, items-end, items-fault, items-full, items-gives, items-more, items-refused, items-start, items-taken, items-then, told-end, told-full, told-refused}
+use Rattle.goblin_pe_c_headers.proofs.Batches.{AtItems, items-end, items-fault, items-full, items-gives, items-more, items-refused, items-start, items-taken, items-then, done-end, done-full, done-refused}
 use Rattle.goblin_pe_c_tables.proofs.ImportBatches.{said-again}
 
 module _ (m : MapOfAddresses) (places : TablePlaces) (bytes : List ℕ) where
@@ -32,20 +32,20 @@ module _ (m : MapOfAddresses) (places : TablePlaces) (bytes : List ℕ) where
       ∙ ap comes at
 
   -- at the numbers of a cursor
-  at-numbers : (p : PeImportCursor) (c : ImportCursor) → p ≡ cursor_numbers c
+  at-numbers : (p : PeImportCursor) (c : ImportCursor) → p ≡ cursor_for_c c
       → (library_table m places bytes).from p ≡ Some (comes c)
   at-numbers p c numbers =
       ap (library_table m places bytes).from numbers
       ∙ ap (λ (at : ImportCursor). Some (comes at)) (said-again c)
 
   pub goes-on : (p : PeImportCursor) (it : Libraries) → AreLibrariesOver m (entry_format places.magic) bytes it
-      → p ≡ cursor_numbers (libraries_cursor it) → (library_table m places bytes).from p ≡ Some (libraries_left it)
+      → p ≡ cursor_for_c (libraries_cursor it) → (library_table m places bytes).from p ≡ Some (libraries_left it)
   goes-on p it over numbers =
       at-numbers p (libraries_cursor it) numbers
       ∙ ap (λ (items : List (Option LibraryValue)). Some items) (sym (left-at it (libraries_cursor it) over refl))
 
   -- nothing comes at the end
-  pub none-at_end : (p : PeImportCursor) → p ≡ cursor_numbers no_imports → (library_table m places bytes).from p ≡ Some []
+  pub none-at_end : (p : PeImportCursor) → p ≡ cursor_for_c no_imports → (library_table m places bytes).from p ≡ Some []
   unfolding libraries_next
   none-at_end p numbers = at-numbers p no_imports numbers
 
@@ -87,10 +87,10 @@ libraries-start m places bytes start from old begins over = record {
 
 -- after one more
 after-more : (p : PeImportCursor) (libraries : List LibraryValue) (x : LibraryValue)
-    → position_after p (libraries ++ x ∷ []) ≡ cursor_numbers (after_library x)
+    → position_after p (libraries ++ x ∷ []) ≡ cursor_for_c (after_library x)
 unfolding position_after
 after-more p [] x = refl
-after-more p (y ∷ libraries) x = after-more (cursor_numbers (after_library y)) libraries x
+after-more p (y ∷ libraries) x = after-more (cursor_for_c (after_library y)) libraries x
 
 module _ {m : MapOfAddresses} {places : TablePlaces} {bytes : List ℕ} {start : Libraries} {from : PeImportCursor} {old : List PeLibrary}
     {now : Libraries} {p : PeImportCursor} {records : List PeLibrary} {count : ℕ} (h : AtLibraries m places bytes start from old now p records count) where
@@ -107,7 +107,7 @@ module _ {m : MapOfAddresses} {places : TablePlaces} {bytes : List ℕ} {start :
   moves = h.moved ∙ ap (position_after from) (sym (items-taken h.at))
 
   pub libraries-more : (x : WalkedLibrary) (next : Libraries) (q : PeImportCursor) (r : PeLibrary) → GivesNextLibrary now (Some (Ok x)) next
-      → q ≡ cursor_numbers (libraries_cursor next) → count < length records → library_view r ≡ library_said m (library_value x)
+      → q ≡ cursor_for_c (libraries_cursor next) → count < length records → library_view r ≡ library_for_c m (library_value x)
       → AtLibraries m places bytes start from old next q (set records count r) (count + 1)
   unfolding items-more items-then
   libraries-more x next q r given numbers within says =
@@ -115,21 +115,21 @@ module _ {m : MapOfAddresses} {places : TablePlaces} {bytes : List ℕ} {start :
       record {
         at = items-more h.at (library_value x) next q r given.0.0 within says (goes-on m places bytes q next over numbers);
         over = over;
-        moved = numbers ∙ ap cursor_numbers given.3 ∙ sym (after-more from h.at.values (library_value x));
+        moved = numbers ∙ ap cursor_for_c given.3 ∙ sym (after-more from h.at.values (library_value x));
       }
 
   pub libraries-full : length records ≤ count → Given p false
-  libraries-full full = items-gives h.at (Says p false) p (items-full h.at full) (told-full h.at full, moves)
+  libraries-full full = items-gives h.at (Says p false) p (items-full h.at full) (done-full h.at full, moves)
 
-  pub libraries-end : (next : Libraries) (q : PeImportCursor) → GivesNextLibrary now None next → q ≡ cursor_numbers no_imports → count < length records → Given q true
+  pub libraries-end : (next : Libraries) (q : PeImportCursor) → GivesNextLibrary now None next → q ≡ cursor_for_c no_imports → count < length records → Given q true
   libraries-end next q given numbers within =
       let stays : length old ≡ 0 → q ≡ from = λ none. absurd (let same = h.at.held.same in omega (arith, none, same, within)) in
-      items-gives h.at (Says q true) q (items-end h.at q given.0.0 (none-at_end m places bytes q numbers) stays) (told-end h.at given.0.0 within, numbers)
+      items-gives h.at (Says q true) q (items-end h.at q given.0.0 (none-at_end m places bytes q numbers) stays) (done-end h.at given.0.0 within, numbers)
 
   module _ (e : ErrorOf) (next : Libraries) (given : GivesNextLibrary now (Some (Err e)) next) where
     pub libraries-refused : count ≢ 0 → Given p false
     libraries-refused some =
-        items-gives h.at (Says p false) p (items-refused h.at given.0.0 some) (told-refused h.at given.0.0, moves)
+        items-gives h.at (Says p false) p (items-refused h.at given.0.0 some) (done-refused h.at given.0.0, moves)
 
     pub libraries-fault : count ≡ 0 → count < length records
         → IsRefusedNext (libraries_left start) × IsLibrariesCause start e × (0 < length old)

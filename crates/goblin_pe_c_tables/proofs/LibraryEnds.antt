@@ -8,7 +8,7 @@ use Rattle.goblin_pe_sect.specs.Addresses.{MapOfAddresses, reads_strictly}
 use Rattle.goblin_pe_import.specs.ImportEntries.{EntryValue}
 use Rattle.goblin_pe_import.specs.ImportRecords.{address_table_rva, lookup_offset}
 use Rattle.goblin_pe_import.specs.Imports.{NumberedImport}
-use Rattle.goblin_pe_import.specs.added.ImportWalks.{addresses_of, imports_next, imports_of_entries, is_skipped, library_items, library_name, named_items, no_imports, origin, untested_table}
+use Rattle.goblin_pe_import.specs.added.ImportWalks.{addresses_of, imports_next, imports_of_entries, is_skipped, library_items, library_name, named_items, no_imports, origin, pending_table}
 use Rattle.goblin_pe_import.specs.KeptEntries.{entries_from}
 use Rattle.goblin_pe_import.specs.added.LeftOut.{leads_to_none}
 use Rattle.goblin_pe_import.specs.added.Libraries.{LibraryValue, inside_library, library_at}
@@ -58,7 +58,7 @@ module _ (m : MapOfAddresses) (places : TablePlaces) (bytes : List ℕ) (first p
   by-out true out there = rw (out, sym out-is ∙ out) refl
   by-out false out there =
       let name = named strict ((name_at m.addressing r.name_rva).value bytes) there in
-      let addresses = untested_table strict format m.addressing (Some (address_table_rva r)) in
+      let addresses = pending_table strict format m.addressing (Some (address_table_rva r)) in
       rw (out, sym out-is ∙ out, name, append-nil (refusal_of (addresses.value bytes))) refl
 
 pub libraries_end : LibrariesEnd

@@ -43,7 +43,7 @@ use Rattle.goblin_pe_c_headers.specs.Onward.{unrefused}
 use Rattle.goblin_pe_c_headers.specs.Options.{alignment_by, alignment_in, header_options, longest_of, options_at, options_in, view_of}
 use Rattle.goblin_pe_c_headers.specs.declared.options.PeOptions.{PeOptions}
 use Rattle.goblin_pe_c_tables.specs.Batches.{exports_in, import_table}
-use Rattle.goblin_pe_c_tables.specs.Places.{map_at, places_record, places_said}
+use Rattle.goblin_pe_c_tables.specs.Places.{map_at, places_record, places_from_c}
 use Rattle.goblin_pe_c_headers.specs.Places.{placed_sections}
 use Rattle.goblin_pe_c_tables.specs.Walked.{AreItems, AreWalked, WalksGive, items_in, walked_of, walked_tables}
 use Rattle.goblin_pe_c_tables.specs.declared.next.PeImportCursor.{PeImportCursor}
@@ -254,7 +254,7 @@ module _ (o : PeOptions) (bytes : List ℕ) (octets : IsBytes bytes) (short : le
     items =
         some-weaker ((placed_sections (places_record h)).value bytes)
         (λ found. map_at o (places_record h) found ≡ with_longest (longest_of o) map_whole)
-        (λ found. AreItems (walked_tables h t) (map_at o (places_record h) found) (places_said (places_record h)) bytes)
+        (λ found. AreItems (walked_tables h t) (map_at o (places_record h) found) (places_from_c (places_record h)) bytes)
         (λ found is. subst (λ (m : MapOfAddresses). AreItems (walked_tables h t) m places bytes) (sym is) are-items)
         ((leads_back h).sections (is_strict (header_options o).parse_mode) bytes s sections o);
   }

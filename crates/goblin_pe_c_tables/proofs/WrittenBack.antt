@@ -18,7 +18,7 @@ use Rattle.goblin_pe_head.proofs.PeHeaderRoundTrip.{dos_of, header_back, parts_o
 use Rattle.goblin_pe.specs.Whole.{places_in}
 use Rattle.goblin_pe_c_headers.specs.declared.image.PeImage.{PeImage}
 use Rattle.goblin_pe_c_headers.specs.Headers.{optional_record}
-use Rattle.goblin_pe_c_headers.specs.Written.{entry_said, header_said, image_stub, optional_said}
+use Rattle.goblin_pe_c_headers.specs.Written.{entry_from_c, header_from_c, image_stub, optional_from_c}
 use Rattle.goblin_pe_c_tables.specs.ReadImages.{image_of}
 use Rattle.goblin_pe_c_tables.specs.Written.{ImageWritesBack}
 
@@ -29,7 +29,7 @@ Entry = Option (ℕ × DataDirectory)
 
 -- where the records of its entries end is not written
 entries-same : (entries : List Entry)
-    → entries_fields (map entry_said (map directory_or_zeros entries)) ≡ entries_fields entries
+    → entries_fields (map entry_from_c (map directory_or_zeros entries)) ≡ entries_fields entries
 entries-same [] = refl
 entries-same (entry ∷ entries) =
     ap (λ (rest : List FieldValue). directory_fields (directory_or_zeros entry) ++ rest) (entries-same entries)
@@ -43,11 +43,11 @@ same-bytes h entries same = rw same refl
 
 part-back : (image : PeImage) (optional : Option OptionalHeader) → image.optional_header ≡ optional_record optional
     → image.has_optional_header ≡ is_some optional → image.directories ≡ (places_in optional).directories
-    → written_part Little (optional_said image) ≡ written_part Little optional
+    → written_part Little (optional_from_c image) ≡ written_part Little optional
 unfolding places_in
 part-back image None fields has directories = rw has refl
 part-back image (Some h) fields has directories =
-    rw (has, fields, directories) (same-bytes h (map entry_said (map directory_or_zeros h.data_directories.data_directories)) (entries-same h.data_directories.data_directories))
+    rw (has, fields, directories) (same-bytes h (map entry_from_c (map directory_or_zeros h.data_directories.data_directories)) (entries-same h.data_directories.data_directories))
 
 -- ---- the stub
 
@@ -84,7 +84,7 @@ stub-there bytes p stub is =
 
 -- what a record says is written as the header that strict mode read
 said-back : (image : PeImage) (h : PeHeader) → (pe_header true).value image.bytes.now ≡ Some h → image ≡ image_of image.options h image
-    → header_bytes Little (header_said image h.dos_stub) ≡ header_bytes Little h
+    → header_bytes Little (header_from_c image h.dos_stub) ≡ header_bytes Little h
 unfolding header_bytes header_parts
 said-back image h e is =
     let parts = parts_of true image.bytes.now h e in

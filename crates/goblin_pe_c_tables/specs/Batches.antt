@@ -32,11 +32,11 @@ use Rattle.goblin_pe_c_tables.specs.declared.export.PeExport.{PeExport}
 use Rattle.goblin_pe_c_tables.specs.declared.export_directory.PeExportAddress.{PeExportAddress}
 use Rattle.goblin_pe_c_tables.specs.declared.import.PeImport.{PeImport}
 use Rattle.goblin_pe_c_tables.specs.declared.next.PeImportCursor.{PeImportCursor}
-use Rattle.goblin_pe_c_tables.specs.ExportDirectories.{DirectorySaid, addresses_said, directory_said}
+use Rattle.goblin_pe_c_tables.specs.ExportDirectories.{DirectoryView, addresses_for_c, directory_for_c}
 use Rattle.goblin_pe_c_tables.specs.ExportDirectories.{no_export_directory}
-use Rattle.goblin_pe_c_tables.specs.Exports.{ExportSaid, export_said, export_view}
-use Rattle.goblin_pe_c_tables.specs.Imports.{GivesHere, ImportSaid, import_said, import_view}
-use Rattle.goblin_pe_c_tables.specs.Places.{TakesIndexAt, directory_offset, map_at, places_said}
+use Rattle.goblin_pe_c_tables.specs.Exports.{ExportView, export_for_c, export_view}
+use Rattle.goblin_pe_c_tables.specs.Imports.{GivesHere, ImportView, import_for_c, import_view}
+use Rattle.goblin_pe_c_tables.specs.Places.{TakesIndexAt, directory_offset, map_at, places_from_c}
 use Rattle.goblin_pe_c_headers.specs.Places.{placed_sections}
 use Rattle.goblin_pe_c_headers.specs.Items.{without_causes}
 use Rattle.goblin_pe_c_headers.specs.Onward.{AtBatch, Batch, FillsNext, GivesOnward}
@@ -54,25 +54,25 @@ at_room room count is_done = record { count = count; is_done = is_done && not (r
 -- ---- imports
 
 -- a number that is there
-abbrev pub option_said : Bool → ℕ → Option ℕ
-option_said is n = if is then Some n else None
+abbrev pub option_from_c : Bool → ℕ → Option ℕ
+option_from_c is n = if is then Some n else None
 
 -- the cursor that these numbers say
-abbrev pub cursor_said : PeImportCursor → ImportCursor
-cursor_said p = record {
+abbrev pub cursor_from_c : PeImportCursor → ImportCursor
+cursor_from_c p = record {
   first_record = p.first_record;
-  next_record = option_said p.has_next p.next_record;
+  next_record = option_from_c p.has_next p.next_record;
   library = p.library;
   name_rva = p.name_rva;
   rva = p.rva;
   table_offset = p.table_offset;
-  place = option_said p.has_place p.place;
-  untested = option_said p.has_address_table p.address_table;
+  place = option_from_c p.has_place p.place;
+  pending = option_from_c p.has_address_table p.address_table;
 }
 
 -- the numbers of a cursor
-abbrev pub cursor_numbers : ImportCursor → PeImportCursor
-cursor_numbers c = record {
+abbrev pub cursor_for_c : ImportCursor → PeImportCursor
+cursor_for_c c = record {
   first_record = c.first_record;
   next_record = unwrap_or c.next_record 0;
   library = c.library;
@@ -80,24 +80,24 @@ cursor_numbers c = record {
   place = unwrap_or c.place 0;
   name_rva = c.name_rva;
   rva = c.rva;
-  address_table = unwrap_or c.untested 0;
+  address_table = unwrap_or c.pending 0;
   is_begun = true;
   has_next = is_some c.next_record;
   has_place = is_some c.place;
-  has_address_table = is_some c.untested;
+  has_address_table = is_some c.pending;
 }
 
 -- the cursor at a position: the one that it says, or else where the imports begin
 abbrev pub import_cursor : MapOfAddresses → TablePlaces → PeImportCursor → Reading ImportCursor
 import_cursor m places p =
-    pick p.is_begun (given (cursor_said p)) (import_begin m.opts m.addressing places)
+    pick p.is_begun (given (cursor_from_c p)) (import_begin m.opts m.addressing places)
 
 -- the imports of a file
 abbrev pub import_table : MapOfAddresses → TablePlaces → List ℕ
-    → Table PeImportCursor PeImport NumberedImport ImportSaid
+    → Table PeImportCursor PeImport NumberedImport ImportView
 import_table m places bytes = record {
   view = import_view;
-  said = import_said;
+  said = import_for_c;
   from = λ p. option_map (file_cursor_left m places.magic bytes) ((import_cursor m places p).value bytes);
 }
 
@@ -111,7 +111,7 @@ position_ahead m places bytes p =
 
 -- nothing comes at a cursor: it is in no library, and no record and no address table are left
 abbrev pub is_over : ImportCursor → Bool
-is_over c = is_none c.place && is_none c.next_record && is_none c.untested
+is_over c = is_none c.place && is_none c.next_record && is_none c.pending
 
 -- A step looks at a slot or a record. Of the steps are gone as many as are no longer ahead; or all, and
 -- at most n more, as the slots of an address table are looked at in one go.
@@ -134,8 +134,8 @@ abbrev pub Fills : List PeImport → List PeImport → ℕ → ℕ → List Numb
 Fills old new first last values =
     (last ≡ first + length values)
     × ((base : List PeImport) (before : List NumberedImport)
-    → AtBatch import_view import_said base before old first
-    → AtBatch import_view import_said base (before ++ values) new last)
+    → AtBatch import_view import_for_c base before old first
+    → AtBatch import_view import_for_c base (before ++ values) new last)
 
 -- `GivesHere` of the imports of a file
 abbrev pub GivesInFile : FileImports → FileImports → (List NumberedImport → Type 0) → Type 0
@@ -167,10 +167,10 @@ pointers_in Refused = 0
 
 -- the exports of tables
 abbrev pub export_table : MapOfAddresses → List ℕ → Part (ExportTables × List NumberedExport)
-    → Table ℕ PeExport NumberedExport ExportSaid
+    → Table ℕ PeExport NumberedExport ExportView
 export_table m bytes p = record {
   view = export_view;
-  said = export_said;
+  said = export_for_c;
   from = λ x. Some (unrefused (exports_in m bytes x p));
 }
 
@@ -191,10 +191,10 @@ GivesExports m places bytes before after old new batch =
     (λ left. LooksAtPointers before after (pointers_in p) old.position new.position) old new batch)
 
 -- the exports that a walk gives; the walk is the position
-abbrev pub export_walk : Table Exports PeExport NumberedExport ExportSaid
+abbrev pub export_walk : Table Exports PeExport NumberedExport ExportView
 export_walk = record {
   view = export_view;
-  said = export_said;
+  said = export_for_c;
   from = λ walk. Some (unrefused (exports_left walk));
 }
 
@@ -215,12 +215,12 @@ IsExportBatchFault m places bytes old e = IsExportsFault m places bytes e
 -- ---- what the export directory says
 
 -- its record, zeros where it is not read; the names of exports have no say in that
-abbrev pub directory_record_in : Part ExportTables → DirectorySaid
+abbrev pub directory_record_in : Part ExportTables → DirectoryView
 directory_record_in Absent = no_export_directory
-directory_record_in (part.Read tables) = directory_said tables
+directory_record_in (part.Read tables) = directory_for_c tables
 directory_record_in Refused = no_export_directory
 
-abbrev pub SaysDirectory : MapOfAddresses → TablePlaces → List ℕ → DirectorySaid → Type 0
+abbrev pub SaysDirectory : MapOfAddresses → TablePlaces → List ℕ → DirectoryView → Type 0
 SaysDirectory m places bytes said =
     IsSomeAnd ((address_part m.opts m.addressing places).value bytes) (λ p. said ≡ directory_record_in p)
 
@@ -238,7 +238,7 @@ IsAddressBatchFault m places bytes old e = IsAddressesFault m places bytes e
 -- their records, none if the directory is not read
 abbrev pub addresses_in : Addressing → Part ExportTables → List PeExportAddress
 addresses_in addressing Absent = []
-addresses_in addressing (part.Read tables) = addresses_said addressing tables
+addresses_in addressing (part.Read tables) = addresses_for_c addressing tables
 addresses_in addressing Refused = []
 
 abbrev pub AddressBatch : Type 0
@@ -272,8 +272,8 @@ blocks_from begin (part.Read directory) x =
 blocks_from begin Refused x = []
 
 -- the record of a block at a file offset
-abbrev pub block_said : ℕ × Block → PeRelocationBlock
-block_said x = record {
+abbrev pub block_for_c : ℕ × Block → PeRelocationBlock
+block_for_c x = record {
   rva = x.1.rva;
   size = x.1.size;
   reserved = 0;
@@ -290,7 +290,7 @@ IsBlockCause x Refused e = ⊥
 abbrev pub block_table : ℕ → Part (List ℕ)
     → Table ℕ PeRelocationBlock (ℕ × Block) PeRelocationBlock
 block_table begin p =
-    record { view = λ r. r; said = block_said; from = λ x. Some (blocks_from begin p x) }
+    record { view = λ r. r; said = block_for_c; from = λ x. Some (blocks_from begin p x) }
 
 abbrev pub BlockBatch : Type 0
 BlockBatch = Batch ℕ PeRelocationBlock
@@ -326,13 +326,13 @@ abbrev pub GivesBatch : PeImage
 GivesBatch image Gives IsFault Left (Ok x) =
     let p = image_places image in
     IsSomeAnd ((placed_sections p).value image.bytes.now)
-    (λ sections. Gives (map_at image.options p sections) (places_said p))
+    (λ sections. Gives (map_at image.options p sections) (places_from_c p))
 GivesBatch image Gives IsFault Left (Err e) =
     let p = image_places image in
     let sections = placed_sections p in
     (¬ IsMemory e
     → FirstFault (sections.value image.bytes.now) (sections.IsCause image.bytes.now)
-    (λ sections. IsFault (map_at image.options p sections) (places_said p)) e)
+    (λ sections. IsFault (map_at image.options p sections) (places_from_c p)) e)
     × (IsMemory e → TakesIndexAt p image.bytes.now)
     × Left
 

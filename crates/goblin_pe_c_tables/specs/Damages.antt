@@ -21,7 +21,7 @@ use Rattle.goblin_pe_c_headers.specs.Places.{image_places, placed_sections}
 use Rattle.goblin_pe_c_headers.specs.declared.fault.PeFault.{PeFault}
 use Rattle.goblin_pe_c_headers.specs.declared.image.PeImage.{PeImage}
 use Rattle.goblin_pe_c_tables.specs.Batches.{pointers_in}
-use Rattle.goblin_pe_c_tables.specs.Places.{TakesIndexAt, directory_offset, map_at, places_said}
+use Rattle.goblin_pe_c_tables.specs.Places.{TakesIndexAt, directory_offset, map_at, places_from_c}
 use Rattle.goblin_pe_c_tables.specs.Steps.{or_fault, section_steps, steps_fault}
 use Rattle.goblin_pe_c_tables.specs.declared.damage.PeDamage.{PeDamage}
 
@@ -124,16 +124,16 @@ damage_map image sections = mode_map true image sections
 abbrev pub AreTooFew : PeImage → ℕ → List Section → Type 0
 AreTooFew image steps sections =
     let m = mode_map false image sections in
-    steps ≤ all_imports m (places_said (image_places image)) image.bytes.now
+    steps ≤ all_imports m (places_from_c (image_places image)) image.bytes.now
 
 -- the damage with these sections, and the steps that were taken
 abbrev pub FindsDamage : PeImage → ℕ → List Section → Option (PeDamage × ℕ) → Type 0
 FindsDamage image steps sections None =
-    DamageSteps (damage_map image sections) (places_said (image_places image)) image.bytes.now steps None
+    DamageSteps (damage_map image sections) (places_from_c (image_places image)) image.bytes.now steps None
     ⊎ AreTooFew image steps sections
 FindsDamage image steps sections (Some found) =
     let m = damage_map image sections in
-    let places = places_said (image_places image) in
+    let places = places_from_c (image_places image) in
     DamageSteps m places image.bytes.now steps (Some found.1)
     × (d : Damage) × IsDamagedBy image m places image.bytes.now d × (found.0 ≡ damage_record d)
 

@@ -15,8 +15,8 @@ is_forwarder (variant.ExportRVA rva) = false
 is_forwarder (variant.ForwarderRVA rva) = true
 
 -- the record of an entry with an ordinal
-abbrev pub address_said : Addressing → ℕ → ExportAddressTableEntry → PeExportAddress
-address_said addressing ordinal entry = record {
+abbrev pub address_for_c : Addressing → ℕ → ExportAddressTableEntry → PeExportAddress
+address_for_c addressing ordinal entry = record {
   ordinal = ordinal;
   rva = rva_of entry;
   offset = unwrap_or (addressing.offset (rva_of entry)) 0;
@@ -26,21 +26,21 @@ address_said addressing ordinal entry = record {
 }
 
 -- the records of all entries; an ordinal is the ordinal base and an index
-abbrev pub addresses_said : Addressing → ExportTables → List PeExportAddress
-addresses_said addressing tables =
-    map (λ x. address_said addressing (tables.export_directory_table.ordinal_base + x.0) x.1)
+abbrev pub addresses_for_c : Addressing → ExportTables → List PeExportAddress
+addresses_for_c addressing tables =
+    map (λ x. address_for_c addressing (tables.export_directory_table.ordinal_base + x.0) x.1)
     (enumerate_from 0 tables.export_address_table)
 
 -- a record of what an export directory says, its slice as a list
-pub record DirectorySaid : Type 0 where
+pub record DirectoryView : Type 0 where
   pub name : List ℕ
   pub table : ExportDirectoryTable
   pub has_name : Bool
   pub is_present : Bool
   pub reserved : List ℕ
 
-abbrev pub directory_said : ExportTables → DirectorySaid
-directory_said tables = record {
+abbrev pub directory_for_c : ExportTables → DirectoryView
+directory_for_c tables = record {
   name = unwrap_or tables.name [];
   table = tables.export_directory_table;
   has_name = is_some tables.name;
@@ -49,7 +49,7 @@ directory_said tables = record {
 }
 
 -- zeros, if the exports are not read
-abbrev pub no_export_directory : DirectorySaid
+abbrev pub no_export_directory : DirectoryView
 no_export_directory = record {
   name = [];
   table = record {
@@ -71,7 +71,7 @@ no_export_directory = record {
 }
 
 -- what a record holds
-abbrev pub directory_view : PeExportDirectory → DirectorySaid
+abbrev pub directory_view : PeExportDirectory → DirectoryView
 directory_view d = record {
   name = d.name.now;
   table = d.«record»;

@@ -9,7 +9,7 @@ use Rattle.goblin_pe_c_tables.specs.declared.forwarder.ForwarderKind.TheVariants
 use Rattle.goblin_pe_c_tables.specs.declared.forwarder.PeForwarder.{PeForwarder}
 
 -- a record of a forwarder, its slices as lists
-pub record ForwarderSaid : Type 0 where
+pub record ForwarderView : Type 0 where
   pub dll : List ℕ
   pub name : List ℕ
   pub ordinal : ℕ
@@ -17,9 +17,9 @@ pub record ForwarderSaid : Type 0 where
   pub reserved : ℕ
 
 -- a record of an export, its slices as lists
-pub record ExportSaid : Type 0 where
+pub record ExportView : Type 0 where
   pub name : List ℕ
-  pub forwarder : ForwarderSaid
+  pub forwarder : ForwarderView
   pub ordinal : ℕ
   pub hint : ℕ
   pub rva : ℕ
@@ -36,16 +36,16 @@ kind_number kind.Name = 1
 kind_number kind.Ordinal = 2
 
 -- the record of a forwarder; zeros without one
-abbrev pub forwarder_said : Option Forwarder → ForwarderSaid
-forwarder_said None =
+abbrev pub forwarder_for_c : Option Forwarder → ForwarderView
+forwarder_for_c None =
     record { dll = []; name = []; ordinal = 0; kind = kind_number kind.None; reserved = 0 }
-forwarder_said (Some (ByName name lib)) =
+forwarder_for_c (Some (ByName name lib)) =
     record { dll = lib; name = name; ordinal = 0; kind = kind_number kind.Name; reserved = 0 }
-forwarder_said (Some (ByOrdinal ordinal lib)) =
+forwarder_for_c (Some (ByOrdinal ordinal lib)) =
     record { dll = lib; name = []; ordinal = ordinal; kind = kind_number kind.Ordinal; reserved = 0 }
 
 -- the record of an export with this forwarder; what the export does not have is nothing, or 0
-abbrev pub said_with : NumberedExport → ForwarderSaid → ExportSaid
+abbrev pub said_with : NumberedExport → ForwarderView → ExportView
 said_with x forwarder = record {
   name = unwrap_or x.row.name [];
   forwarder = forwarder;
@@ -60,15 +60,15 @@ said_with x forwarder = record {
 }
 
 -- the record of an export
-abbrev pub export_said : NumberedExport → ExportSaid
-export_said x = said_with x (forwarder_said x.row.reexport)
+abbrev pub export_for_c : NumberedExport → ExportView
+export_for_c x = said_with x (forwarder_for_c x.row.reexport)
 
 -- the same as if it were no forwarder
-abbrev pub said_without_forwarder : NumberedExport → ExportSaid
-said_without_forwarder x = said_with x (forwarder_said None)
+abbrev pub said_without_forwarder : NumberedExport → ExportView
+said_without_forwarder x = said_with x (forwarder_for_c None)
 
 -- what the records hold
-abbrev pub forwarder_view : PeForwarder → ForwarderSaid
+abbrev pub forwarder_view : PeForwarder → ForwarderView
 forwarder_view f = record {
   dll = f.dll.now;
   name = f.name.now;
@@ -77,7 +77,7 @@ forwarder_view f = record {
   reserved = f.reserved;
 }
 
-abbrev pub export_view : PeExport → ExportSaid
+abbrev pub export_view : PeExport → ExportView
 export_view x = record {
   name = x.name.now;
   forwarder = forwarder_view x.forwarder;

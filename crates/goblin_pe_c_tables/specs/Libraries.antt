@@ -11,14 +11,14 @@ use Rattle.goblin_pe.specs.added.Libraries.{cursor_libraries, inside_library, li
 use Rattle.goblin_pe.specs.Whole.{TablePlaces, entry_format}
 use Rattle.goblin_pe_c_tables.specs.declared.library.PeLibrary.{PeLibrary}
 use Rattle.goblin_pe_c_tables.specs.declared.next.PeImportCursor.{PeImportCursor}
-use Rattle.goblin_pe_c_tables.specs.Batches.{cursor_numbers, import_cursor, import_table}
+use Rattle.goblin_pe_c_tables.specs.Batches.{cursor_for_c, import_cursor, import_table}
 use Rattle.goblin_pe_c_headers.specs.Onward.{Batch, FillsNext, IsNextFault, Table, values_before}
 use Rattle.goblin_pe_c_headers.specs.declared.batch.PeBatch.{PeBatch}
 use Rattle.goblin_pe_c_headers.specs.Faults.{status_of}
 use Rattle.goblin_pe_c_headers.specs.declared.fault.PeFault.{PeFault}
 
 -- a record of a library, its slice as a list
-pub record LibrarySaid : Type 0 where
+pub record LibraryView : Type 0 where
   pub name : List ℕ
   pub name_fault : PeFault
   pub index : ℕ
@@ -29,25 +29,25 @@ pub record LibrarySaid : Type 0 where
   pub reserved : List ℕ
 
 -- a name, no bytes where it can't be read
-abbrev pub name_said : Result (List ℕ) ErrorOf → List ℕ
-name_said (Ok name) = name
-name_said (Err e) = []
+abbrev pub name_for_c : Result (List ℕ) ErrorOf → List ℕ
+name_for_c (Ok name) = name
+name_for_c (Err e) = []
 
 -- the record of a library, by a map of addresses
-abbrev pub library_said : MapOfAddresses → LibraryValue → LibrarySaid
-library_said m x = record {
-  name = name_said x.name;
+abbrev pub library_for_c : MapOfAddresses → LibraryValue → LibraryView
+library_for_c m x = record {
+  name = name_for_c x.name;
   name_fault = status_of x.name;
   index = x.index;
   offset = x.offset;
-  imports = cursor_numbers (inside_library (reads_strictly m) m.addressing x);
+  imports = cursor_for_c (inside_library (reads_strictly m) m.addressing x);
   entry = x.entry;
   is_skipped = x.is_left_out;
   reserved = 0 ∷ 0 ∷ 0 ∷ [];
 }
 
 -- what a record holds
-abbrev pub library_view : PeLibrary → LibrarySaid
+abbrev pub library_view : PeLibrary → LibraryView
 library_view x = record {
   name = x.name.now;
   name_fault = x.name_fault;
@@ -61,10 +61,10 @@ library_view x = record {
 
 -- the libraries of a file, from any cursor of its imports on
 abbrev pub library_table : MapOfAddresses → TablePlaces → List ℕ
-    → Table PeImportCursor PeLibrary LibraryValue LibrarySaid
+    → Table PeImportCursor PeLibrary LibraryValue LibraryView
 library_table m places bytes = record {
   view = library_view;
-  said = library_said m;
+  said = library_for_c m;
   from = λ p. option_map (cursor_libraries m (entry_format places.magic) bytes)
       ((import_cursor m places p).value bytes);
 }
@@ -76,12 +76,12 @@ LibraryBatch = Batch PeImportCursor PeLibrary
 unfoldable pub position_after : PeImportCursor → List LibraryValue → PeImportCursor
 position_after p [] = p
 position_after p (library ∷ libraries) =
-    position_after (cursor_numbers (after_library library)) libraries
+    position_after (cursor_for_c (after_library library)) libraries
 
 -- The new position is the end if the call is done, or else after the libraries that are given.
 abbrev pub position_by : Bool → PeImportCursor → List LibraryValue → PeImportCursor
 position_by is_done p libraries =
-    if is_done then cursor_numbers no_imports else position_after p libraries
+    if is_done then cursor_for_c no_imports else position_after p libraries
 
 abbrev pub GivesLibraries : MapOfAddresses → TablePlaces → List ℕ → LibraryBatch → LibraryBatch
     → PeBatch → Type 0
@@ -108,5 +108,5 @@ LibrariesEnd =
     let format = entry_format places.magic in
     let library = library_at format m.addressing bytes first p r in
     (first == 0) ≡ false → IsSome ((library_name strict m.addressing r).value bytes)
-    → (import_table m places bytes).from (library_said m library).imports
+    → (import_table m places bytes).from (library_for_c m library).imports
     ≡ Some (until_refused (library_items strict format m.addressing bytes library.index r))

@@ -17,8 +17,8 @@ use Rattle.goblin_pe_c_headers.specs.Places.{placed_sections}
 
 -- where the tables lie, as numbers, with the offset of the section table, the size of the headers and
 -- the number of the table's records
-abbrev pub places_numbers : ℕ → ℕ → ℕ → TablePlaces → PePlaces
-places_numbers section_table headers number_of_sections t = record {
+abbrev pub places_for_c : ℕ → ℕ → ℕ → TablePlaces → PePlaces
+places_for_c section_table headers number_of_sections t = record {
   section_table = section_table;
   directories = t.directories;
   file_alignment = t.file_alignment;
@@ -29,14 +29,14 @@ places_numbers section_table headers number_of_sections t = record {
 
 abbrev pub places_record : PeHeader → PePlaces
 places_record h =
-    places_numbers (section_table_offset h) (size_of_headers h.optional_header)
+    places_for_c (section_table_offset h) (size_of_headers h.optional_header)
     h.coff_header.number_of_sections (places_in h.optional_header)
 
 -- ---- what a record says
 
 -- where the tables lie
-abbrev pub places_said : PePlaces → TablePlaces
-places_said p = record {
+abbrev pub places_from_c : PePlaces → TablePlaces
+places_from_c p = record {
   magic = p.magic;
   file_alignment = p.file_alignment;
   directories = p.directories;
@@ -66,7 +66,7 @@ TakesIndexAt p bytes =
 -- The places of a header lead back to its file: its tables lie there, and addresses are mapped by
 -- the sections after it, and in the loader's view by its front. Names are read up to the limit.
 pub record LeadsBack (h : PeHeader) : Type 0 where
-  pub tables : places_said (places_record h) ≡ places_in h.optional_header
+  pub tables : places_from_c (places_record h) ≡ places_in h.optional_header
   pub sections : (strict : Bool) (bytes : List ℕ) (sections : List Section)
       → (sections_after strict h).value bytes ≡ Some sections → (o : PeOptions)
       → IsSomeAnd ((placed_sections (places_record h)).value bytes) (λ found.

@@ -26,7 +26,7 @@ use Rattle.goblin_pe.specs.Imports.{NumberedImport}
 use Rattle.goblin_pe.specs.Whole.{NumberedTables, TableParts, by_layout, collected_tables, imports_in}
 use Rattle.goblin_pe.specs.Whole.{IfRead, TablePlaces, export_part, layout, part_map, places_in, relocation_part, tables_with}
 use Rattle.goblin_pe_c_tables.specs.Batches.{exports_in, import_table}
-use Rattle.goblin_pe_c_tables.specs.Places.{map_at, places_record, places_said}
+use Rattle.goblin_pe_c_tables.specs.Places.{map_at, places_record, places_from_c}
 use Rattle.goblin_pe_c_headers.specs.Places.{placed_sections}
 use Rattle.goblin_pe_c_tables.specs.declared.next.PeImportCursor.{PeImportCursor}
 use Rattle.goblin_pe_c_tables.specs.Damages.{IsDamagedBy, damage_map, damage_record}
@@ -118,7 +118,7 @@ pub record AreWalked (o : PeOptions) (bytes : List ℕ) (w : WalkedFile) : Type 
   pub read : (layout (header_options o)).value bytes ≡ Some (w.header, w.sections)
   pub items : let places = places_record w.header in
       IsSomeAnd ((placed_sections places).value bytes)
-      (λ sections. AreItems w.tables (map_at o places sections) (places_said places) bytes)
+      (λ sections. AreItems w.tables (map_at o places sections) (places_from_c places) bytes)
 
 -- What is read of a file is what walks give, which read names whole.
 unfoldable pub WalksGive : Type 0
@@ -138,7 +138,7 @@ SoundIsWalkedAlike =
     → (layout (header_options image.options)).value image.bytes.now ≡ Some l
     → image ≡ image_of image.options l.0 image
     → IsSomeAnd ((placed_sections (image_places image)).value image.bytes.now) (λ found.
-    IsDamagedBy image (damage_map image found) (places_said (image_places image)) image.bytes.now d)
+    IsDamagedBy image (damage_map image found) (places_from_c (image_places image)) image.bytes.now d)
     → (damage_record d).is_sound ≡ true
     → let opts = options_at image.options (places_in l.0.optional_header).file_alignment in
     let view = view_of image.options in

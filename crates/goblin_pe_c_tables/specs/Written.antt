@@ -5,7 +5,7 @@ use Rattle.goblin_base.specs.Bytes.{IsBytes}
 use Rattle.goblin_pe_head.specs.HeaderLaws.{filling_after, header_end}
 use Rattle.goblin_pe_head.specs.HeaderReadings.{pe_header}
 use Rattle.goblin_pe_head.specs.PeHeader.{PeHeader, header_bytes}
-use Rattle.goblin_pe_c_headers.specs.Written.{header_said, image_stub}
+use Rattle.goblin_pe_c_headers.specs.Written.{header_from_c, image_stub}
 use Rattle.goblin_pe_c_headers.specs.declared.image.PeImage.{PeImage}
 use Rattle.goblin_pe_c_tables.specs.ReadImages.{image_of}
 
@@ -16,5 +16,5 @@ ImageWritesBack =
     (image : PeImage) (h : PeHeader) → IsBytes image.bytes.now
     → (pe_header true).value image.bytes.now ≡ Some h → image ≡ image_of image.options h image
     → IsSomeAnd ((image_stub image).value image.bytes.now) (λ stub.
-    header_bytes Little (header_said image stub)
+    header_bytes Little (header_from_c image stub)
     ≡ Some (take (header_end h) image.bytes.now ++ filling_after h.optional_header))

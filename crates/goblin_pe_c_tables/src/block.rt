@@ -5,7 +5,7 @@ ghost use Rattle.goblin_base.specs.Answers.{IsMemory};
 ghost use Rattle.goblin_pe_sect.specs.BaseRelocations.{block_value, relocation_bytes};
 ghost use Rattle.goblin_pe.specs.declared.whole.Part.TheVariants.{Read};
 ghost use Rattle.goblin_pe_c_tables.specs.Batches.{BlockBatch, GivesBlocksIn, GivesBlocks};
-ghost use Rattle.goblin_pe_c_tables.specs.Batches.{IsBlockCause, IsBlocksFault, block_said, blocks_from};
+ghost use Rattle.goblin_pe_c_tables.specs.Batches.{IsBlockCause, IsBlocksFault, block_for_c, blocks_from};
 ghost use Rattle.goblin_pe_c_headers.specs.Onward.{IsRefusedNext};
 
 use crate::batch::{Batched, at_room};
@@ -33,7 +33,7 @@ pub struct PeRelocationBlock {
 // The record of a block at a file offset.
 fn block_record(block: &RelocationBlock, place: usize) -> PeRelocationBlock
     requires { place + block.now.size < 2 ^ 63 }
-    ensures { result ≡ block_said (place, block_value block.now) }
+    ensures { result ≡ block_for_c (place, block_value block.now) }
 {
     let page_rva = block.rva as usize;
     PeRelocationBlock {

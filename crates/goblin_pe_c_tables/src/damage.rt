@@ -251,7 +251,7 @@ pub fn read_damage(
     damage: &mut PeDamage,
     steps: &mut usize,
 ) -> PeFault
-    ensures told { ReadsDamage image.now (damage.old, steps.old) (damage.new, steps.new) result }
+    ensures found { ReadsDamage image.now (damage.old, steps.old) (damage.new, steps.new) result }
     ensures alike { SoundIsWalkedAlike }
 {
     let refusal = damage_refusal(image, *steps);

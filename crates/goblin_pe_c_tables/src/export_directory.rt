@@ -9,8 +9,8 @@ ghost use Rattle.goblin_pe.specs.added.Layouts.{layout_bytes, layout_map, layout
 ghost use Rattle.goblin_pe_c_tables.specs.Batches.{AddressBatch, GivesAddresses, GivesBatch};
 ghost use Rattle.goblin_pe_c_tables.specs.Batches.{IsAddressBatchFault, IsAddressesFault, SaysDirectory};
 ghost use Rattle.goblin_pe_c_headers.specs.Onward.{GivesOnward};
-ghost use Rattle.goblin_pe_c_tables.specs.ExportDirectories.{address_said, addresses_said};
-ghost use Rattle.goblin_pe_c_tables.specs.ExportDirectories.{directory_said, directory_view};
+ghost use Rattle.goblin_pe_c_tables.specs.ExportDirectories.{address_for_c, addresses_for_c};
+ghost use Rattle.goblin_pe_c_tables.specs.ExportDirectories.{directory_for_c, directory_view};
 ghost use Rattle.goblin_pe_c_tables.specs.ExportDirectories.{is_forwarder, no_export_directory};
 
 use crate::batch::{Batched, at_room};
@@ -74,7 +74,7 @@ fn address_record(
     ordinal: usize,
     address_map: &AddressMap,
 ) -> PeExportAddress
-    ensures { result ≡ address_said (map_of address_map.now).addressing ordinal entry }
+    ensures { result ≡ address_for_c (map_of address_map.now).addressing ordinal entry }
 {
     let (rva, is_forwarder) = address_of(entry);
     let offset = address_map.offset_of(rva);
@@ -90,7 +90,7 @@ fn address_record(
 
 // The record of an export directory.
 fn directory_record<'a>(bytes: &'a [u8], exports: &Exports<'a, '_>) -> PeExportDirectory<'a>
-    ensures { directory_view result ≡ directory_said (walked_tables exports.now) }
+    ensures { directory_view result ≡ directory_for_c (walked_tables exports.now) }
 {
     let name = exports.name();
     PeExportDirectory {
@@ -155,7 +155,7 @@ pub fn give_directory<'a>(
 // The record of the entry at an index, if there is one.
 fn address_at(exports: &Exports, index: usize, address_map: &AddressMap) -> Option<PeExportAddress>
     ensures { result
-        ≡ slice_get (addresses_said (map_of address_map.now).addressing (walked_tables exports.now))
+        ≡ slice_get (addresses_for_c (map_of address_map.now).addressing (walked_tables exports.now))
         index }
 {
     if exports.address_count() <= index {
@@ -179,7 +179,7 @@ fn fill_addresses(
     ensures { let m = map_of finder.now in
         let old : AddressBatch = record { position = position.old; records = records.old } in
         let new : AddressBatch = record { position = position.new; records = records.new } in
-        GivesOnward (addresses_said m.addressing (walked_tables exports.now)) old new result }
+        GivesOnward (addresses_for_c m.addressing (walked_tables exports.now)) old new result }
 {
     if exports.address_count() <= *position {
         return at_room(records.len(), 0, true);

@@ -2,7 +2,7 @@
 
 ghost use Rattle.std.specs.Prelude.{◌≡◌, ◌==◌, length, not};
 ghost use Rattle.goblin_pe_import.specs.added.ImportWalks.{walked_value};
-ghost use Rattle.goblin_pe_c_tables.specs.Imports.{import_said, import_view};
+ghost use Rattle.goblin_pe_c_tables.specs.Imports.{import_for_c, import_view};
 
 use goblin_pe::added::WalkedImport;
 use goblin_pe::import::SyntheticImportLookupTableEntry;
@@ -75,7 +75,7 @@ fn record_by<'a>(
 /// one that is made for both would be put together by conditions for every import.)
 #[inline(always)]
 pub fn put_import<'a>(place: &mut PeImport<'a>, bytes: &'a [u8], import: &WalkedImport<'a>)
-    ensures { import_view place.new ≡ import_said (walked_value import.now) }
+    ensures { import_view place.new ≡ import_for_c (walked_value import.now) }
 {
     match &import.entry {
         SyntheticImportLookupTableEntry::OrdinalNumber(ordinal) => {

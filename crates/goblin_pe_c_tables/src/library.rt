@@ -10,11 +10,11 @@ ghost use Rattle.goblin_pe.specs.added.Libraries.{library_value};
 ghost use Rattle.goblin_pe.specs.Whole.{entry_format};
 ghost use Rattle.goblin_pe_c_tables.specs.Libraries.{GivesLibraries};
 ghost use Rattle.goblin_pe_c_tables.specs.Libraries.{IsLibrariesFault, LibraryBatch};
-ghost use Rattle.goblin_pe_c_tables.specs.Libraries.{library_said, library_table, library_view};
+ghost use Rattle.goblin_pe_c_tables.specs.Libraries.{library_for_c, library_table, library_view};
 ghost use Rattle.goblin_pe_c_headers.specs.Onward.{IsRefusedNext};
 
 use crate::batch::Batched;
-use crate::next::{PeImportCursor, cursor_at, cursor_numbers};
+use crate::next::{PeImportCursor, cursor_at, cursor_for_c};
 use goblin_base::answer_for;
 use goblin_pe::added::{ImportCursor, Layout, Libraries, WalkedLibrary};
 use goblin_pe::import::ImportDirectoryEntry;
@@ -54,7 +54,7 @@ fn library_record<'a>(
     finder: &mut Finder<'_>,
 ) -> PeLibrary<'a>
     ensures said { library_view result
-        ≡ library_said (map_of finder.old) (library_value library.now) }
+        ≡ library_for_c (map_of finder.old) (library_value library.now) }
     ensures same { finder.new ≡ finder.old }
 {
     let (name, name_fault) = match &library.name {
@@ -66,7 +66,7 @@ fn library_record<'a>(
         name_fault,
         index: library.index,
         offset: library.offset,
-        imports: cursor_numbers(library.inside(finder)),
+        imports: cursor_for_c(library.inside(finder)),
         record: library.import_directory_entry,
         is_skipped: library.is_left_out,
         reserved: [0; 3],
@@ -101,7 +101,7 @@ fn fill_libraries<'a>(
         match libraries.next() {
             Some(Ok(library)) => {
                 records[count] = library_record(layout.bytes(), &library, &mut finder);
-                *position = cursor_numbers(libraries.cursor());
+                *position = cursor_for_c(libraries.cursor());
                 count += 1;
             }
             Some(Err(error)) if count == 0 => return Err(error),
@@ -109,7 +109,7 @@ fn fill_libraries<'a>(
                 return Ok(goes_on(count));
             }
             None => {
-                *position = cursor_numbers(ImportCursor::end());
+                *position = cursor_for_c(ImportCursor::end());
                 return Ok(ended(count));
             }
         }

@@ -13,7 +13,7 @@ ghost use Rattle.goblin_pe.specs.added.Layouts.{layout_bytes, layout_places};
 ghost use Rattle.goblin_pe_c_tables.specs.Batches.{ExportWalkBatch, Fills, GivesExports, GivesImports};
 ghost use Rattle.goblin_pe_c_tables.specs.Batches.{GivesInFile, GoesOn, ImportBatch, export_walk};
 ghost use Rattle.goblin_pe_c_tables.specs.Batches.{IsExportBatchFault, IsImportsFault};
-ghost use Rattle.goblin_pe_c_tables.specs.Batches.{cursor_numbers, cursor_said, import_cursor};
+ghost use Rattle.goblin_pe_c_tables.specs.Batches.{cursor_for_c, cursor_from_c, import_cursor};
 ghost use Rattle.goblin_pe_c_tables.specs.Batches.{is_over};
 ghost use Rattle.goblin_pe_c_tables.specs.Imports.{GivesHere};
 ghost use Rattle.goblin_pe_c_headers.specs.Onward.{FillsFrom, IsRefusedNext, unrefused};
@@ -59,8 +59,8 @@ pub struct PeImportCursor {
 }
 
 // The cursor that these numbers say.
-fn cursor_said(position: &PeImportCursor) -> ImportCursor
-    ensures { result ≡ cursor_said position.now }
+fn cursor_from_c(position: &PeImportCursor) -> ImportCursor
+    ensures { result ≡ cursor_from_c position.now }
 {
     let at = *position;
     ImportCursor {
@@ -75,7 +75,7 @@ fn cursor_said(position: &PeImportCursor) -> ImportCursor
         rva: at.rva,
         table_offset: at.table_offset,
         place: if at.has_place { Some(at.place) } else { None },
-        untested: if at.has_address_table {
+        pending: if at.has_address_table {
             Some(at.address_table)
         } else {
             None
@@ -84,8 +84,8 @@ fn cursor_said(position: &PeImportCursor) -> ImportCursor
 }
 
 // The numbers of a cursor.
-pub(crate) fn cursor_numbers(at: ImportCursor) -> PeImportCursor
-    ensures { result ≡ cursor_numbers at }
+pub(crate) fn cursor_for_c(at: ImportCursor) -> PeImportCursor
+    ensures { result ≡ cursor_for_c at }
 {
     PeImportCursor {
         first_record: at.first_record,
@@ -95,11 +95,11 @@ pub(crate) fn cursor_numbers(at: ImportCursor) -> PeImportCursor
         place: at.place.unwrap_or(0),
         name_rva: at.name_rva,
         rva: at.rva,
-        address_table: at.untested.unwrap_or(0),
+        address_table: at.pending.unwrap_or(0),
         is_begun: true,
         has_next: at.next_record.is_some(),
         has_place: at.place.is_some(),
-        has_address_table: at.untested.is_some(),
+        has_address_table: at.pending.is_some(),
     }
 }
 
@@ -113,7 +113,7 @@ pub(crate) fn cursor_at<'e>(
         (layout_bytes layout.now) }
 {
     if position.is_begun {
-        return Ok(cursor_said(position));
+        return Ok(cursor_from_c(position));
     }
     layout.imports_begin()
 }
@@ -122,7 +122,7 @@ pub(crate) fn cursor_at<'e>(
 pub(crate) fn is_over(at: &ImportCursor) -> bool
     ensures { result ≡ is_over at.now }
 {
-    at.place.is_none() && at.next_record.is_none() && at.untested.is_none()
+    at.place.is_none() && at.next_record.is_none() && at.pending.is_none()
 }
 
 // Up to which record there is room from `first` on, as each is a step.
@@ -223,7 +223,7 @@ fn fill_imports<'a, 'm, 'e>(
                 put_import(&mut records[count], layout.bytes(), &import);
                 left = limit.unwrap_or(0);
                 count = fill_library(layout.bytes(), &mut imports, records, count + 1, &mut left);
-                *position = cursor_numbers(imports.cursor());
+                *position = cursor_for_c(imports.cursor());
             }
             Some(Err(error)) if count == 0 => return Err(error),
             Some(Err(_)) => {
@@ -231,7 +231,7 @@ fn fill_imports<'a, 'm, 'e>(
             }
             None => {
                 let at = imports.cursor();
-                *position = cursor_numbers(at);
+                *position = cursor_for_c(at);
                 let is_done = is_over(&at);
                 return Ok((PeBatch { count, is_done }, limit.unwrap_or(0)));
             }

@@ -9,7 +9,7 @@ ghost use Rattle.goblin_pe.specs.added.Layouts.{layout_sections};
 ghost use Rattle.goblin_pe.specs.Whole.{table_places};
 ghost use Rattle.goblin_pe_c_tables.specs.Places.{TakesIndexAt, directory_offset, map_at};
 ghost use Rattle.goblin_pe_c_headers.specs.Places.{image_places, placed_sections};
-ghost use Rattle.goblin_pe_c_tables.specs.Places.{places_said};
+ghost use Rattle.goblin_pe_c_tables.specs.Places.{places_from_c};
 
 use goblin_pe::added::Layout;
 use goblin_pe::address_map::MappedRecords;
@@ -20,8 +20,8 @@ use goblin_pe_c_headers::places::{PePlaces, section_records};
 use std::alloc::Global;
 
 // Where the tables lie by a record.
-fn places_said(places: &PePlaces) -> Places
-    ensures { table_places result ≡ places_said places.now }
+fn places_from_c(places: &PePlaces) -> Places
+    ensures { table_places result ≡ places_from_c places.now }
 {
     let directories = places.directories;
     Places {
@@ -47,7 +47,7 @@ fn layout_at<'a, 'e>(
 ) -> ResultOf<'e, Layout<'a>>
     ensures value { ReadsOrMemory layout_sections result (placed_sections places.now) bytes.now }
     ensures over { IfOk result (λ l. layout_bytes l ≡ bytes.now) }
-    ensures placed { IfOk result (λ l. layout_places l ≡ places_said places.now) }
+    ensures placed { IfOk result (λ l. layout_places l ≡ places_from_c places.now) }
     ensures mapped { IfOk result
         (λ l. layout_map l ≡ map_at options.now places.now (layout_sections l)) }
     ensures grown { IfErr result (λ e. IsMemory e → TakesIndexAt places.now bytes.now) }
@@ -56,7 +56,7 @@ fn layout_at<'a, 'e>(
     let front = view_of(options).front(places.size_of_headers);
     let mapped = MappedRecords { records, front };
     let opts = options_at(options, places.file_alignment);
-    let mut layout = Layout::by(alloc, bytes, places_said(places), mapped, &opts)?;
+    let mut layout = Layout::by(alloc, bytes, places_from_c(places), mapped, &opts)?;
     layout.set_longest_name(longest_of(options));
     Ok(layout)
 }
@@ -71,7 +71,7 @@ pub fn layout_of<'a, 'e>(alloc: Global, image: &PeImage<'a>) -> ResultOf<'e, Lay
         ReadsOrMemory layout_sections result (placed_sections places) image.now.bytes.now }
     ensures over { IfOk result (λ l. layout_bytes l ≡ image.now.bytes.now) }
     ensures placed { let places = image_places image.now in
-        IfOk result (λ l. layout_places l ≡ places_said places) }
+        IfOk result (λ l. layout_places l ≡ places_from_c places) }
     ensures mapped { let places = image_places image.now in
         IfOk result (λ l. layout_map l ≡ map_at image.now.options places (layout_sections l)) }
     ensures grown { let places = image_places image.now in

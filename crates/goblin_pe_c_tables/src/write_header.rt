@@ -4,7 +4,7 @@ ghost use Rattle.goblin_pe_c_headers.specs.Written.{Output, WritesHeader};
 ghost use Rattle.goblin_pe_c_tables.specs.Written.{ImageWritesBack};
 
 use goblin_pe::{Endian, Result};
-use goblin_pe_c_headers::given_header::{header_said, stub_of};
+use goblin_pe_c_headers::given_header::{header_from_c, stub_of};
 use goblin_pe_c_headers::image::PeImage;
 
 /// Writes the header that the record says. Sets `written` to the size. Without any room it only does
@@ -21,7 +21,7 @@ pub fn write_header(image: &PeImage, out: &mut [u8], written: &mut usize) -> Res
     ensures back { ImageWritesBack }
 {
     let stub = stub_of(image)?;
-    let header = header_said(image, stub);
+    let header = header_from_c(image, stub);
     *written = if out.is_empty() {
         header.size_with(Endian::Little)?
     } else {

@@ -26,7 +26,7 @@ pub extern "C" fn goblin_pe_raw_read_damage(
     damage: &mut PeDamage,
     steps: &mut usize,
 ) -> PeFault
-    ensures told { ReadsDamage image.now (damage.old, steps.old) (damage.new, steps.new) result }
+    ensures found { ReadsDamage image.now (damage.old, steps.old) (damage.new, steps.new) result }
     ensures alike { SoundIsWalkedAlike }
 {
     read_damage(alloc, image, damage, steps)

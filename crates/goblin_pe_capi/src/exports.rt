@@ -9,7 +9,7 @@ ghost use Rattle.goblin_pe_c_tables.specs.Batches.{GivesBatch, GivesExports, IsA
 ghost use Rattle.goblin_pe_c_tables.specs.Batches.{IsAddressesFault, IsExportBatchFault};
 ghost use Rattle.goblin_pe_c_tables.specs.Batches.{SaysDirectory, WalksOver};
 ghost use Rattle.goblin_pe_c_tables.specs.ExportDirectories.{directory_view};
-ghost use Rattle.goblin_pe_c_tables.specs.Exports.{forwarder_said, forwarder_view};
+ghost use Rattle.goblin_pe_c_tables.specs.Exports.{forwarder_for_c, forwarder_view};
 ghost use Rattle.goblin_pe_c_tables.specs.ForwardersAt.{forwarder_at_address};
 ghost use Rattle.goblin_pe_c_tables.specs.Steps.{section_steps, walk_fault};
 
@@ -120,7 +120,7 @@ pub extern "C" fn goblin_pe_raw_forwarder_at<'a>(
     ensures { ReportedAfter (options_fault image.now.options) result
         (forwarder.new ≡ forwarder.old)
         (ReadsWithout (forwarder_at_address image.now rva) image.now.bytes.now
-        (λ f. forwarder_view forwarder.new ≡ forwarder_said (Some f))
+        (λ f. forwarder_view forwarder.new ≡ forwarder_for_c (Some f))
         (forwarder.new ≡ forwarder.old)) }
 {
     let refusal = refused_call(&image.options);

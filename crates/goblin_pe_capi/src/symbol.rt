@@ -1,7 +1,7 @@
 //! The calls for texts of the string table, and for auxiliary records.
 
 ghost use Rattle.std.specs.Prelude.{◌≡◌};
-ghost use Rattle.goblin_pe_c_headers.specs.Auxiliary.{AuxiliarySaid, kind_number, kind_of};
+ghost use Rattle.goblin_pe_c_headers.specs.Auxiliary.{AuxiliaryView, kind_number, kind_of};
 ghost use Rattle.goblin_pe_c_headers.specs.Found.{Puts};
 ghost use Rattle.goblin_pe_c_headers.specs.Images.{slice_view};
 ghost use Rattle.goblin_pe_c_headers.specs.Symbols.{string_at};
@@ -37,7 +37,7 @@ pub extern "C" fn goblin_pe_raw_read_auxiliary<'a>(
     auxiliary: &mut PeAuxiliary<'a>,
 ) -> u32
     ensures kind { result ≡ kind_number (kind_of symbol.now.record symbol.now.auxiliary.now) }
-    ensures said { AuxiliarySaid (kind_of symbol.now.record symbol.now.auxiliary.now)
+    ensures said { AuxiliaryView (kind_of symbol.now.record symbol.now.auxiliary.now)
         symbol.now.auxiliary.now auxiliary.new }
 {
     read_auxiliary(symbol, auxiliary) as u32

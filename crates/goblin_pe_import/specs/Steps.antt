@@ -1,4 +1,4 @@
--- The slots that are ahead in a table, and a budget of steps, each of which looks at one slot.
+-- The slots that are ahead in a table, and a budget of steps: each step looks at one slot.
 use Rattle.std.specs.Prelude.{◌≡◌, ◌≤◌, ℕ, ◌+◌, ◌-◌, List, ⊤}
 use Rattle.std.specs.Prelude.{Option, Some, None, option_map, Result, Ok, Err}
 use Rattle.goblin_base.specs.declared.error.ErrorOf.{ErrorOf}

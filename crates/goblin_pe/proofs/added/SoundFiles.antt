@@ -138,21 +138,21 @@ module _ (view : View) (opts : ParseOptions) (bytes : List ℕ) where
 
   -- both modes read a file alike in which nothing is damaged, for each reader of header, sections and tables
   module _ {A : Type 0} (read : ParseOptions → Reading A) (make : PeHeader → List Section → NumberedTables → A) (made : (o : ParseOptions) (h : PeHeader) (s : List Section) (t : NumberedTables) → IsRead view o bytes h s t → (read o).value bytes ≡ Some (make h s t)) where
-    told : (o : Option (PeHeader × List Section)) (d : Damage) → (layout opts).value bytes ≡ o → IsSomeAnd o (λ l. IsDamaged view opts l.0 l.1 bytes d) → IsSound d → IsReadByBoth read opts bytes
-    told None d is damaged sound = absurd damaged
-    told (Some l) d is damaged sound =
+    sound_said : (o : Option (PeHeader × List Section)) (d : Damage) → (layout opts).value bytes ≡ o → IsSomeAnd o (λ l. IsDamaged view opts l.0 l.1 bytes d) → IsSound d → IsReadByBoth read opts bytes
+    sound_said None d is damaged sound = absurd damaged
+    sound_said (Some l) d is damaged sound =
         let both = sound_read l d is damaged sound in
         rw (made (in_mode Strict opts) l.0 l.1 both.tables both.strictly) (made (in_mode Permissive opts) l.0 l.1 both.tables both.permissively)
 
-    pub sound_told : (result : Result Damage ErrorOf) → TellsDamage view opts bytes result → IfOk result (λ d. IsSound d → IsReadByBoth read opts bytes)
-    sound_told (Ok d) tells = told ((layout opts).value bytes) d refl tells
-    sound_told (Err e) tells = tt
+    pub sound_reported : (result : Result Damage ErrorOf) → TellsDamage view opts bytes result → IfOk result (λ d. IsSound d → IsReadByBoth read opts bytes)
+    sound_reported (Ok d) tells = sound_said ((layout opts).value bytes) d refl tells
+    sound_reported (Err e) tells = tt
 
   -- what it tells for a whole file
   pub sound_whole : (result : Result Damage ErrorOf) → TellsDamage view opts bytes result → IfOk result (λ d. IsSound d → IsReadByBoth (whole_in view) opts bytes)
   unfolding whole_in whole_with
   sound_whole result tells =
-      sound_told (whole_in view) (λ h s t. whole_of h s (lists_of (places_in h.optional_header).magic t)) (λ o h s t read. rw (read.header, read.sections, read.tables) refl) result tells
+      sound_reported (whole_in view) (λ h s t. whole_of h s (lists_of (places_in h.optional_header).magic t)) (λ o h s t read. rw (read.header, read.sections, read.tables) refl) result tells
 
 -- ---- what is made of the tables
 
@@ -167,4 +167,4 @@ module _ {A : Type 0} (make : PeHeader → List Section → NumberedTables → A
 
   -- both modes read the same from a file without damage, if no library is left out
   pub sound_made : (l : PeHeader × List Section) (d : Damage) → (layout opts).value bytes ≡ Some l → IsDamaged view opts l.0 l.1 bytes d → IsSound d → IsReadByBoth made_in opts bytes
-  sound_made l d found damaged sound = told view opts bytes made_in make made (Some l) d found damaged sound
+  sound_made l d found damaged sound = sound_said view opts bytes made_in make made (Some l) d found damaged sound

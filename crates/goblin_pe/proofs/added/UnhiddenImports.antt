@@ -1,4 +1,4 @@
--- Imports of which no library is left out: both modes have the same.
+-- If no library is left out, both modes have the same imports.
 use Rattle.std.proofs.Common.{◌≡◌, ◌==◌, ◌⊎◌, ◌∙◌, ℕ, Bool, true, false, cond, List, [], Option, Some}
 use Rattle.std.proofs.Common.{None, ap, refl, sym, inl, inr, ◌∷◌, map}
 use Rattle.std.proofs.Common.{option_map}

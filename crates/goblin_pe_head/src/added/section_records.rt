@@ -1,4 +1,4 @@
-//! Section headers that are tested, but of which no section is made.
+//! Section headers that are tested, without a section made from them.
 
 ghost use Rattle.std.specs.Prelude.{◌≡◌, ◌+◌, ◌*◌, ◌/◌, ◌<◌, ℕ, map, length, IsErrAnd, OnErr, OnOk};
 ghost use Rattle.goblin_base.specs.Reading.{Reads};

@@ -9,7 +9,7 @@ use Rattle.goblin_pe_import.specs.added.ImportWalks.{origin}
 use Rattle.goblin_pe_import.specs.added.ImportWalks.{IsNamed, IsNamedAt, IsWalkAt, cursor_left, cursor_of}
 use Rattle.goblin_pe_import.specs.KeptEntries.{entries_from}
 use Rattle.goblin_pe_import.specs.added.ImportWalks.{imports_bytes, imports_left}
-use Rattle.goblin_pe_import.specs.added.ImportWalks.{imports_of_entries, name_said, walk_left}
+use Rattle.goblin_pe_import.specs.added.ImportWalks.{imports_of_entries, cursor_dll, walk_left}
 use Rattle.goblin_pe_import.specs.declared.added.imports.ImportCursor.{ImportCursor}
 use Rattle.goblin_pe_import.specs.declared.added.imports.Imports.{Imports}
 use Rattle.goblin_pe_import.specs.declared.added.imports.Walk.{Walk}
@@ -31,7 +31,7 @@ module _ (format : Format EntryValue) (w : Walk) where
 
   pub named-left : IsNamed w → walk_left format w ≡ cursor_left (map_of w.finder) format w.bytes.now w.at
   named-left h =
-      named-by w.at.place _ w.dll.now (name_said (map_of w.finder).addressing w.bytes.now w.at) h
+      named-by w.at.place _ w.dll.now (cursor_dll (map_of w.finder).addressing w.bytes.now w.at) h
 
 -- the same of the walk at a cursor
 pub cursor_left_of : {T : Type 0} (m : MapOfAddresses) (format : Format EntryValue) (bytes : List ℕ)

@@ -18,7 +18,7 @@ use Rattle.goblin_pe_import.specs.KeptEntries.{IsEntriesCause}
 use Rattle.goblin_pe_import.specs.added.ImportWalks.{IsLaterCause, IsNextCause, IsWalkCause}
 use Rattle.goblin_pe_import.specs.added.ImportWalks.{IsWalkFault}
 use Rattle.goblin_pe_import.specs.KeptEntries.{entries_from}
-use Rattle.goblin_pe_import.specs.added.ImportWalks.{untested_table, walk_left, walked_value}
+use Rattle.goblin_pe_import.specs.added.ImportWalks.{pending_table, walk_left, walked_value}
 use Rattle.goblin_pe_import.specs.added.StepsAhead.{EndsWithin}
 use Rattle.goblin_pe_import.specs.Steps.{GivesWithin}
 use Rattle.goblin_pe_import.proofs.added.ImportSteps.{ended-left}
@@ -41,11 +41,11 @@ walk-not_memory format w e fault =
     let m = map_of w.finder in
     let strict = reads_strictly m in
     let bytes = w.bytes.now in
-    let table = untested_table strict format m.addressing w.at.untested in
+    let table = pending_table strict format m.addressing w.at.pending in
     first_no_memory
     (all_of (entries_from strict format m.addressing bytes w.at.table_offset w.at.place))
     (IsEntriesCause strict format m.addressing bytes w.at.place)
-    (λ _. IsLaterCause strict format m.addressing bytes w.at.untested w.at.next_record) e
+    (λ _. IsLaterCause strict format m.addressing bytes w.at.pending w.at.next_record) e
     (entries-not_memory strict format m.addressing bytes e w.at.place)
     (λ _. first_no_memory (table.value bytes) (table.IsCause bytes)
     (λ _. IsNextCause strict format m.addressing bytes w.at.next_record) e

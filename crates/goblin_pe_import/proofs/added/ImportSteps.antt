@@ -45,9 +45,9 @@ abbrev pub GivesBy : Format EntryValue → Walk → AddressMap → Option (Resul
 GivesBy format s map r =
     let m = map_of map in
     GivesLibrary (walk_left format) (IsWalkCause format)
-    (later_items (reads_strictly m) format m.addressing s.bytes.now s.at.untested s.at.first_record s.at.next_record)
+    (later_items (reads_strictly m) format m.addressing s.bytes.now s.at.pending s.at.first_record s.at.next_record)
     (λ e. (reads_strictly m ≡ true)
-    × IsLaterCause (reads_strictly m) format m.addressing s.bytes.now s.at.untested s.at.next_record e)
+    × IsLaterCause (reads_strictly m) format m.addressing s.bytes.now s.at.pending s.at.next_record e)
     r
 
 -- what holds of the walk that a call has led to
@@ -101,10 +101,10 @@ module _ (format : Format EntryValue) (start s : Walk) (h : AtImports format sta
   IsCause = IsEntriesCause strict format places s.bytes.now
 
   abbrev IsLater : ErrorOf → Type 0
-  IsLater = IsLaterCause strict format places s.bytes.now s.at.untested s.at.next_record
+  IsLater = IsLaterCause strict format places s.bytes.now s.at.pending s.at.next_record
 
   abbrev later : List (Option NumberedImport)
-  later = later_items strict format places s.bytes.now s.at.untested s.at.first_record s.at.next_record
+  later = later_items strict format places s.bytes.now s.at.pending s.at.first_record s.at.next_record
 
   abbrev Steps : Option (Result KeptEntry ErrorOf) → Type 0
   Steps r = GivesNext kept_value left IsCause s.at.place r (place_after format.width r)

@@ -30,7 +30,7 @@ use Rattle.goblin_pe_import.specs.KeptEntries.{entries_from, slots_bound}
 use Rattle.goblin_pe_import.specs.added.ImportWalks.{imports_next, is_skipped, one_if}
 use Rattle.goblin_pe_import.specs.added.ImportWalks.{walk_bound}
 use Rattle.goblin_pe_import.specs.added.ImportWalks.{imports_from_record, imports_of_entries, record_index}
-use Rattle.goblin_pe_import.specs.added.ImportWalks.{later_items, library_items, library_name, untested_table}
+use Rattle.goblin_pe_import.specs.added.ImportWalks.{later_items, library_items, library_name, pending_table}
 use Rattle.goblin_pe_import.proofs.LookupWalk.{in_two, lookup_walked}
 use Rattle.goblin_pe_import.proofs.PermissiveReads.{name_strict}
 use Rattle.goblin_pe_sect.specs.Addresses.{Addressing}
@@ -202,17 +202,17 @@ module _ (strict : Bool) (format : Format EntryValue) (addressing : Addressing)
 
   -- what is left of a walk of these parts
   abbrev pub parts_left : Origin → ℕ → ℕ → Option ℕ → Option ℕ → List (Option NumberedImport)
-  parts_left from rva o at untested =
+  parts_left from rva o at pending =
       until_refused
       (imports_of_entries strict format addressing bytes from rva o at
-      ++ later_items strict format addressing bytes untested first (Some next))
+      ++ later_items strict format addressing bytes pending first (Some next))
 
   abbrev pub IsPartsCause : ℕ → Option ℕ → Option ℕ → ErrorOf → Type 0
-  IsPartsCause o at untested e =
+  IsPartsCause o at pending e =
       (strict ≡ true)
       × FirstFault (all_of (entries_from strict format addressing bytes o at))
       (IsEntriesCause strict format addressing bytes at)
-      (λ _. IsLaterCause strict format addressing bytes untested (Some next)) e
+      (λ _. IsLaterCause strict format addressing bytes pending (Some next)) e
 
   pub walk-left_out : is_skipped strict format addressing bytes r ≡ true
       → (from : Origin) (rva o : ℕ)
@@ -250,7 +250,7 @@ module _ (strict : Bool) (format : Format EntryValue) (addressing : Addressing)
         let imports =
         imports_of_entries strict format addressing bytes (origin index dll) r.import_address_table_rva (unwrap_or at 0)
         at in
-        let table = untested_table strict format addressing (Some (address_table_rva r)) in
+        let table = pending_table strict format addressing (Some (address_table_rva r)) in
         rw (kept, named)
         (ap until_refused
         (sym (append_assoc imports (refusal_of (table.value bytes))
@@ -272,15 +272,15 @@ module _ (strict : Bool) (format : Format EntryValue) (addressing : Addressing)
 -- ---- once the entries of a library have come
 
 module _ (strict : Bool) (format : Format EntryValue) (addressing : Addressing)
-    (bytes : List ℕ) (untested : Option ℕ) where
+    (bytes : List ℕ) (pending : Option ℕ) where
   abbrev table : Reading (List ℕ)
-  table = untested_table strict format addressing untested
+  table = pending_table strict format addressing pending
 
   abbrev later : ℕ → Option ℕ → List (Option NumberedImport)
-  later first next = until_refused (later_items strict format addressing bytes untested first next)
+  later first next = until_refused (later_items strict format addressing bytes pending first next)
 
   abbrev IsCause : Option ℕ → ErrorOf → Type 0
-  IsCause next e = IsLaterCause strict format addressing bytes untested next e
+  IsCause next e = IsLaterCause strict format addressing bytes pending next e
 
   -- its address table is missing
   pub later-refused : (first : ℕ) (next : Option ℕ) (e : ErrorOf)
@@ -372,7 +372,7 @@ module _ (strict : Bool) (format : Format EntryValue) (addressing : Addressing)
           × (strict ≡ true)
           × IsRefused (library_name strict addressing v) bytes e)
           → GivesLibrary left IsLeft
-          (later_items strict format addressing bytes untested first (Some p))
+          (later_items strict format addressing bytes pending first (Some p))
           (λ e. (strict ≡ true) × IsCause (Some p) e) (Some result)
       later-given v r going left IsLeft (Ok t) h = (
         h.0 ∙ sym (by_record (Some v) r ∙ slot-going strict is_last_record of_library from_next v going),
@@ -395,7 +395,7 @@ slots_few : (bytes : List ℕ) (place : Option ℕ) → slots_bound bytes place 
 slots_few bytes None = omega arith
 slots_few bytes (Some p) = omega arith
 
-one_few : (untested : Option ℕ) → one_if untested ≤ 1
+one_few : (pending : Option ℕ) → one_if pending ≤ 1
 one_few None = omega arith
 one_few (Some rva) = omega arith
 
@@ -415,5 +415,5 @@ pub bound-given : (bytes : List ℕ) (p : ℕ) → p + 20 ≤ length bytes
 bound-given bytes p inside (Err e) same next = tt
 bound-given bytes p inside (Ok t) same next =
     rw (same, next)
-    (fewer (length bytes) p (slots_bound bytes t.at.place) (one_if t.at.untested) inside
-    (slots_few bytes t.at.place) (one_few t.at.untested))
+    (fewer (length bytes) p (slots_bound bytes t.at.place) (one_if t.at.pending) inside
+    (slots_few bytes t.at.place) (one_few t.at.pending))

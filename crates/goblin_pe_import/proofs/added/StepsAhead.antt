@@ -15,7 +15,7 @@ use Rattle.goblin_pe_import.specs.added.StepsAhead.{AtSteps, HaveRunOut}
 use Rattle.goblin_pe_import.specs.added.StepsAhead.{later_ahead, record_steps}
 use Rattle.goblin_pe_import.specs.Steps.{slots_ahead}
 use Rattle.goblin_pe_import.specs.Steps.{spent}
-use Rattle.goblin_pe_import.specs.added.StepsAhead.{tested_ahead, untested_ahead, walk_ahead}
+use Rattle.goblin_pe_import.specs.added.StepsAhead.{tested_ahead, pending_ahead, walk_ahead}
 use Rattle.goblin_pe_import.specs.ImportRecords.{address_table_rva, import_slots, is_last_record, lookup_offset}
 use Rattle.goblin_pe_import.specs.added.ImportWalks.{is_skipped, no_imports}
 use Rattle.goblin_pe_import.specs.declared.import.directory_entry.ImportDirectoryEntry.{ImportDirectoryEntry}
@@ -62,30 +62,30 @@ slots-few format bytes (Some place) = stop-few (entry_slots format) bytes place
 
 -- it is looked at before its library's entries or after them
 pub address-few : (strict : Bool) (format : Format EntryValue) (addressing : Addressing)
-    (bytes : List ℕ) (untested : Option ℕ) (rva : ℕ)
-    → untested_ahead strict format addressing bytes untested
+    (bytes : List ℕ) (pending : Option ℕ) (rva : ℕ)
+    → pending_ahead strict format addressing bytes pending
     + tested_ahead strict format addressing bytes rva ≤ length bytes
 address-few true format addressing bytes None rva = omega arith
 address-few true format addressing bytes (Some at) rva =
     let few = slots-few format bytes (addressing.offset at) in
     omega (arith, few)
-address-few false format addressing bytes untested rva =
+address-few false format addressing bytes pending rva =
     let few = slots-few format bytes (addressing.offset rva) in
     omega (arith, few)
 
-pub untested-few : (strict : Bool) (format : Format EntryValue) (addressing : Addressing)
-    (bytes : List ℕ) (untested : Option ℕ)
-    → untested_ahead strict format addressing bytes untested ≤ length bytes
-untested-few true format addressing bytes None = omega arith
-untested-few true format addressing bytes (Some at) = slots-few format bytes (addressing.offset at)
-untested-few false format addressing bytes untested = omega arith
+pub pending-few : (strict : Bool) (format : Format EntryValue) (addressing : Addressing)
+    (bytes : List ℕ) (pending : Option ℕ)
+    → pending_ahead strict format addressing bytes pending ≤ length bytes
+pending-few true format addressing bytes None = omega arith
+pending-few true format addressing bytes (Some at) = slots-few format bytes (addressing.offset at)
+pending-few false format addressing bytes pending = omega arith
 
 -- ---- a record
 
-untested-none : (strict : Bool) (format : Format EntryValue) (addressing : Addressing)
-    (bytes : List ℕ) → untested_ahead strict format addressing bytes None ≡ 0
-untested-none true format addressing bytes = refl
-untested-none false format addressing bytes = refl
+pending-none : (strict : Bool) (format : Format EntryValue) (addressing : Addressing)
+    (bytes : List ℕ) → pending_ahead strict format addressing bytes None ≡ 0
+pending-none true format addressing bytes = refl
+pending-none false format addressing bytes = refl
 
 module _ (strict : Bool) (format : Format EntryValue) (addressing : Addressing)
     (bytes : List ℕ) (r : ImportDirectoryEntry) (tested : ℕ)
@@ -93,15 +93,15 @@ module _ (strict : Bool) (format : Format EntryValue) (addressing : Addressing)
   -- its library is left out
   pub steps-left_out : is_skipped strict format addressing bytes r ≡ true
       → tested + 1 + slots_ahead format bytes None
-      + untested_ahead strict format addressing bytes None
+      + pending_ahead strict format addressing bytes None
       ≡ record_steps strict format addressing bytes r
   unfolding record_steps
-  steps-left_out out = rw out (omega (arith, is, untested-none strict format addressing bytes))
+  steps-left_out out = rw out (omega (arith, is, pending-none strict format addressing bytes))
 
   -- it is walked over
   pub steps-entered : is_skipped strict format addressing bytes r ≡ false
       → tested + 1 + slots_ahead format bytes (lookup_offset addressing r)
-      + untested_ahead strict format addressing bytes (Some (address_table_rva r))
+      + pending_ahead strict format addressing bytes (Some (address_table_rva r))
       ≡ record_steps strict format addressing bytes r
   unfolding record_steps
   steps-entered kept = rw kept (omega (arith, is))
@@ -112,7 +112,7 @@ module _ (strict : Bool) (format : Format EntryValue) (addressing : Addressing)
 pub ended-ahead : (format : Format EntryValue) (t : Walk) → t.at ≡ no_imports
     → walk_ahead format t ≡ 0
 ended-ahead format t ended =
-    let none = untested-none (reads_strictly (map_of t.finder)) format (map_of t.finder).addressing t.bytes.now in
+    let none = pending-none (reads_strictly (map_of t.finder)) format (map_of t.finder).addressing t.bytes.now in
     rw ended (omega (arith, none))
 
 module _ (format : Format EntryValue) (s : Walk) where
@@ -123,15 +123,15 @@ module _ (format : Format EntryValue) (s : Walk) where
   places = (map_of s.finder).addressing
 
   abbrev later : Option ℕ → ℕ
-  later next = later_ahead strict format places s.bytes.now s.at.untested next
+  later next = later_ahead strict format places s.bytes.now s.at.pending next
 
   -- there is no next record
   pub later-few : (p : ℕ) (end : Option ImportDirectoryEntry) (tested : ℕ)
       → reads import_slots s.bytes.now p ≡ end → ends_table is_last_record end ≡ true
-      → tested ≡ untested_ahead strict format places s.bytes.now s.at.untested
+      → tested ≡ pending_ahead strict format places s.bytes.now s.at.pending
       → (tested ≡ later (Some p)) × (tested ≤ length s.bytes.now)
   later-few p end tested r z is =
-      let few = untested-few strict format places s.bytes.now s.at.untested in
+      let few = pending-few strict format places s.bytes.now s.at.pending in
       let none = sum-here import_slots (record_steps strict format places s.bytes.now) s.bytes.now p (lit≤ tt) end r z in
       (omega (arith, is, none), omega (arith, is, few))
 
@@ -139,10 +139,10 @@ module _ (format : Format EntryValue) (s : Walk) where
   pub library-counted : (p : ℕ) (v : ImportDirectoryEntry) (t : Walk) (tested entered : ℕ)
       → reads import_slots s.bytes.now p ≡ Some v → is_last_record v ≡ false
       → t.bytes.now ≡ s.bytes.now → t.finder ≡ s.finder → t.at.next_record ≡ Some (p + 20)
-      → tested ≡ untested_ahead strict format places s.bytes.now s.at.untested
+      → tested ≡ pending_ahead strict format places s.bytes.now s.at.pending
       → entered ≡ 1 + tested_ahead strict format places s.bytes.now (address_table_rva v)
       → entered + slots_ahead format s.bytes.now t.at.place
-      + untested_ahead strict format places s.bytes.now t.at.untested
+      + pending_ahead strict format places s.bytes.now t.at.pending
       ≡ record_steps strict format places s.bytes.now v
       → (tested + entered + walk_ahead format t ≡ later (Some p))
       × (tested + entered ≤ length s.bytes.now + 1)
@@ -153,13 +153,13 @@ module _ (format : Format EntryValue) (s : Walk) where
       ∙ ap (λ (n : Option ℕ). walked s.finder s.bytes.now n) next in
       let sum = sum-first import_slots s.bytes.now p (lit≤ tt) v r going
       (record_steps strict format places s.bytes.now) in
-      let few = address-few strict format places s.bytes.now s.at.untested (address_table_rva v) in
+      let few = address-few strict format places s.bytes.now s.at.pending (address_table_rva v) in
       (omega (arith, ahead, sum, first, counted), omega (arith, few, first, one))
     where
       walked : AddressMap → List ℕ → Option ℕ → ℕ
       walked f b n =
           slots_ahead format b t.at.place
-          + later_ahead (reads_strictly (map_of f)) format (map_of f).addressing b t.at.untested n
+          + later_ahead (reads_strictly (map_of f)) format (map_of f).addressing b t.at.pending n
 
 -- ---- what a limit has left
 

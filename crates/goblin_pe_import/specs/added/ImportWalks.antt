@@ -71,10 +71,10 @@ addresses_of format addressing r =
     at_address addressing.offset (address_table_rva r) (address_table format)
 
 -- an address table that is still to be tested, which only strict mode does
-abbrev pub untested_table : Bool → Format EntryValue → Addressing → Option ℕ
+abbrev pub pending_table : Bool → Format EntryValue → Addressing → Option ℕ
     → Reading (List ℕ)
-untested_table strict format addressing None = given []
-untested_table strict format addressing (Some rva) =
+pending_table strict format addressing None = given []
+pending_table strict format addressing (Some rva) =
     pick strict (at_address addressing.offset rva (address_table format)) (given [])
 
 -- the imports of a library of this name, then a refusal if strict mode cannot read its address
@@ -84,7 +84,7 @@ abbrev pub named_items : Bool → Format EntryValue → Addressing → List ℕ 
 named_items strict format addressing bytes index r None = None ∷ []
 named_items strict format addressing bytes index r (Some dll) =
     let table = lookup_offset addressing r in
-    let addresses = untested_table strict format addressing (Some (address_table_rva r)) in
+    let addresses = pending_table strict format addressing (Some (address_table_rva r)) in
     imports_of_entries strict format addressing bytes (origin index dll) r.import_address_table_rva
     (unwrap_or table 0) table
     ++ refusal_of (addresses.value bytes)
@@ -138,7 +138,7 @@ abbrev pub IsNamedCause : Bool → Format EntryValue → Addressing → List ℕ
     → ImportDirectoryEntry → (IsLater : ErrorOf → Type 0) → ErrorOf → Type 0
 IsNamedCause strict format addressing bytes r IsLater e =
     let table = lookup_offset addressing r in
-    let addresses = untested_table strict format addressing (Some (address_table_rva r)) in
+    let addresses = pending_table strict format addressing (Some (address_table_rva r)) in
     FirstFault (all_of (entries_from strict format addressing bytes (unwrap_or table 0) table))
     (IsEntriesCause strict format addressing bytes table)
     (λ _. FirstFault (addresses.value bytes) (addresses.IsCause bytes) (λ _. IsLater)) e
@@ -179,14 +179,14 @@ bound_next bytes (Some p) = records_bound bytes p
 -- tested and cannot be read, then the imports from the next descriptor on
 abbrev pub later_items : Bool → Format EntryValue → Addressing → List ℕ → Option ℕ → ℕ
     → Option ℕ → List (Option NumberedImport)
-later_items strict format addressing bytes untested first next =
-    refusal_of ((untested_table strict format addressing untested).value bytes)
+later_items strict format addressing bytes pending first next =
+    refusal_of ((pending_table strict format addressing pending).value bytes)
     ++ imports_next strict format addressing bytes first next
 
 abbrev pub IsLaterCause : Bool → Format EntryValue → Addressing → List ℕ → Option ℕ
     → Option ℕ → ErrorOf → Type 0
-IsLaterCause strict format addressing bytes untested next e =
-    let table = untested_table strict format addressing untested in
+IsLaterCause strict format addressing bytes pending next e =
+    let table = pending_table strict format addressing pending in
     FirstFault (table.value bytes) (table.IsCause bytes)
     (λ _. IsNextCause strict format addressing bytes next) e
 
@@ -200,7 +200,7 @@ no_imports = record {
   rva = 0;
   table_offset = 0;
   place = None;
-  untested = None;
+  pending = None;
 }
 
 -- what is still to come at a cursor, if the library there has this name
@@ -210,17 +210,17 @@ items_left strict format addressing bytes dll c =
     until_refused
     (imports_of_entries strict format addressing bytes (origin c.library dll) c.rva c.table_offset
     c.place
-    ++ later_items strict format addressing bytes c.untested c.first_record c.next_record)
+    ++ later_items strict format addressing bytes c.pending c.first_record c.next_record)
 
 -- the name of the library that a cursor is in; empty if it can't be read
-abbrev pub name_said : Addressing → List ℕ → ImportCursor → List ℕ
-name_said addressing bytes c = unwrap_or ((name_at addressing c.name_rva).value bytes) []
+abbrev pub cursor_dll : Addressing → List ℕ → ImportCursor → List ℕ
+cursor_dll addressing bytes c = unwrap_or ((name_at addressing c.name_rva).value bytes) []
 
 -- what is still to come at a cursor
 abbrev pub cursor_left : MapOfAddresses → Format EntryValue → List ℕ → ImportCursor
     → List (Option NumberedImport)
 cursor_left m format bytes c =
-    items_left (reads_strictly m) format m.addressing bytes (name_said m.addressing bytes c) c
+    items_left (reads_strictly m) format m.addressing bytes (cursor_dll m.addressing bytes c) c
 
 -- the cause that is true if a refusal is among it, which happens only in strict mode
 abbrev pub IsCursorCause : MapOfAddresses → Format EntryValue → List ℕ → ImportCursor → ErrorOf
@@ -230,7 +230,7 @@ IsCursorCause m format bytes c e =
     (strict ≡ true)
     × FirstFault (all_of (entries_from strict format m.addressing bytes c.table_offset c.place))
     (IsEntriesCause strict format m.addressing bytes c.place)
-    (λ _. IsLaterCause strict format m.addressing bytes c.untested c.next_record) e
+    (λ _. IsLaterCause strict format m.addressing bytes c.pending c.next_record) e
 
 -- what is still to come of a walk
 abbrev pub walk_left : Format EntryValue → Walk → List (Option NumberedImport)
@@ -248,7 +248,7 @@ IsNamedAt (Some place) dll name = dll ≡ name
 
 abbrev pub IsNamed : Walk → Type 0
 IsNamed w =
-    IsNamedAt w.at.place w.dll.now (name_said (map_of w.finder).addressing w.bytes.now w.at)
+    IsNamedAt w.at.place w.dll.now (cursor_dll (map_of w.finder).addressing w.bytes.now w.at)
 
 -- how many refusals may come of an address table that is still to be tested
 abbrev pub one_if : Option ℕ → ℕ
@@ -257,7 +257,7 @@ one_if (Some rva) = 1
 
 abbrev pub walk_bound : Walk → ℕ
 walk_bound w =
-    slots_bound w.bytes.now w.at.place + one_if w.at.untested
+    slots_bound w.bytes.now w.at.place + one_if w.at.pending
     + bound_next w.bytes.now w.at.next_record
 
 -- an upper bound of the number of descriptors from the next one on: the bytes that are left, and

@@ -84,7 +84,7 @@ inside_library strict addressing x =
       rva = x.entry.import_address_table_rva;
       table_offset = unwrap_or (lookup_offset addressing x.entry) 0;
       place = lookup_offset addressing x.entry;
-      untested = Some (address_table_rva x.entry);
+      pending = Some (address_table_rva x.entry);
     }
 
 -- ---- all libraries

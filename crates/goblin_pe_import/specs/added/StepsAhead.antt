@@ -28,9 +28,9 @@ abbrev pub slots_at_address : Format EntryValue → Addressing → List ℕ → 
 slots_at_address format addressing bytes rva = slots_ahead format bytes (addressing.offset rva)
 
 -- how many slots an address table has that is tested after its library's entries, as in strict mode
-abbrev pub untested_ahead : Bool → Format EntryValue → Addressing → List ℕ → Option ℕ → ℕ
-untested_ahead strict format addressing bytes untested =
-    if strict then amount_of (slots_at_address format addressing bytes) untested else 0
+abbrev pub pending_ahead : Bool → Format EntryValue → Addressing → List ℕ → Option ℕ → ℕ
+pending_ahead strict format addressing bytes pending =
+    if strict then amount_of (slots_at_address format addressing bytes) pending else 0
 
 -- how many slots an address table has that is tested before them, as in permissive mode
 abbrev pub tested_ahead : Bool → Format EntryValue → Addressing → List ℕ → ℕ → ℕ
@@ -45,7 +45,7 @@ record_steps strict format addressing bytes r =
     1 + tested_ahead strict format addressing bytes (address_table_rva r)
     + (if is_skipped strict format addressing bytes r then 0
     else slots_ahead format bytes (lookup_offset addressing r)
-    + untested_ahead strict format addressing bytes (Some (address_table_rva r)))
+    + pending_ahead strict format addressing bytes (Some (address_table_rva r)))
 
 -- the steps of the descriptors of a directory, from the next one on
 abbrev pub records_ahead : Bool → Format EntryValue → Addressing → List ℕ → Option ℕ → ℕ
@@ -55,15 +55,15 @@ records_ahead strict format addressing bytes next =
 -- how many steps are ahead once the entries of a library have come
 abbrev pub later_ahead : Bool → Format EntryValue → Addressing → List ℕ → Option ℕ → Option ℕ
     → ℕ
-later_ahead strict format addressing bytes untested next =
-    untested_ahead strict format addressing bytes untested
+later_ahead strict format addressing bytes pending next =
+    pending_ahead strict format addressing bytes pending
     + records_ahead strict format addressing bytes next
 
 -- How many steps a walk takes from a cursor to its end.
 abbrev pub cursor_ahead : MapOfAddresses → Format EntryValue → List ℕ → ImportCursor → ℕ
 cursor_ahead m format bytes c =
     slots_ahead format bytes c.place
-    + later_ahead (reads_strictly m) format m.addressing bytes c.untested c.next_record
+    + later_ahead (reads_strictly m) format m.addressing bytes c.pending c.next_record
 
 abbrev pub walk_ahead : Format EntryValue → Walk → ℕ
 walk_ahead format w = cursor_ahead (map_of w.finder) format w.bytes.now w.at

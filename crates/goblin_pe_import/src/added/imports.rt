@@ -34,7 +34,7 @@ ghost use Rattle.goblin_pe_import.specs.added.ImportWalks.{finder_of, plain_at, 
 ghost use Rattle.goblin_pe_import.specs.added.ImportWalks.{walk_answer, walk_at};
 ghost use Rattle.goblin_pe_import.specs.added.ImportWalks.{record_index, records_left};
 ghost use Rattle.goblin_pe_import.specs.KeptEntries.{slots_bound};
-ghost use Rattle.goblin_pe_import.specs.added.ImportWalks.{untested_table, walk_bound, walk_left};
+ghost use Rattle.goblin_pe_import.specs.added.ImportWalks.{pending_table, walk_bound, walk_left};
 ghost use Rattle.goblin_pe_import.specs.added.ImportWalks.{walked_value};
 ghost use Rattle.goblin_pe_import.specs.ImportRecords.{address_table_rva};
 ghost use Rattle.goblin_pe_import.specs.added.StepsAhead.{EndsWithin, GivesImportWithin};
@@ -44,7 +44,7 @@ ghost use Rattle.goblin_pe_import.specs.added.StepsAhead.{HaveRunOut, LooksAt};
 ghost use Rattle.goblin_pe_import.specs.added.StepsAhead.{imports_ahead, later_ahead};
 ghost use Rattle.goblin_pe_import.specs.added.StepsAhead.{record_steps, tested_ahead};
 ghost use Rattle.goblin_pe_import.specs.Steps.{slots_ahead};
-ghost use Rattle.goblin_pe_import.specs.added.StepsAhead.{untested_ahead, walk_ahead};
+ghost use Rattle.goblin_pe_import.specs.added.StepsAhead.{pending_ahead, walk_ahead};
 
 use crate::added::plain::plain_kept;
 use crate::added::tested::{test_address_table, test_numbers};
@@ -105,7 +105,7 @@ pub struct ImportCursor {
     /// The file offset of the next slot in that table; `None` between two libraries.
     pub place: Option<usize>,
     /// The address of its address table, if that table is yet to be tested after its entries.
-    pub untested: Option<u32>,
+    pub pending: Option<u32>,
 }
 
 impl ImportCursor {
@@ -121,7 +121,7 @@ impl ImportCursor {
             rva: 0,
             table_offset: 0,
             place: None,
-            untested: None,
+            pending: None,
         }
     }
 
@@ -176,25 +176,25 @@ struct Walk<'a, 'm> {
 
 // Tests the address table that is yet to be tested, if there is one, and returns how many slots it
 // looks at. Permissive mode has tested the table before.
-fn test_untested<'a, 'e, T: Bitfield<'a>>(
+fn test_pending<'a, 'e, T: Bitfield<'a>>(
     bytes: &'a [u8],
-    untested: Option<u32>,
+    pending: Option<u32>,
     finder: &mut Finder<'_>,
 ) -> ResultOf<'e, usize>
     ensures value { let m = map_of finder.old in
         Reads (λ _. tt {0}) result
-        (mapped (λ _. tt {0}) (untested_table (reads_strictly m) T.format m.addressing untested))
+        (mapped (λ _. tt {0}) (pending_table (reads_strictly m) T.format m.addressing pending))
         bytes.now }
     ensures counted { let m = map_of finder.old in
         IfOk result (λ n.
-        n ≡ untested_ahead (reads_strictly m) T.format m.addressing bytes.now untested) }
+        n ≡ pending_ahead (reads_strictly m) T.format m.addressing bytes.now pending) }
     ensures few { IfOk result (λ n. n ≤ length bytes.now) }
     ensures strictly { IfErr result (λ e. reads_strictly (map_of finder.old) ≡ true) }
-    ensures there { IfErr result (λ e. 1 ≤ one_if untested) }
+    ensures there { IfErr result (λ e. 1 ≤ one_if pending) }
     ensures wide { 1 ≤ T.format.width }
     ensures same { finder.new ≡ finder.old }
 {
-    let Some(rva) = untested else {
+    let Some(rva) = pending else {
         return Ok(0);
     };
     if !finder.reads_strictly() {
@@ -343,7 +343,7 @@ impl<'a, 'm> Walk<'a, 'm> {
             let bytes = self.old.bytes.now in
             IfOk result (λ n.
             n + slots_ahead T.format bytes self.new.at.place
-            + untested_ahead strict T.format m.addressing bytes self.new.at.untested
+            + pending_ahead strict T.format m.addressing bytes self.new.at.pending
             ≡ record_steps strict T.format m.addressing bytes entry.now) }
         ensures looked { let m = map_of self.old.finder in
             IfOk result (λ n. n ≡ 1 + tested_ahead (reads_strictly m) T.format m.addressing
@@ -354,7 +354,7 @@ impl<'a, 'm> Walk<'a, 'm> {
         if is_out {
             self.at.next_record = Some(next);
             self.at.place = None;
-            self.at.untested = None;
+            self.at.pending = None;
             return Ok(tested + 1);
         }
         let first_record = self.at.first_record;
@@ -368,7 +368,7 @@ impl<'a, 'm> Walk<'a, 'm> {
             rva: entry.import_address_table_rva,
             table_offset: place.unwrap_or(0),
             place,
-            untested: Some(address_table_rva(entry)),
+            pending: Some(address_table_rva(entry)),
         };
         Ok(tested + 1)
     }
@@ -382,11 +382,11 @@ impl<'a, 'm> Walk<'a, 'm> {
             let bytes = self.old.bytes.now in
             let c = self.old.at in
             GivesLibrary (walk_left T.format) (IsWalkCause T.format)
-            (later_items (reads_strictly m) T.format m.addressing bytes c.untested c.first_record
+            (later_items (reads_strictly m) T.format m.addressing bytes c.pending c.first_record
             c.next_record)
             (λ e. (reads_strictly m ≡ true)
             × IsLaterCause (reads_strictly m) T.format m.addressing bytes
-            c.untested c.next_record e) (option_map (walk_answer self.new) result) }
+            c.pending c.next_record e) (option_map (walk_answer self.new) result) }
         ensures named { IfSome (option_map (walk_answer self.new) result) (λ r. IfOk r IsNamed) }
         ensures bytes { self.new.bytes.now ≡ self.old.bytes.now }
         ensures finder { self.new.finder ≡ self.old.finder }
@@ -397,16 +397,16 @@ impl<'a, 'm> Walk<'a, 'm> {
             walk_bound t ≤ bound_next self.old.bytes.now self.old.at.next_record)) }
         ensures there { let c = self.old.at in
             IfSome result (λ r. IfErr r (λ e.
-            1 ≤ one_if c.untested + bound_next self.old.bytes.now c.next_record)) }
+            1 ≤ one_if c.pending + bound_next self.old.bytes.now c.next_record)) }
         ensures counted { let m = map_of self.old.finder in
             let bytes = self.old.bytes.now in
             let c = self.old.at in
             let before =
-            later_ahead (reads_strictly m) T.format m.addressing bytes c.untested c.next_record in
+            later_ahead (reads_strictly m) T.format m.addressing bytes c.pending c.next_record in
             MatchOption result ((last.new ≡ before) × (last.new ≤ length bytes)) (λ r. IfOk r (λ n.
             (n + walk_ahead T.format self.new ≡ before) × (n ≤ length bytes + 1))) }
     {
-        let tested = match test_untested::<T>(self.bytes, self.at.untested, &mut self.finder) {
+        let tested = match test_pending::<T>(self.bytes, self.at.pending, &mut self.finder) {
             Ok(tested) => tested,
             Err(error) => return Some(Err(error)),
         };
@@ -433,8 +433,8 @@ impl<'a, 'm> Walk<'a, 'm> {
         ensures value { IfSome result (λ n. n ≡ walk_bound self.now) }
         ensures fits { walk_bound self.now < 2 ^ 64 → IsSome result }
     {
-        let untested = usize::from(self.at.untested.is_some());
-        let slots = slots_bound(self.bytes, self.at.place) + untested;
+        let pending = usize::from(self.at.pending.is_some());
+        let slots = slots_bound(self.bytes, self.at.place) + pending;
         slots.checked_add(bound_next(self.bytes, self.at.next_record)?)
     }
 

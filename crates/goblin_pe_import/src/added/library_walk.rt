@@ -112,7 +112,7 @@ impl WalkedLibrary<'_> {
             rva: entry.import_address_table_rva,
             table_offset: place.unwrap_or(0),
             place,
-            untested: Some(address_table_rva(entry)),
+            pending: Some(address_table_rva(entry)),
             ..ImportCursor::end()
         }
     }

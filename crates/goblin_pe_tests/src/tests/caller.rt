@@ -145,13 +145,13 @@ fn with_a_slot_alone(alloc: Global) -> Result<ImportData<'static>, AllocError> {
 }
 
 /// Whether the imports of that library are refused, with both numbers told.
-fn is_slot_told(alloc: Global, data: &ImportData<'static>) -> bool {
+fn is_slot_reported(alloc: Global, data: &ImportData<'static>) -> bool {
     let imports = Import::parse::<u32>(alloc, &[], data, &[]);
     is_err(imports, &Error::Malformed(Cause::SlotCount(0, 1)))
 }
 
 #[test]
-fn a_slot_without_an_entry_is_told(rt: HostRuntime) {
+fn a_slot_without_an_entry_is_reported(rt: HostRuntime) {
     let data = with_a_slot_alone(rt.alloc());
-    assert!(rt; matches!(&data, Ok(data) if is_slot_told(rt.alloc(), data)));
+    assert!(rt; matches!(&data, Ok(data) if is_slot_reported(rt.alloc(), data)));
 }

@@ -4,13 +4,13 @@ use Rattle.goblin_pe_c_tables.specs.Damages.{AnswersDamage}
 use Rattle.goblin_pe_c_tables.specs.declared.damage.PeDamage.{PeDamage}
 use Rattle.goblin_pe_c_tables.proofs.damage.read_damage.Goals as goal
 
-pub returns-then-refusal-ne0-clause-told : goal.returns-then-refusal-ne0-clause-told
-returns-then-refusal-ne0-clause-told c =
+pub returns-then-refusal-ne0-clause-found : goal.returns-then-refusal-ne0-clause-found
+returns-then-refusal-ne0-clause-found c =
     let is = c.damage_refusal-refusal.ensures in
     (λ _. (is, refl), λ none. absurd (c.if-refusal-ne0.true (ap (λ (f : PeFault). f.status) is ∙ none)))
 
-pub returns-in-Ok-Some-clause-told : goal.returns-in-Ok-Some-clause-told
-returns-in-Ok-Some-clause-told c =
+pub returns-in-Ok-Some-clause-found : goal.returns-in-Ok-Some-clause-found
+returns-in-Ok-Some-clause-found c =
     let is = ap (λ (f : PeFault). f.status) (sym c.damage_refusal-refusal.ensures) in
     let allowed = c.saturating_sub-allowed.ensures ∙ ap (λ (n : ℕ). c.args.steps.now - n) c.section_steps.ensures in (
       λ refused. absurd (refused (is ∙ c.if-refusal-ne0.false)),
@@ -23,8 +23,8 @@ returns-in-Ok-Some-clause-told c =
       ),
     )
 
-pub returns-in-Ok-None-clause-told : goal.returns-in-Ok-None-clause-told
-returns-in-Ok-None-clause-told c =
+pub returns-in-Ok-None-clause-found : goal.returns-in-Ok-None-clause-found
+returns-in-Ok-None-clause-found c =
     let is = ap (λ (f : PeFault). f.status) (sym c.damage_refusal-refusal.ensures) in
     let allowed = c.saturating_sub-allowed.ensures ∙ ap (λ (n : ℕ). c.args.steps.now - n) c.section_steps.ensures in (
       λ refused. absurd (refused (is ∙ c.if-refusal-ne0.false)),
@@ -37,8 +37,8 @@ returns-in-Ok-None-clause-told c =
       ),
     )
 
-pub returns-in-Err-clause-told : goal.returns-in-Err-clause-told
-returns-in-Err-clause-told c =
+pub returns-in-Err-clause-found : goal.returns-in-Err-clause-found
+returns-in-Err-clause-found c =
     let is = ap (λ (f : PeFault). f.status) (sym c.damage_refusal-refusal.ensures) in
     let allowed = c.saturating_sub-allowed.ensures ∙ ap (λ (n : ℕ). c.args.steps.now - n) c.section_steps.ensures in (
       λ refused. absurd (refused (is ∙ c.if-refusal-ne0.false)),

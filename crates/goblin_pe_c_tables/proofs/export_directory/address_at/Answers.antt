@@ -3,7 +3,7 @@ use Rattle.std.proofs.lemmas.Option.{slice_get_past}
 use Rattle.goblin_pe_export.specs.added.ExportWalks.{walked_tables}
 use Rattle.goblin_pe_sect.specs.Addresses.{map_of}
 use Rattle.goblin_pe_export.specs.declared.export.tables.ExportDirectoryTable.{ExportDirectoryTable}
-use Rattle.goblin_pe_c_tables.specs.ExportDirectories.{address_said}
+use Rattle.goblin_pe_c_tables.specs.ExportDirectories.{address_for_c}
 use Rattle.goblin_pe_c_tables.specs.declared.export_directory.PeExportAddress.{PeExportAddress}
 use Rattle.goblin_pe_c_tables.proofs.AddressBatches.{address-none, address-some}
 use Rattle.goblin_pe_c_tables.proofs.export_directory.address_at.Goals as goal
@@ -22,7 +22,7 @@ returns-in_default c =
 pub returns : goal.returns
 returns c =
     let tables = walked_tables c.args.exports.now in
-    let base = ap (λ (t : ExportDirectoryTable). Some (address_said (map_of c.args.address_map.now).addressing (t.ordinal_base + c.args.index) c.in-Some.entry)) c.directory_table.ensures in
+    let base = ap (λ (t : ExportDirectoryTable). Some (address_for_c (map_of c.args.address_map.now).addressing (t.ordinal_base + c.args.index) c.in-Some.entry)) c.directory_table.ensures in
     ap (λ (r : PeExportAddress). Some r) c.address_record.ensures
     ∙ base
     ∙ address-some (map_of c.args.address_map.now).addressing tables c.args.index c.in-Some.entry c.in-Some.ensures

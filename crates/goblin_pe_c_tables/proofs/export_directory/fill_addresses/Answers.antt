@@ -4,7 +4,7 @@ use Rattle.goblin_pe_c_headers.specs.Onward.{GivesOnward}
 use Rattle.goblin_pe_c_tables.specs.Batches.{AddressBatch}
 use Rattle.goblin_pe_export.specs.added.ExportWalks.{walked_tables}
 use Rattle.goblin_pe_sect.specs.Addresses.{map_of}
-use Rattle.goblin_pe_c_tables.specs.ExportDirectories.{addresses_said}
+use Rattle.goblin_pe_c_tables.specs.ExportDirectories.{addresses_for_c}
 use Rattle.goblin_pe_c_tables.proofs.AddressBatches.{length-addresses, onward-none}
 use Rattle.goblin_pe_c_tables.proofs.export_directory.fill_addresses.Goals as goal
 
@@ -13,7 +13,7 @@ returns-then-address_count-position c =
     let addressing = (map_of c.args.finder.now).addressing in
     let tables = walked_tables c.args.exports.now in
     let count = c.address_count.ensures.value in
-    rw c.at_room.ensures (onward-none (addresses_said addressing tables) c.args.position.now c.args.records.now (omega (arith, length-addresses addressing tables, count, c.if-address_count-position.true)))
+    rw c.at_room.ensures (onward-none (addresses_for_c addressing tables) c.args.position.now c.args.records.now (omega (arith, length-addresses addressing tables, count, c.if-address_count-position.true)))
 
 pub returns : goal.returns
 returns c =
@@ -23,5 +23,5 @@ returns c =
     let own = (map_of c.address_map-address_map.result.now).addressing in
     let count = c.address_count.ensures.value in
     let fits = c.address_count.type_inv in
-    subst (λ (f : AddressMap). GivesOnward (addresses_said (map_of f).addressing tables) old new c.fill_onward.result) c.address_map-address_map.ensures
-    (c.fill_onward.ensures (addresses_said own tables) (omega (arith, length-addresses own tables, count, fits)) (search rules))
+    subst (λ (f : AddressMap). GivesOnward (addresses_for_c (map_of f).addressing tables) old new c.fill_onward.result) c.address_map-address_map.ensures
+    (c.fill_onward.ensures (addresses_for_c own tables) (omega (arith, length-addresses own tables, count, fits)) (search rules))

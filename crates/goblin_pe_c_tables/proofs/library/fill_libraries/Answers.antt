@@ -4,8 +4,8 @@ use Rattle.goblin_pe_import.specs.declared.added.library_walk.WalkedLibrary.{Wal
 use Rattle.goblin_pe.specs.added.Layouts.{layout_map, layout_places}
 use Rattle.goblin_pe.specs.added.Libraries.{GivesNextLibrary, library_value}
 use Rattle.goblin_pe_sect.specs.Addresses.{MapOfAddresses, map_of}
-use Rattle.goblin_pe_c_tables.specs.Libraries.{library_said}
-use Rattle.goblin_pe_c_tables.specs.Batches.{cursor_numbers}
+use Rattle.goblin_pe_c_tables.specs.Libraries.{library_for_c}
+use Rattle.goblin_pe_c_tables.specs.Batches.{cursor_for_c}
 use Rattle.goblin_pe_c_tables.proofs.LibraryBatches.{libraries-end, libraries-fault, libraries-full, libraries-more, libraries-refused, libraries-start}
 use Rattle.goblin_pe_c_tables.proofs.library.fill_libraries.Goals as goal
 
@@ -18,8 +18,8 @@ pub libraries-preserved : goal.libraries-preserved
 libraries-preserved c =
     let is = subst (λ (r : Result WalkedLibrary ErrorOf). GivesNextLibrary c.libraries.libraries (Some r) c.next.new.self) c.in-Some-Ok.field-0-is c.in-Some-Ok.ensures.steps in
     let map_is = c.libraries.invariant.1 in
-    let said = c.library_record.ensures.said ∙ ap (λ (m : MapOfAddresses). library_said m (library_value c.in-Some-Ok.library)) map_is in (
-      libraries-more c.libraries.invariant.0 c.in-Some-Ok.library c.next.new.self c.cursor_numbers.result c.library_record.result is (c.cursor_numbers.ensures ∙ ap cursor_numbers c.cursor.ensures.is) c.libraries-test.true said,
+    let said = c.library_record.ensures.said ∙ ap (λ (m : MapOfAddresses). library_for_c m (library_value c.in-Some-Ok.library)) map_is in (
+      libraries-more c.libraries.invariant.0 c.in-Some-Ok.library c.next.new.self c.cursor_for_c.result c.library_record.result is (c.cursor_for_c.ensures ∙ ap cursor_for_c c.cursor.ensures.is) c.libraries-test.true said,
       ap map_of c.library_record.ensures.same ∙ map_is,
     )
 
@@ -35,7 +35,7 @@ returns-in-Some-Err-2-clause-filled c =
 
 pub returns-in-None-clause-filled : goal.returns-in-None-clause-filled
 returns-in-None-clause-filled c =
-    rw c.ended.ensures (libraries-end c.libraries.invariant.0 c.next.new.self c.cursor_numbers-in-None.result c.in-None.ensures.steps (c.cursor_numbers-in-None.ensures ∙ ap cursor_numbers c.end.ensures) c.libraries-test.true)
+    rw c.ended.ensures (libraries-end c.libraries.invariant.0 c.next.new.self c.cursor_for_c-in-None.result c.in-None.ensures.steps (c.cursor_for_c-in-None.ensures ∙ ap cursor_for_c c.end.ensures) c.libraries-test.true)
 
 pub returns-clause-filled : goal.returns-clause-filled
 returns-clause-filled c =

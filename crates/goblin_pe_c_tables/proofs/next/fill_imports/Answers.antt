@@ -28,8 +28,8 @@ imports-preserved c =
     let kept = is.walk m places.magic bytes c.imports.invariant.goes.walk in
     let filled = c.fill_library-count.ensures in
     let there = library-kept m places.magic bytes next last _ filled.filled kept in
-    let goes = goes-at m places bytes c.cursor_numbers.result c.cursor.result last there (c.cursor.ensures.left m places.magic bytes there) (sym c.cursor.ensures.is) c.cursor_numbers.ensures in
-    library-more c.imports.invariant x next last c.cursor_numbers.result c.next_within.new.steps c.unwrap_or-left.result c.fill_library-count.new.left c.put_import.new.place c.fill_library-count.new.records c.fill_library-count.result
+    let goes = goes-at m places bytes c.cursor_for_c.result c.cursor.result last there (c.cursor.ensures.left m places.magic bytes there) (sym c.cursor.ensures.is) c.cursor_for_c.ensures in
+    library-more c.imports.invariant x next last c.cursor_for_c.result c.next_within.new.steps c.unwrap_or-left.result c.fill_library-count.new.left c.put_import.new.place c.fill_library-count.new.records c.fill_library-count.result
     is c.unwrap_or-left.ensures c.imports-test.true c.put_import.ensures filled.filled filled.counted goes
 
 pub returns-in-Some-Err-2-clause-filled : goal.returns-in-Some-Err-2-clause-filled
@@ -56,7 +56,7 @@ returns-in-None-clause-filled c =
     let given = c.in-None.ensures in
     let kept = given.walk m places.magic l.bytes.now c.imports.invariant.goes.walk in
     let cursor = c.cursor-at in
-    let numbers = c.cursor_numbers-in-None in
+    let numbers = c.cursor_for_c-in-None in
     let goes = goes-at m places l.bytes.now numbers.result cursor.result next kept (cursor.ensures.left m places.magic l.bytes.now kept) (sym cursor.ensures.is) numbers.ensures in
     imports-end c.imports.invariant next c.next_within.new.steps given numbers.result goes c.imports-test.true c.unwrap_or.result c.unwrap_or.ensures
     c.is_over-is_done.result (c.is_over-is_done.ensures ∙ ap is_over cursor.ensures.is)

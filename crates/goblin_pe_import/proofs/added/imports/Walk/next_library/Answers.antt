@@ -14,18 +14,18 @@ use Rattle.goblin_pe_import.proofs.added.imports.Walk.next_library.Goals as goal
 pub returns-in-Err-clause-gives : goal.returns-in-Err-clause-gives
 returns-in-Err-clause-gives g c =
     let m = map_of c.args.self.now.finder in
-    let both = later-refused (reads_strictly m) g.T.Bitfield.format m.addressing c.args.self.now.bytes.now c.args.self.now.at.untested c.args.self.now.at.first_record c.args.self.now.at.next_record c.in-Err.error c.in-Err.ensures.value in
+    let both = later-refused (reads_strictly m) g.T.Bitfield.format m.addressing c.args.self.now.bytes.now c.args.self.now.at.pending c.args.self.now.at.first_record c.args.self.now.at.next_record c.in-Err.error c.in-Err.ensures.value in
     (both.0, (c.in-Err.ensures.strictly, both.1))
 
 pub returns-in_default-clause-gives : goal.returns-in_default-clause-gives
 returns-in_default-clause-gives g c =
     let m = map_of c.args.self.now.finder in
-    rw c.in_default.is (later-none (reads_strictly m) g.T.Bitfield.format m.addressing c.args.self.now.bytes.now c.args.self.now.at.untested c.in-Ok.ensures.value c.args.self.now.at.first_record)
+    rw c.in_default.is (later-none (reads_strictly m) g.T.Bitfield.format m.addressing c.args.self.now.bytes.now c.args.self.now.at.pending c.in-Ok.ensures.value c.args.self.now.at.first_record)
 
 pub returns-then-may_end-clause-gives : goal.returns-then-may_end-clause-gives
 returns-then-may_end-clause-gives g c =
-    let may = ends _ _ (import_record Little) _ (rw (c.reads_strictly.ensures, c.test_untested.ensures.same) at c.may_end.ensures) c.if-may_end.true in
-    rw c.in-Some.is (later-end _ g.T.Bitfield.format _ _ _ c.in-Ok.ensures.value c.test_untested.ensures.wide c.args.self.now.at.first_record c.in-Some.offset _ refl c.in_default-next_record.ensures may)
+    let may = ends _ _ (import_record Little) _ (rw (c.reads_strictly.ensures, c.test_pending.ensures.same) at c.may_end.ensures) c.if-may_end.true in
+    rw c.in-Some.is (later-end _ g.T.Bitfield.format _ _ _ c.in-Ok.ensures.value c.test_pending.ensures.wide c.args.self.now.at.first_record c.in-Some.offset _ refl c.in_default-next_record.ensures may)
 
 pub returns-then-may_end-clause-counted : goal.returns-then-may_end-clause-counted
 returns-then-may_end-clause-counted g c =
@@ -33,8 +33,8 @@ returns-then-may_end-clause-counted g c =
 
 pub returns-in_default-next_record-clause-gives : goal.returns-in_default-next_record-clause-gives
 returns-in_default-next_record-clause-gives g c =
-    let lacks = lacks_end _ _ (import_record Little) _ (rw (c.reads_strictly.ensures, c.test_untested.ensures.same) at c.may_end.ensures) c.if-may_end.false in
-    let all = later-missing _ g.T.Bitfield.format _ _ _ c.in-Ok.ensures.value c.test_untested.ensures.wide c.args.self.now.at.first_record c.in-Some.offset (Malformed (ImportRecordEnd c.in-Some.offset)) lacks.1 lacks.0 refl in
+    let lacks = lacks_end _ _ (import_record Little) _ (rw (c.reads_strictly.ensures, c.test_pending.ensures.same) at c.may_end.ensures) c.if-may_end.false in
+    let all = later-missing _ g.T.Bitfield.format _ _ _ c.in-Ok.ensures.value c.test_pending.ensures.wide c.args.self.now.at.first_record c.in-Some.offset (Malformed (ImportRecordEnd c.in-Some.offset)) lacks.1 lacks.0 refl in
     rw c.in-Some.is (all.0, (all.1, all.2))
 
 pub returns-in-Ok-enter-clause-gives : goal.returns-in-Ok-enter-clause-gives
@@ -45,10 +45,10 @@ returns-in-Ok-enter-clause-gives g c =
     let o = m.addressing in
     let b = c.args.self.now.bytes.now in
     subst
-    (λ (next : Option ℕ). GivesLibrary (walk_left f) (IsWalkCause f) (later_items s f o b c.args.self.now.at.untested c.args.self.now.at.first_record next)
-    (λ e. (s ≡ true) × IsLaterCause s f o b c.args.self.now.at.untested next e) (Some (Ok c.enter.new.self)))
+    (λ (next : Option ℕ). GivesLibrary (walk_left f) (IsWalkCause f) (later_items s f o b c.args.self.now.at.pending c.args.self.now.at.first_record next)
+    (λ e. (s ≡ true) × IsLaterCause s f o b c.args.self.now.at.pending next e) (Some (Ok c.enter.new.self)))
     (sym c.in-Some.is)
-    (later-given s f o b c.args.self.now.at.untested c.in-Ok.ensures.value c.test_untested.ensures.wide c.args.self.now.at.first_record c.in-Some.offset c.in-Some-next_record.«record» c.in-Some-next_record.ensures.0 c.in-Some-next_record.ensures.1 (walk_left f) (IsWalkCause f) (Ok c.enter.new.self) (rw c.test_untested.ensures.same at c.in-Ok-enter.ensures.gives))
+    (later-given s f o b c.args.self.now.at.pending c.in-Ok.ensures.value c.test_pending.ensures.wide c.args.self.now.at.first_record c.in-Some.offset c.in-Some-next_record.«record» c.in-Some-next_record.ensures.0 c.in-Some-next_record.ensures.1 (walk_left f) (IsWalkCause f) (Ok c.enter.new.self) (rw c.test_pending.ensures.same at c.in-Ok-enter.ensures.gives))
 
 pub returns-in-Err-enter-clause-gives : goal.returns-in-Err-enter-clause-gives
 returns-in-Err-enter-clause-gives g c =
@@ -58,10 +58,10 @@ returns-in-Err-enter-clause-gives g c =
     let o = m.addressing in
     let b = c.args.self.now.bytes.now in
     subst
-    (λ (next : Option ℕ). GivesLibrary (walk_left f) (IsWalkCause f) (later_items s f o b c.args.self.now.at.untested c.args.self.now.at.first_record next)
-    (λ e. (s ≡ true) × IsLaterCause s f o b c.args.self.now.at.untested next e) (Some (Err c.in-Err-enter.error)))
+    (λ (next : Option ℕ). GivesLibrary (walk_left f) (IsWalkCause f) (later_items s f o b c.args.self.now.at.pending c.args.self.now.at.first_record next)
+    (λ e. (s ≡ true) × IsLaterCause s f o b c.args.self.now.at.pending next e) (Some (Err c.in-Err-enter.error)))
     (sym c.in-Some.is)
-    (later-given s f o b c.args.self.now.at.untested c.in-Ok.ensures.value c.test_untested.ensures.wide c.args.self.now.at.first_record c.in-Some.offset c.in-Some-next_record.«record» c.in-Some-next_record.ensures.0 c.in-Some-next_record.ensures.1 (walk_left f) (IsWalkCause f) (Err c.in-Err-enter.error) (rw c.test_untested.ensures.same at c.in-Err-enter.ensures.gives))
+    (later-given s f o b c.args.self.now.at.pending c.in-Ok.ensures.value c.test_pending.ensures.wide c.args.self.now.at.first_record c.in-Some.offset c.in-Some-next_record.«record» c.in-Some-next_record.ensures.0 c.in-Some-next_record.ensures.1 (walk_left f) (IsWalkCause f) (Err c.in-Err-enter.error) (rw c.test_pending.ensures.same at c.in-Err-enter.ensures.gives))
 
 pub returns-in-Ok-enter-clause-bound : goal.returns-in-Ok-enter-clause-bound
 returns-in-Ok-enter-clause-bound g c =
@@ -69,9 +69,9 @@ returns-in-Ok-enter-clause-bound g c =
 
 pub returns-in-Ok-enter-clause-counted : goal.returns-in-Ok-enter-clause-counted
 returns-in-Ok-enter-clause-counted g c =
-    let entered = rw c.test_untested.ensures.same at c.in-Ok-enter.ensures.counted in
-    let looked = rw c.test_untested.ensures.same at c.in-Ok-enter.ensures.looked in
+    let entered = rw c.test_pending.ensures.same at c.in-Ok-enter.ensures.counted in
+    let looked = rw c.test_pending.ensures.same at c.in-Ok-enter.ensures.looked in
     rw c.in-Some.is
     (library-counted g.T.Bitfield.format c.args.self.now c.in-Some.offset c.in-Some-next_record.«record» c.enter.new.self c.in-Ok.tested c.in-Ok-enter.entered
-    c.in-Some-next_record.ensures.0 c.in-Some-next_record.ensures.1 c.enter.ensures.bytes (c.enter.ensures.finder ∙ c.test_untested.ensures.same) c.in-Ok-enter.ensures.next
+    c.in-Some-next_record.ensures.0 c.in-Some-next_record.ensures.1 c.enter.ensures.bytes (c.enter.ensures.finder ∙ c.test_pending.ensures.same) c.in-Ok-enter.ensures.next
     c.in-Ok.ensures.counted looked entered)
