@@ -8,7 +8,8 @@ use Rattle.goblin_base.specs.Answers.{◌>>=◌}
 use Rattle.goblin_base.specs.Reading.{Reading, Reads}
 use Rattle.goblin_pe_sect.specs.declared.options.ParseOptions.{ParseOptions}
 use Rattle.goblin_pe_sect.specs.declared.options.View.TheVariants.{Sections}
-use Rattle.goblin_pe.specs.Whole.{TablePlaces, WholeFile, addressing_by, directory_at, mapped_in, part_map, places_in}
+use Rattle.goblin_pe.specs.Whole.{TablePlaces, WholeFile, addressing_by, directory_at, mapped_in}
+use Rattle.goblin_pe.specs.Whole.{part_map, places_in}
 
 -- these options in a mode
 abbrev pub in_mode : ParseMode → ParseOptions → ParseOptions

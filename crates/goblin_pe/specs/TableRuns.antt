@@ -1,7 +1,6 @@
 -- The six readers that map addresses by a table of sections: what they return, and how the answers
 -- of two runs compare.
-use Rattle.std.specs.Prelude.{ℕ, Bool, true, false, List, map, Option}
-use Rattle.std.specs.Prelude.{option_map}
+use Rattle.std.specs.Prelude.{ℕ, Bool, true, false, List, map, Option, option_map}
 use Rattle.goblin_base.specs.declared.endian.Endian.{Endian}
 use Rattle.goblin_base.specs.declared.error.ErrorOf.{ErrorOf}
 use Rattle.goblin_base.specs.Footprints.{Alike, AlikeOrMemory}

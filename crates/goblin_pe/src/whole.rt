@@ -1,7 +1,6 @@
 //! A whole file: its header, its sections, and the tables that its directories lead to.
 
-ghost use Rattle.std.specs.Prelude.{◌≡◌, ◌<◌, ◌/◌, IfOk, IfSome, IsErrAnd, Some};
-ghost use Rattle.std.specs.Prelude.{length};
+ghost use Rattle.std.specs.Prelude.{◌≡◌, ◌<◌, ◌/◌, IfOk, IfSome, IsErrAnd, Some, length};
 ghost use Rattle.goblin_base.specs.Reading.{Reads, ReadsOrMemory};
 ghost use Rattle.goblin_pe_sect.specs.AddressReadings.{text_at_address};
 ghost use Rattle.goblin_pe_sect.specs.Options.{is_strict};

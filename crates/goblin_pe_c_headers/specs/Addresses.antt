@@ -13,7 +13,8 @@ use Rattle.goblin_pe_sect.specs.SectionTable.{Section, mapped_sections, with_fro
 use Rattle.goblin_pe_c_headers.specs.declared.address.Mapped.{Mapped}
 use Rattle.goblin_pe_c_headers.specs.declared.options.PeOptions.{PeOptions}
 use Rattle.goblin_pe_c_headers.specs.declared.places.PePlaces.{PePlaces}
-use Rattle.goblin_pe_c_headers.specs.Options.{are_known, longest_of, maps_addresses, options_at, view_of}
+use Rattle.goblin_pe_c_headers.specs.Options.{are_known, longest_of, maps_addresses, options_at}
+use Rattle.goblin_pe_c_headers.specs.Options.{view_of}
 use Rattle.goblin_pe_c_headers.specs.Places.{placed_sections}
 
 -- What maps the addresses of an image: its sections and, if it is mapped, the file's front after
@@ -35,8 +36,8 @@ abbrev pub sections_for : PeOptions → PePlaces → List ℕ → Option (List S
 sections_for o p bytes =
     if maps_addresses o then (placed_sections p).value bytes else Some []
 
--- What maps the addresses of an image. Nothing does if the options are not known, or if the file has
--- no room for the section headers.
+-- What maps the addresses of an image. Nothing does if the options are not known, or if the file
+-- has no room for the section headers.
 unfoldable pub mapped_image : PeOptions → PePlaces → List ℕ → Option MappedImage
 mapped_image o p bytes =
     if are_known o

@@ -13,8 +13,8 @@ use Rattle.goblin_pe_c_headers.specs.declared.auxiliary.PeAuxiliary.{PeAuxiliary
 
 -- Source: PE Format, "Auxiliary Symbol Records".
 
--- the kind of the auxiliary records of a symbol, by its class: external, static, of a function, of a
--- file, or a weak external
+-- the kind of the auxiliary records of a symbol, by its class: external, static, of a function, of
+-- a file, or a weak external
 abbrev pub kind_with : Symbol → AuxiliaryKind
 kind_with s =
     if (s.storage_class == 2) && ((s.typ / 16 == 2) && int_lt (pos 0) s.section_number)

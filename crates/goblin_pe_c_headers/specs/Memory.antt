@@ -1,7 +1,7 @@
 -- What is in memory at an address of an image, and the contents of a section: as a loader maps it.
-use Rattle.std.specs.Prelude.{ℕ, ◌+◌, ◌-◌, ◌==◌, ◌≡◌, ◌<◌, ◌&&◌, Bool, IsTrue, bit_and, max, min, not}
-use Rattle.std.specs.Prelude.{nat_le, nat_lt, if◌then◌else◌, List, [], find, position, Option, Some, None}
-use Rattle.std.specs.Prelude.{IsSomeAnd, length, option_and_then, slice_range}
+use Rattle.std.specs.Prelude.{ℕ, ◌+◌, ◌-◌, ◌==◌, ◌≡◌, ◌<◌, ◌&&◌, Bool, IsTrue, bit_and, max, min}
+use Rattle.std.specs.Prelude.{not, nat_le, nat_lt, if◌then◌else◌, List, [], find, position, Option}
+use Rattle.std.specs.Prelude.{Some, None, IsSomeAnd, length, option_and_then, slice_range}
 use Rattle.std.specs.Int.{is_power_of_two}
 use Rattle.std.specs.Option.{option_or, unwrap_or}
 use Rattle.goblin_pe_sect.specs.declared.options.ParseOptions.{ParseOptions}
@@ -17,7 +17,8 @@ use Rattle.goblin_pe_c_headers.specs.Options.{are_known, options_at}
 
 -- Source: PE Format, "Section Table (Section Headers)", on the virtual size, the raw size and the
 -- raw pointer, and "Section Flags", on uninitialized data. Loaders map whole file blocks: where a
--- section's window, by which its addresses are mapped, passes its virtual size, its memory does, too.
+-- section's window, by which its addresses are mapped, passes its virtual size, its memory does,
+-- too.
 
 -- ---- what a record says
 
@@ -28,8 +29,8 @@ region_number region.Headers = 1
 region_number region.RawData = 2
 region_number region.Zeros = 3
 
--- bytes, how many zeros follow them, how many bytes are missing after these, the section, and what is
--- at the first byte
+-- bytes, how many zeros follow them, how many bytes are missing after these, the section, and what
+-- is at the first byte
 pub record Memory : Type 0 where
   pub bytes : List ℕ
   pub zeros : ℕ
@@ -129,9 +130,9 @@ is_among size rva s = nat_le s.virtual_address rva && nat_lt rva (s.virtual_addr
 abbrev pub memory_length : ℕ → Section → ℕ
 memory_length alignment s = max (memory_size s) (window_size alignment s)
 
--- How many bytes of a section's memory are the file's: those of its raw data, and of the file blocks
--- in its window as far as the file, whose end is given, has them. None are, if it has no place in the
--- file. Of raw data that the file lacks it is not known what it is.
+-- How many bytes of a section's memory are the file's: those of its raw data, and of the file
+-- blocks in its window as far as the file, whose end is given, has them. None are, if it has no
+-- place in the file. Of raw data that the file lacks it is not known what it is.
 abbrev pub stored_in_memory : ParseOptions → ℕ → ℕ → Section → ℕ
 stored_in_memory opts alignment end s =
     if is_unstored s
@@ -176,8 +177,8 @@ region_in m bytes rva s =
     then region.RawData
     else region.Zeros
 
--- `size` bytes from an address on, by the section that holds it. The index of the file's front comes
--- after those of all sections.
+-- `size` bytes from an address on, by the section that holds it. The index of the file's front
+-- comes after those of all sections.
 abbrev pub memory_by : MappedImage → List ℕ → ℕ → ℕ → ℕ → ℕ → Option Section → Memory
 memory_by m bytes outside rva size index None = unknown size outside
 memory_by m bytes outside rva size index (Some s) =

@@ -1,8 +1,7 @@
--- What a call gives of a table from a position on: as many of its items as there is room for, or fewer
--- where it is cut.
-use Rattle.std.specs.Prelude.{◌≡◌, ◌⊎◌, ℕ, ◌+◌, ◌<◌, ◌≤◌, ⊤, List, [], ◌∷◌, map, take, drop, length, min}
-use Rattle.std.specs.Prelude.{Bool, true, false}
-use Rattle.std.specs.Prelude.{Option, Some, None, IsSomeAnd}
+-- What a call gives of a table from a position on: as many of its items as there is room for, or
+-- fewer where it is cut.
+use Rattle.std.specs.Prelude.{◌≡◌, ◌⊎◌, ℕ, ◌+◌, ◌<◌, ◌≤◌, ⊤, List, [], ◌∷◌, map, take, drop, length}
+use Rattle.std.specs.Prelude.{min, Bool, true, false, Option, Some, None, IsSomeAnd}
 use Rattle.goblin_base.specs.declared.error.ErrorOf.{ErrorOf}
 use Rattle.goblin_base.specs.Answers.{FirstFault}
 use Rattle.goblin_base.specs.Reading.{Reading}
@@ -15,8 +14,8 @@ pub record Batch (P R : Type 0) : Type 0 where
   pub records : List R
 
 -- A table that comes in batches: what contracts see of a record, what is said of an item, and the
--- items that come from a position on, `None` in place of one that is refused. Nothing is there where
--- what leads to the items is refused.
+-- items that come from a position on, `None` in place of one that is refused. Nothing is there
+-- where what leads to the items is refused.
 pub record Table (P R A B : Type 0) : Type 0 where
   pub view : R → B
   pub said : A → B
@@ -59,8 +58,8 @@ IsWhole left room count =
     (count ≡ min room (length (values_before left))) × (IsRefusedNext left → room ≡ 0)
 
 -- Of these that are left the records hold those that come first, and from the new position on come
--- the others; without room the position stays. Where more would come, and there is room, the batch was
--- cut.
+-- the others; without room the position stays. Where more would come, and there is room, the batch
+-- was cut.
 pub record FillsFrom {P R A B : Type 0} (table : Table P R A B) (IsCut : Type 0)
     (left : List (Option A)) (old new : Batch P R) (count : ℕ) : Type 0 where
   pub batch : IsBatch table.view table.said (take count (values_before left)) old.records
@@ -69,16 +68,16 @@ pub record FillsFrom {P R A B : Type 0} (table : Table P R A B) (IsCut : Type 0)
   pub whole : IsCut ⊎ IsWhole left (length old.records) count
   pub stays : length old.records ≡ 0 → new.position ≡ old.position
 
--- What every batch gives: what comes from the old position on, as above; and what holds of its table
--- besides, as how the position moves.
+-- What every batch gives: what comes from the old position on, as above; and what holds of its
+-- table besides, as how the position moves.
 abbrev pub GivesFrom : {P R A B : Type 0} → Table P R A B → Type 0
     → (List (Option A) → Type 0) → Batch P R → Batch P R → ℕ → Type 0
 GivesFrom table IsCut Holds old new count =
     IsSomeAnd (table.from old.position)
     (λ left. FillsFrom table IsCut left old new count × Holds left)
 
--- `is_done` is true only if nothing is left, and there is room. If it is false, there is no more room,
--- or the batch was cut, or what comes next is a refusal.
+-- `is_done` is true only if nothing is left, and there is room. If it is false, there is no more
+-- room, or the batch was cut, or what comes next is a refusal.
 pub record TellsEnd {A : Type 0} (IsCut : Type 0) (rest : List (Option A)) (room count : ℕ)
     (is_done : Bool) : Type 0 where
   pub ended : is_done ≡ true → rest ≡ []
@@ -97,8 +96,8 @@ FillsNext table IsCut Holds old new batch =
 abbrev pub no_batch : PeBatch
 no_batch = record { count = 0; is_done = true }
 
--- Why a batch is refused if items may be refused: because what leads to them is, or because the very
--- next item is and there is room for it.
+-- Why a batch is refused if items may be refused: because what leads to them is, or because the
+-- very next item is and there is room for it.
 abbrev pub IsNextFault : {P R S A : Type 0} → Reading S → List ℕ → (S → List (Option A))
     → (S → ErrorOf → Type 0) → Batch P R → ErrorOf → Type 0
 IsNextFault read bytes left IsCause old e =

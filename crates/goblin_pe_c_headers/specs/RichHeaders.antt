@@ -1,6 +1,7 @@
 -- The entries of a Rich header, as a call gives them.
-use Rattle.std.specs.Prelude.{◌≡◌, ℕ, ◌+◌, ◌-◌, ◌/◌, ◌<◌, ◌%◌, ◌==◌, ◌&&◌, not, nat_le, Bool, List, [], drop}
-use Rattle.std.specs.Prelude.{◌∷◌, ◌^◌, length, None, Option, Some, IfSome, IsSomeAnd, Result, Ok, Err, true}
+use Rattle.std.specs.Prelude.{◌≡◌, ℕ, ◌+◌, ◌-◌, ◌/◌, ◌<◌, ◌%◌, ◌==◌, ◌&&◌, not, nat_le, Bool, List}
+use Rattle.std.specs.Prelude.{[], drop, ◌∷◌, ◌^◌, length, None, Option, Some, IfSome, IsSomeAnd}
+use Rattle.std.specs.Prelude.{Result, Ok, Err, true}
 use Rattle.goblin_base.specs.declared.error.ErrorOf.{ErrorOf}
 use Rattle.goblin_base.specs.declared.error.ErrorOf.TheVariants.{Read}
 use Rattle.goblin_base.specs.declared.error.ReadFault.TheVariants.{TooBig}
@@ -83,8 +84,8 @@ rich_of (Some r) = record {
   reserved = 0 ∷ 0 ∷ 0 ∷ [];
 }
 
--- The size of the padding has 32 bits, and the record leads to what follows the padding: so the walk
--- gives the entries of this header.
+-- The size of the padding has 32 bits, and the record leads to what follows the padding: so the
+-- walk gives the entries of this header.
 pub record IsWalked (bytes : List ℕ) (r : Rich) : Type 0 where
   pub padding : r.padding_size < 2 ^ 32
   pub entries : (rich_stretch (rich_of (Some r))).value bytes

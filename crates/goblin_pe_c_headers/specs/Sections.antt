@@ -62,7 +62,8 @@ row_view s = record {
   relocations = s.relocations;
 }
 
--- the row of a section with its stored name alone: the bytes at the front of its header before a NUL
+-- the row of a section with its stored name alone: the bytes at the front of its header before a
+-- NUL
 abbrev pub unnamed_row : List ℕ → ℕ → Section → SectionRow
 unnamed_row header i s = record {
   section = s;

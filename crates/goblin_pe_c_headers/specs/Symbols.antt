@@ -1,7 +1,6 @@
 -- The symbols of a table from one of its records on, and what a call gives of them.
-use Rattle.std.specs.Prelude.{◌≡◌, ℕ, zero, suc, ◌+◌, ◌-◌, ◌*◌, ◌/◌, ◌==◌, if◌then◌else◌}
-use Rattle.std.specs.Prelude.{List, [], length, nat_lt, take, drop, slice_index, true}
-use Rattle.std.specs.Prelude.{Option, Some, None}
+use Rattle.std.specs.Prelude.{◌≡◌, ℕ, zero, suc, ◌+◌, ◌-◌, ◌*◌, ◌/◌, ◌==◌, if◌then◌else◌, List, []}
+use Rattle.std.specs.Prelude.{length, nat_lt, take, drop, slice_index, true, Option, Some, None}
 use Rattle.std.specs.Option.{unwrap_or}
 use Rattle.std.specs.Str.{is_utf8}
 use Rattle.goblin_base.specs.declared.endian.Endian.TheVariants.{Little}
@@ -175,8 +174,8 @@ strings_with header (Some n) = mapped (λ s. Some s) (strings_from_c (symbols_en
 unfoldable pub string_bytes : CoffHeader → Reading (Option (List ℕ))
 string_bytes header = reads.◌>>=◌ (texts_of header) (strings_with header)
 
--- the text at an offset of the string table of an image, whose first four bytes are its length: what
--- is left of the piece there, where that is UTF-8, by the limit
+-- the text at an offset of the string table of an image, whose first four bytes are its length:
+-- what is left of the piece there, where that is UTF-8, by the limit
 abbrev pub string_at : PeImage → ℕ → Option (List ℕ)
 string_at image o =
     (string_bytes image.coff_header).value image.bytes.now

@@ -81,7 +81,8 @@ fn mapped_offset(mapped: &Mapped, rva: usize) -> Option<usize>
     )
 }
 
-/// The file offset of an RVA, as the options map. If several sections hold it, the first one counts.
+/// The file offset of an RVA, as the options map. If several sections hold it, the first one
+/// counts.
 pub fn offset_of(bytes: &[u8], options: &PeOptions, places: &PePlaces, rva: usize) -> Option<usize>
     ensures { result ≡ image_map options.now places.now bytes.now rva }
 {

@@ -1,8 +1,8 @@
 //! The auxiliary records of a symbol.
 
 ghost use Rattle.std.specs.Prelude.{◌≡◌, ◌≤◌, [], length};
-ghost use Rattle.goblin_pe_c_headers.specs.Auxiliary.{AuxiliaryView, file_offset, kind_of, kind_with};
-ghost use Rattle.goblin_pe_c_headers.specs.Auxiliary.{zero_auxiliary};
+ghost use Rattle.goblin_pe_c_headers.specs.Auxiliary.{AuxiliaryView, file_offset, kind_of};
+ghost use Rattle.goblin_pe_c_headers.specs.Auxiliary.{kind_with, zero_auxiliary};
 
 use crate::symbol::PeSymbol;
 use goblin_base::read::before_nul;

@@ -5,10 +5,10 @@ ghost use Rattle.std.specs.Fmt.InlineText.{inline_text};
 ghost use Rattle.goblin_base.specs.declared.error.ErrorOf.TheVariants.{Malformed, Read};
 ghost use Rattle.goblin_base.specs.ErrorText.{error_text};
 ghost use Rattle.goblin_pe_c_headers.specs.Faults.{IsNumbered, IsTextOf, cause_of, causes, fault};
-ghost use Rattle.goblin_pe_c_headers.specs.Faults.{call_text, fault_of, file_text, image_fault, kind_fault, number_of, options_fault, status_of};
-ghost use Rattle.goblin_pe_c_headers.specs.Faults.{status_with};
-ghost use Rattle.goblin_pe_c_headers.specs.Faults.{no_fault, read_fault_of, refusal_text};
-ghost use Rattle.goblin_pe_c_headers.specs.Faults.{word_number, word_of};
+ghost use Rattle.goblin_pe_c_headers.specs.Faults.{call_text, fault_of, file_text, image_fault};
+ghost use Rattle.goblin_pe_c_headers.specs.Faults.{kind_fault, number_of, options_fault, status_of};
+ghost use Rattle.goblin_pe_c_headers.specs.Faults.{status_with, no_fault, read_fault_of};
+ghost use Rattle.goblin_pe_c_headers.specs.Faults.{refusal_text, word_number, word_of};
 ghost use Rattle.goblin_pe_c_headers.specs.Filled.{Filled};
 
 use crate::kind::Kind;

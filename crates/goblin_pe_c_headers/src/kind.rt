@@ -15,8 +15,8 @@ use goblin_pe_head::header::{
     COFF_MACHINE_WCEMIPSV2, COFF_MACHINE_X86, COFF_MACHINE_X86_64, DOS_MAGIC, TE_MAGIC,
 };
 
-/// What a file is, by its first bytes. This does not say whether it can be read. No call reads archives,
-/// import objects and big objects.
+/// What a file is, by its first bytes. This does not say whether it can be read. No call reads
+/// archives, import objects and big objects.
 #[derive(Copy, Clone)]
 pub enum Kind {
     /// Another file.

@@ -4,8 +4,8 @@
 //! nor exports.
 //!
 //! Each text in a record is a slice of the caller's bytes, as tests check, so no text is copied.
-//! The crate `goblin_pe_c_tables` reads images as a whole into these records and its own. It needs the
-//! readers of imports and exports; this crate does not, and is proved beside them.
+//! The crate `goblin_pe_c_tables` reads images as a whole into these records and its own. It needs
+//! the readers of imports and exports; this crate does not, and is proved beside them.
 #![tactic(auto)]
 
 pub mod address;

@@ -351,9 +351,9 @@ fn memory_in_file(bytes: &[u8], outside: usize, rva: usize, size: usize) -> PeMe
     known((found, 0), size - found.len(), outside, region)
 }
 
-/// What a loader puts at an RVA: the first `size` bytes as far as they are known, the region and the
-/// section. Where the RVA has an offset inside the file, the first byte is the byte there, except in
-/// uninitialized data without a raw pointer, which is zeros.
+/// What a loader puts at an RVA: the first `size` bytes as far as they are known, the region and
+/// the section. Where the RVA has an offset inside the file, the first byte is the byte there,
+/// except in uninitialized data without a raw pointer, which is zeros.
 #[tactic(auto, unfolding(crate::specs::Memory::memory_at))]
 pub fn memory_at<'a>(
     bytes: &'a [u8],

@@ -2,8 +2,8 @@
 
 ghost use Rattle.std.specs.Prelude.{◌≡◌};
 ghost use Rattle.goblin_pe_c_headers.specs.Options.{alignment_in, header_options, options_at};
-ghost use Rattle.goblin_pe_c_headers.specs.Options.{are_known, longest_of, maps_addresses, name_limit};
-ghost use Rattle.goblin_pe_c_headers.specs.Options.{options_in, rule_at, view_of};
+ghost use Rattle.goblin_pe_c_headers.specs.Options.{are_known, longest_of, maps_addresses};
+ghost use Rattle.goblin_pe_c_headers.specs.Options.{name_limit, options_in, rule_at, view_of};
 
 use goblin_pe_head::header::Header;
 use goblin_pe_sect::options::{ParseMode, ParseOptions, RawPointerRule, View};
@@ -102,7 +102,8 @@ pub fn view_of(options: &PeOptions) -> View
     }
 }
 
-/// The options by which the header and the sections of a file are read: only the mode matters there.
+/// The options by which the header and the sections of a file are read: only the mode matters
+/// there.
 #[inline(always)]
 pub fn header_options(options: &PeOptions) -> ParseOptions
     ensures { result ≡ header_options options.now }

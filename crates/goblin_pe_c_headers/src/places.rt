@@ -27,7 +27,8 @@ pub struct PePlaces {
     pub magic: u16,
 }
 
-/// The bytes of `count` section headers at an offset. If there are none, the offset does not matter.
+/// The bytes of `count` section headers at an offset. If there are none, the offset does not
+/// matter.
 ///
 /// # Errors
 /// [`Error::Read`] if they run past the end of the file.

@@ -5,7 +5,8 @@ ghost use Rattle.goblin_base.specs.Reading.{Reads};
 ghost use Rattle.goblin_pe_sect.specs.Relocations.{relocations_in};
 ghost use Rattle.goblin_pe_c_headers.specs.Calls.{ReadsWithout};
 ghost use Rattle.goblin_pe_c_headers.specs.Onward.{GivesOnward, no_batch};
-ghost use Rattle.goblin_pe_c_headers.specs.Relocations.{RelocationBatch, all_relocations, record_count};
+ghost use Rattle.goblin_pe_c_headers.specs.Relocations.{RelocationBatch, all_relocations};
+ghost use Rattle.goblin_pe_c_headers.specs.Relocations.{record_count};
 
 use crate::batch::{PeBatch, ended};
 use crate::cursor::PeCoffRelocationCursor;

@@ -4,9 +4,9 @@ ghost use Rattle.std.specs.Prelude.{◌≡◌, ◌<◌, ◌^◌, IfOk, MatchResu
 ghost use Rattle.goblin_base.specs.Reading.{Reads};
 ghost use Rattle.goblin_pe_head.specs.RichMetadata.{metadata_at, metadata_items};
 ghost use Rattle.goblin_pe_c_headers.specs.Items.{values_of};
-ghost use Rattle.goblin_pe_c_headers.specs.RichHeaders.{GivesEntries, GivesEntriesOf, HeaderIsWalked};
-ghost use Rattle.goblin_pe_c_headers.specs.RichHeaders.{IsRefusedEntry, RichBatch, RichIsWalked};
-ghost use Rattle.goblin_pe_c_headers.specs.RichHeaders.{is_rest, rich_stretch};
+ghost use Rattle.goblin_pe_c_headers.specs.RichHeaders.{GivesEntries, GivesEntriesOf};
+ghost use Rattle.goblin_pe_c_headers.specs.RichHeaders.{HeaderIsWalked, IsRefusedEntry, RichBatch};
+ghost use Rattle.goblin_pe_c_headers.specs.RichHeaders.{RichIsWalked, is_rest, rich_stretch};
 
 use crate::batch::{PeBatch, ended, goes_on};
 use crate::image::{PeImage, PeRichHeader};

@@ -1,7 +1,6 @@
 //! The rows of sections, and their headers written back.
 
-ghost use Rattle.std.specs.Prelude.{◌≡◌, ◌+◌, ◌*◌, ◌<◌, ◌/◌, length, option_map};
-ghost use Rattle.std.specs.Prelude.{slice_range, take};
+ghost use Rattle.std.specs.Prelude.{◌≡◌, ◌+◌, ◌*◌, ◌<◌, ◌/◌, length, option_map, slice_range, take};
 ghost use Rattle.goblin_base.specs.declared.endian.Endian.TheVariants.{Little};
 ghost use Rattle.goblin_base.specs.Answers.{IsSliceFault};
 ghost use Rattle.goblin_base.specs.Bytes.{before_nul, overwritten};

@@ -1,6 +1,7 @@
 //! The symbols of an image or an object.
 
-ghost use Rattle.std.specs.Prelude.{◌≡◌, ◌+◌, ◌/◌, ◌<◌, ◌≤◌, IfOk, IfSome, None, length, option_map};
+ghost use Rattle.std.specs.Prelude.{◌≡◌, ◌+◌, ◌/◌, ◌<◌, ◌≤◌, IfOk, IfSome, None, length};
+ghost use Rattle.std.specs.Prelude.{option_map};
 ghost use Rattle.goblin_base.specs.Reading.{Reads};
 ghost use Rattle.goblin_base.specs.Strtab.{is_in_piece};
 ghost use Rattle.goblin_pe_head.specs.CoffHeader.{symbols_end};
@@ -10,10 +11,10 @@ ghost use Rattle.goblin_pe_c_headers.specs.Calls.{ReadsWithout};
 ghost use Rattle.goblin_pe_c_headers.specs.Onward.{no_batch};
 ghost use Rattle.goblin_pe_c_headers.specs.Options.{longest_of};
 ghost use Rattle.goblin_pe_c_headers.specs.Symbols.{FindsTables, GivesSymbols, NamesOfText};
-ghost use Rattle.goblin_pe_c_headers.specs.Symbols.{SymbolBatch, auxiliary_of, found_tables, name_at_end};
-ghost use Rattle.goblin_pe_c_headers.specs.Symbols.{name_in, name_in_piece, named_symbol};
-ghost use Rattle.goblin_pe_c_headers.specs.Symbols.{named_symbol_view, string_at, strings_from_c};
-ghost use Rattle.goblin_pe_c_headers.specs.Symbols.{symbol_named, texts_of};
+ghost use Rattle.goblin_pe_c_headers.specs.Symbols.{SymbolBatch, auxiliary_of, found_tables};
+ghost use Rattle.goblin_pe_c_headers.specs.Symbols.{name_at_end, name_in, name_in_piece};
+ghost use Rattle.goblin_pe_c_headers.specs.Symbols.{named_symbol, named_symbol_view, string_at};
+ghost use Rattle.goblin_pe_c_headers.specs.Symbols.{strings_from_c, symbol_named, texts_of};
 
 use crate::batch::{PeBatch, ended, goes_on};
 use crate::image::PeImage;
@@ -82,8 +83,8 @@ fn any_name_in_piece(strings: &[u8], offset: usize, longest: Option<u32>) -> Opt
     }
 }
 
-// The same if there is no limit, of a name that is ASCII and ends before the last bytes; else `None`,
-// which says nothing about it.
+// The same if there is no limit, of a name that is ASCII and ends before the last bytes; else
+// `None`, which says nothing about it.
 #[inline(always)]
 fn plain_name_in_piece(strings: &[u8], offset: usize, longest: Option<u32>) -> Option<&str>
     ensures { IfSome result (λ s. name_in_piece longest strings.now offset ≡ Some s.now) }

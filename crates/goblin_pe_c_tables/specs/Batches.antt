@@ -1,8 +1,7 @@
 -- Batches of the tables of a file: imports, exports, export addresses and blocks; and a call.
-use Rattle.std.specs.Prelude.{◌≡◌, ℕ, ◌≤◌, true, if◌then◌else◌, List}
-use Rattle.std.specs.Prelude.{[], ◌∷◌, ◌&&◌, ◌==◌, is_none, not}
-use Rattle.std.specs.Prelude.{◌+◌, ◌++◌, take, length, max, Option, Some, None}
-use Rattle.std.specs.Prelude.{Bool, is_some, option_map, Result, Ok, Err, IsSomeAnd, sum_by, unwrap_or}
+use Rattle.std.specs.Prelude.{◌≡◌, ℕ, ◌≤◌, true, if◌then◌else◌, List, [], ◌∷◌, ◌&&◌, ◌==◌, is_none}
+use Rattle.std.specs.Prelude.{not, ◌+◌, ◌++◌, take, length, max, Option, Some, None, Bool, is_some}
+use Rattle.std.specs.Prelude.{option_map, Result, Ok, Err, IsSomeAnd, sum_by, unwrap_or}
 use Rattle.goblin_base.specs.declared.error.ErrorOf.{ErrorOf}
 use Rattle.goblin_base.specs.Answers.{FirstFault, IsMemory}
 use Rattle.goblin_base.specs.Reading.{IsRefused, Reading}
@@ -32,8 +31,8 @@ use Rattle.goblin_pe_c_tables.specs.declared.export.PeExport.{PeExport}
 use Rattle.goblin_pe_c_tables.specs.declared.export_directory.PeExportAddress.{PeExportAddress}
 use Rattle.goblin_pe_c_tables.specs.declared.import.PeImport.{PeImport}
 use Rattle.goblin_pe_c_tables.specs.declared.next.PeImportCursor.{PeImportCursor}
-use Rattle.goblin_pe_c_tables.specs.ExportDirectories.{DirectoryView, addresses_for_c, directory_for_c}
-use Rattle.goblin_pe_c_tables.specs.ExportDirectories.{no_export_directory}
+use Rattle.goblin_pe_c_tables.specs.ExportDirectories.{DirectoryView, addresses_for_c}
+use Rattle.goblin_pe_c_tables.specs.ExportDirectories.{directory_for_c, no_export_directory}
 use Rattle.goblin_pe_c_tables.specs.Exports.{ExportView, export_for_c, export_view}
 use Rattle.goblin_pe_c_tables.specs.Imports.{GivesHere, ImportView, import_for_c, import_view}
 use Rattle.goblin_pe_c_tables.specs.Places.{TakesIndexAt, directory_offset, map_at, places_from_c}
@@ -113,8 +112,8 @@ position_ahead m places bytes p =
 abbrev pub is_over : ImportCursor → Bool
 is_over c = is_none c.place && is_none c.next_record && is_none c.pending
 
--- A step looks at a slot or a record. Of the steps are gone as many as are no longer ahead; or all, and
--- at most n more, as the slots of an address table are looked at in one go.
+-- A step looks at a slot or a record. Of the steps are gone as many as are no longer ahead; or all,
+-- and at most n more, as the slots of an address table are looked at in one go.
 abbrev pub GivesImports : MapOfAddresses → TablePlaces → List ℕ → ℕ → ℕ → ImportBatch
     → ImportBatch → PeBatch → Type 0
 GivesImports m places bytes before after old new batch =

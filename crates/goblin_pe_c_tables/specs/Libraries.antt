@@ -1,6 +1,6 @@
 -- The records of libraries, and batches of them.
-use Rattle.std.specs.Prelude.{◌≡◌, ◌==◌, if◌then◌else◌, IsSome, Some, ℕ, Bool, false, List, [], ◌∷◌, option_map, take, Result}
-use Rattle.std.specs.Prelude.{Ok, Err}
+use Rattle.std.specs.Prelude.{◌≡◌, ◌==◌, if◌then◌else◌, IsSome, Some, ℕ, Bool, false, List, [], ◌∷◌}
+use Rattle.std.specs.Prelude.{option_map, take, Result, Ok, Err}
 use Rattle.goblin_base.specs.declared.error.ErrorOf.{ErrorOf}
 use Rattle.goblin_pe_import.specs.declared.import.directory_entry.ImportDirectoryEntry.{ImportDirectoryEntry}
 use Rattle.goblin_pe.specs.Addresses.{MapOfAddresses, reads_strictly}
@@ -90,16 +90,16 @@ GivesLibraries m places bytes old new batch =
     (λ left. new.position
     ≡ position_by batch.is_done old.position (take batch.count (values_before left))) old new batch
 
--- Where the imports begin is refused, or else no library comes next, since the directory reaches the
--- end of the file, and there is room for one.
+-- Where the imports begin is refused, or else no library comes next, since the directory reaches
+-- the end of the file, and there is room for one.
 abbrev pub IsLibrariesFault : MapOfAddresses → TablePlaces → List ℕ → LibraryBatch → ErrorOf → Type 0
 IsLibrariesFault m places bytes old e =
     IsNextFault (import_cursor m places old.position) bytes
     (cursor_libraries m (entry_format places.magic) bytes) (IsCursorEndCause m bytes) old e
 
--- From the cursor of a library come its imports, and nothing else: what a walk over all imports gives
--- of its entry. Where that needs the name of the library and can't read it, this one does not need it.
--- (Of a directory at the front of the file permissive mode gives none.)
+-- From the cursor of a library come its imports, and nothing else: what a walk over all imports
+-- gives of its entry. Where that needs the name of the library and can't read it, this one does not
+-- need it. (Of a directory at the front of the file permissive mode gives none.)
 unfoldable pub LibrariesEnd : Type 0
 LibrariesEnd =
     (m : MapOfAddresses) (places : TablePlaces) (bytes : List ℕ) (first p : ℕ)

@@ -1,6 +1,7 @@
 -- The record of an image as far as its header goes.
-use Rattle.std.specs.Prelude.{◌≡◌, ◌&&◌, ℕ, Bool, false, true, if◌then◌else◌, List, [], length, map, min}
-use Rattle.std.specs.Prelude.{option_map, Option, Some, None, Result, Ok, Err, IsSome, MatchResult, is_err, is_ok}
+use Rattle.std.specs.Prelude.{◌≡◌, ◌&&◌, ℕ, Bool, false, true, if◌then◌else◌, List, [], length, map}
+use Rattle.std.specs.Prelude.{min, option_map, Option, Some, None, Result, Ok, Err, IsSome}
+use Rattle.std.specs.Prelude.{MatchResult, is_err, is_ok}
 use Rattle.std.specs.Option.{unwrap_or}
 use Rattle.goblin_base.specs.declared.error.ErrorOf.{ErrorOf}
 use Rattle.goblin_base.specs.Reading.{IsRefused, Reading, Reads}

@@ -1,13 +1,13 @@
 -- Where the sections and the tables of a file lie, as the record that a caller keeps.
-use Rattle.std.specs.Prelude.{◌≡◌, ℕ, Bool, List, length}
-use Rattle.std.specs.Prelude.{Option, Some, None, IsSomeAnd}
-use Rattle.goblin_pe_sect.specs.Addresses.{Addressing, AreMany, MapOfAddresses, map_in, with_longest}
+use Rattle.std.specs.Prelude.{◌≡◌, ℕ, Bool, List, length, Option, Some, None, IsSomeAnd}
+use Rattle.goblin_pe_sect.specs.Addresses.{Addressing, AreMany, MapOfAddresses, map_in}
+use Rattle.goblin_pe_sect.specs.Addresses.{with_longest}
 use Rattle.goblin_pe_sect.specs.declared.data_directories.DataDirectory.{DataDirectory}
 use Rattle.goblin_pe_sect.specs.Options.{front_of}
 use Rattle.goblin_pe_sect.specs.SectionTable.{Section}
 use Rattle.goblin_pe.specs.PeHeader.{PeHeader}
-use Rattle.goblin_pe.specs.Whole.{TablePlaces, directory_at, mapped_in, places_in, section_table_offset, sections_after}
-use Rattle.goblin_pe.specs.Whole.{size_of_headers}
+use Rattle.goblin_pe.specs.Whole.{TablePlaces, directory_at, mapped_in, places_in}
+use Rattle.goblin_pe.specs.Whole.{section_table_offset, sections_after, size_of_headers}
 use Rattle.goblin_pe_c_headers.specs.declared.options.PeOptions.{PeOptions}
 use Rattle.goblin_pe_c_headers.specs.declared.places.PePlaces.{PePlaces}
 use Rattle.goblin_pe_c_headers.specs.Options.{longest_of, options_at, view_of}
@@ -15,8 +15,8 @@ use Rattle.goblin_pe_c_headers.specs.Places.{placed_sections}
 
 -- ---- the record of a header
 
--- where the tables lie, as numbers, with the offset of the section table, the size of the headers and
--- the number of the table's records
+-- where the tables lie, as numbers, with the offset of the section table, the size of the headers
+-- and the number of the table's records
 abbrev pub places_for_c : ℕ → ℕ → ℕ → TablePlaces → PePlaces
 places_for_c section_table headers number_of_sections t = record {
   section_table = section_table;

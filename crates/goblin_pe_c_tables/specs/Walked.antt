@@ -1,5 +1,6 @@
 -- A whole file as walks give it, and the bytes on which that depends.
-use Rattle.std.specs.Prelude.{◌≡◌, ◌<◌, ◌^◌, ℕ, false, true, length, List, [], Option, Some, None, IsSomeAnd}
+use Rattle.std.specs.Prelude.{◌≡◌, ◌<◌, ◌^◌, ℕ, false, true, length, List, [], Option, Some, None}
+use Rattle.std.specs.Prelude.{IsSomeAnd}
 use Rattle.std.proofs.Common.{◌∙◌, ap}
 use Rattle.goblin_base.specs.Bytes.{IsBytes}
 use Rattle.goblin_base.specs.Footprints.{Agree}
@@ -23,8 +24,9 @@ use Rattle.goblin_pe.specs.declared.whole.Part.TheVariants.{Absent, Refused}
 use Rattle.goblin_pe.specs.declared.whole.Part.TheVariants as part
 use Rattle.goblin_pe.specs.ExportRecords.{ExportTables, NumberedExport}
 use Rattle.goblin_pe.specs.Imports.{NumberedImport}
-use Rattle.goblin_pe.specs.Whole.{NumberedTables, TableParts, by_layout, collected_tables, imports_in}
-use Rattle.goblin_pe.specs.Whole.{IfRead, TablePlaces, export_part, layout, part_map, places_in, relocation_part, tables_with}
+use Rattle.goblin_pe.specs.Whole.{NumberedTables, TableParts, by_layout, collected_tables}
+use Rattle.goblin_pe.specs.Whole.{imports_in, IfRead, TablePlaces, export_part, layout, part_map}
+use Rattle.goblin_pe.specs.Whole.{places_in, relocation_part, tables_with}
 use Rattle.goblin_pe_c_tables.specs.Batches.{exports_in, import_table}
 use Rattle.goblin_pe_c_tables.specs.Places.{map_at, places_record, places_from_c}
 use Rattle.goblin_pe_c_headers.specs.Places.{placed_sections}
@@ -34,8 +36,8 @@ use Rattle.goblin_pe_c_tables.specs.ReadImages.{image_of}
 use Rattle.goblin_pe_c_headers.specs.Onward.{unrefused}
 use Rattle.goblin_pe_c_headers.specs.Places.{image_places}
 use Rattle.goblin_pe_c_headers.specs.declared.image.PeImage.{PeImage}
-use Rattle.goblin_pe_c_headers.specs.Options.{alignment_in, alignment_of, header_options, longest_of, options_at}
-use Rattle.goblin_pe_c_headers.specs.Options.{options_in, view_of}
+use Rattle.goblin_pe_c_headers.specs.Options.{alignment_in, alignment_of, header_options}
+use Rattle.goblin_pe_c_headers.specs.Options.{longest_of, options_at, options_in, view_of}
 use Rattle.goblin_pe_c_headers.specs.declared.options.PeOptions.{PeOptions}
 
 -- ---- a file
@@ -112,8 +114,8 @@ pub record AreItems (tables : WalkedTables) (m : MapOfAddresses) (places : Table
       tables.exports
   pub relocations : (relocation_part m.opts m.addressing places).value bytes ≡ Some tables.relocations
 
--- By the options and the places of the header, walks give these tables, and a read of the layout these
--- sections.
+-- By the options and the places of the header, walks give these tables, and a read of the layout
+-- these sections.
 pub record AreWalked (o : PeOptions) (bytes : List ℕ) (w : WalkedFile) : Type 0 where
   pub read : (layout (header_options o)).value bytes ≡ Some (w.header, w.sections)
   pub items : let places = places_record w.header in
@@ -128,9 +130,9 @@ WalksGive =
 
 -- ---- in both modes
 
--- If an image has no damage, and no library is left out, both modes read its header and its sections,
--- and walks that read names whole give the same in both. (The number of sections has 16 bits in each
--- header.)
+-- If an image has no damage, and no library is left out, both modes read its header and its
+-- sections, and walks that read names whole give the same in both. (The number of sections has 16
+-- bits in each header.)
 unfoldable pub SoundIsWalkedAlike : Type 0
 SoundIsWalkedAlike =
     (image : PeImage) (l : PeHeader × List Section) (d : Damage) → longest_of image.options ≡ None

@@ -4,10 +4,10 @@ ghost use Rattle.std.specs.Prelude.{◌≡◌, ◌≤◌, None, false, length};
 ghost use Rattle.goblin_pe_sect.specs.Addresses.{reads_strictly};
 ghost use Rattle.goblin_pe.specs.added.Damages.{IsDamage};
 ghost use Rattle.goblin_pe.specs.added.Layouts.{layout_bytes, layout_map, layout_places};
-ghost use Rattle.goblin_pe_c_tables.specs.Damages.{AnswersDamage, AnswersRunsOut, DamageSteps, ImportSteps};
-ghost use Rattle.goblin_pe_c_tables.specs.Damages.{IsDamagedBy, ReadsDamage, all_imports, all_pointers};
-ghost use Rattle.goblin_pe_c_tables.specs.Damages.{damage_record, damage_refusal};
-ghost use Rattle.goblin_pe_c_tables.specs.Damages.{image_names, is_sound};
+ghost use Rattle.goblin_pe_c_tables.specs.Damages.{AnswersDamage, AnswersRunsOut, DamageSteps};
+ghost use Rattle.goblin_pe_c_tables.specs.Damages.{ImportSteps, IsDamagedBy, ReadsDamage};
+ghost use Rattle.goblin_pe_c_tables.specs.Damages.{all_imports, all_pointers, damage_record};
+ghost use Rattle.goblin_pe_c_tables.specs.Damages.{damage_refusal, image_names, is_sound};
 ghost use Rattle.goblin_pe_c_tables.specs.Damages.{part_fault, tables_fault};
 ghost use Rattle.goblin_pe_c_tables.specs.Walked.{SoundIsWalkedAlike};
 

@@ -3,7 +3,8 @@
 ghost use Rattle.std.specs.Prelude.{◌≡◌, None, Some};
 ghost use Rattle.goblin_pe_export.specs.added.ExportWalks.{walked_export};
 ghost use Rattle.goblin_pe_export.specs.Forwarders.{forwarder_value};
-ghost use Rattle.goblin_pe_c_tables.specs.Exports.{export_for_c, export_view, said_without_forwarder};
+ghost use Rattle.goblin_pe_c_tables.specs.Exports.{export_for_c, export_view};
+ghost use Rattle.goblin_pe_c_tables.specs.Exports.{said_without_forwarder};
 
 use crate::forwarder::{PeForwarder, forwarder_record, no_forwarder};
 use goblin_pe::added::WalkedExport;

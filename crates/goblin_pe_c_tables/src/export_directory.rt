@@ -1,13 +1,13 @@
 //! The records of what an export directory says, and of the export address table, in batches.
 
-ghost use Rattle.std.specs.Prelude.{◌≡◌, MatchResult};
-ghost use Rattle.std.specs.Prelude.{slice_get};
+ghost use Rattle.std.specs.Prelude.{◌≡◌, MatchResult, slice_get};
 ghost use Rattle.goblin_pe_sect.specs.Addresses.{map_of};
 ghost use Rattle.goblin_pe_export.specs.ExportRecords.{rva_of};
 ghost use Rattle.goblin_pe_export.specs.added.ExportWalks.{walked_tables};
 ghost use Rattle.goblin_pe.specs.added.Layouts.{layout_bytes, layout_map, layout_places};
 ghost use Rattle.goblin_pe_c_tables.specs.Batches.{AddressBatch, GivesAddresses, GivesBatch};
-ghost use Rattle.goblin_pe_c_tables.specs.Batches.{IsAddressBatchFault, IsAddressesFault, SaysDirectory};
+ghost use Rattle.goblin_pe_c_tables.specs.Batches.{IsAddressBatchFault, IsAddressesFault};
+ghost use Rattle.goblin_pe_c_tables.specs.Batches.{SaysDirectory};
 ghost use Rattle.goblin_pe_c_headers.specs.Onward.{GivesOnward};
 ghost use Rattle.goblin_pe_c_tables.specs.ExportDirectories.{address_for_c, addresses_for_c};
 ghost use Rattle.goblin_pe_c_tables.specs.ExportDirectories.{directory_for_c, directory_view};

@@ -1,8 +1,8 @@
 //! What callers that are not written in Rattle call on an image: for each call a function that
 //! fills its records, or is refused. The crate `goblin_pe_c_headers` has the records of headers,
 //! sections, symbols and relocations, the calls for such parts of a file, and those for objects and
-//! Terse Executables. The crate `goblin_pe_capi` has all of these as calls for C, which tell a refusal
-//! as numbers.
+//! Terse Executables. The crate `goblin_pe_capi` has all of these as calls for C, which tell a
+//! refusal as numbers.
 //!
 //! A call borrows the caller's bytes. Each text in a record is a slice of those bytes, as tests
 //! check, so no text is copied. The ranges of the bytes on which a file depends are handed over as

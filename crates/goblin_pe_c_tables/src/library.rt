@@ -5,8 +5,7 @@ ghost use Rattle.goblin_base.specs.Answers.{IsMemory};
 ghost use Rattle.goblin_pe_sect.specs.Addresses.{map_of};
 ghost use Rattle.goblin_pe.specs.added.Layouts.{layout_bytes, layout_map, layout_places};
 ghost use Rattle.goblin_pe.specs.added.Libraries.{AreLibrariesOver, IsLibrariesCause};
-ghost use Rattle.goblin_pe.specs.added.Libraries.{libraries_left};
-ghost use Rattle.goblin_pe.specs.added.Libraries.{library_value};
+ghost use Rattle.goblin_pe.specs.added.Libraries.{libraries_left, library_value};
 ghost use Rattle.goblin_pe.specs.Whole.{entry_format};
 ghost use Rattle.goblin_pe_c_tables.specs.Libraries.{GivesLibraries};
 ghost use Rattle.goblin_pe_c_tables.specs.Libraries.{IsLibrariesFault, LibraryBatch};
@@ -73,7 +72,8 @@ fn library_record<'a>(
     }
 }
 
-// Fills records with the libraries that come next, as far as there is room, and answers what it did.
+// Fills records with the libraries that come next, as far as there is room, and answers what it
+// did.
 fn fill_libraries<'a>(
     layout: &Layout<'a>,
     mut libraries: Libraries<'a, '_>,

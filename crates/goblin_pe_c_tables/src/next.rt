@@ -6,13 +6,12 @@ ghost use Rattle.goblin_base.specs.Answers.{IsMemory};
 ghost use Rattle.goblin_base.specs.Reading.{Reads};
 ghost use Rattle.goblin_pe.specs.added.LayoutCursors.{file_ahead};
 ghost use Rattle.goblin_pe_export.specs.added.ExportWalks.{KeepsOver, exports_left};
-ghost use Rattle.goblin_pe_export.specs.added.ExportWalks.{exports_position};
-ghost use Rattle.goblin_pe_export.specs.added.ExportWalks.{pointer_count};
+ghost use Rattle.goblin_pe_export.specs.added.ExportWalks.{exports_position, pointer_count};
 ghost use Rattle.goblin_pe.specs.added.Layouts.{IsFileImportsCause, file_imports_left, layout_map};
 ghost use Rattle.goblin_pe.specs.added.Layouts.{layout_bytes, layout_places};
-ghost use Rattle.goblin_pe_c_tables.specs.Batches.{ExportWalkBatch, Fills, GivesExports, GivesImports};
-ghost use Rattle.goblin_pe_c_tables.specs.Batches.{GivesInFile, GoesOn, ImportBatch, export_walk};
-ghost use Rattle.goblin_pe_c_tables.specs.Batches.{IsExportBatchFault, IsImportsFault};
+ghost use Rattle.goblin_pe_c_tables.specs.Batches.{ExportWalkBatch, Fills, GivesExports};
+ghost use Rattle.goblin_pe_c_tables.specs.Batches.{GivesImports, GivesInFile, GoesOn, ImportBatch};
+ghost use Rattle.goblin_pe_c_tables.specs.Batches.{export_walk, IsExportBatchFault, IsImportsFault};
 ghost use Rattle.goblin_pe_c_tables.specs.Batches.{cursor_for_c, cursor_from_c, import_cursor};
 ghost use Rattle.goblin_pe_c_tables.specs.Batches.{is_over};
 ghost use Rattle.goblin_pe_c_tables.specs.Imports.{GivesHere};
@@ -166,8 +165,8 @@ fn fill_here<'a, 'm, 'e, T: Bitfield<'a>>(
     count
 }
 
-// As `fill_here`, by the width of the file's entries, within the steps that are left. Where there is
-// no room, nothing is made ready for what comes next.
+// As `fill_here`, by the width of the file's entries, within the steps that are left. Where there
+// is no room, nothing is made ready for what comes next.
 #[inline(always)]
 fn fill_library<'a, 'm, 'e>(
     bytes: &'a [u8],
@@ -301,8 +300,8 @@ fn pointers_before(end: usize, exports: &Exports) -> usize
 }
 
 // Fills records with the exports that come next of the name pointers before `end`, as far as there
-// is room, and answers how many. Those that are plain come by a loop of their own, in which all goes
-// in line.
+// is room, and answers how many. Those that are plain come by a loop of their own, in which all
+// goes in line.
 fn fill_exports<'a, 'm>(
     bytes: &'a [u8],
     exports: &mut Exports<'a, 'm>,

@@ -10,10 +10,10 @@ ghost use Rattle.goblin_pe.specs.Whole.{layout as file_layout};
 ghost use Rattle.goblin_pe_c_headers.specs.Faults.{status_of};
 ghost use Rattle.goblin_pe_c_headers.specs.Headers.{optional_record};
 ghost use Rattle.goblin_pe_c_headers.specs.ImageRecords.{IsImage, zero_coff_header};
-ghost use Rattle.goblin_pe_c_tables.specs.PartialImages.{AreTableFaults, PartialRecords, SaysPartial, file_stub};
-ghost use Rattle.goblin_pe_c_tables.specs.PartialImages.{faults_of, given_count, given_or};
-ghost use Rattle.goblin_pe_c_tables.specs.PartialImages.{has_fields, is_replaced, names_there};
-ghost use Rattle.goblin_pe_c_tables.specs.PartialImages.{sections_of};
+ghost use Rattle.goblin_pe_c_tables.specs.PartialImages.{AreTableFaults, PartialRecords};
+ghost use Rattle.goblin_pe_c_tables.specs.PartialImages.{SaysPartial, file_stub, faults_of};
+ghost use Rattle.goblin_pe_c_tables.specs.PartialImages.{given_count, given_or, has_fields};
+ghost use Rattle.goblin_pe_c_tables.specs.PartialImages.{is_replaced, names_there, sections_of};
 ghost use Rattle.goblin_pe_c_tables.specs.PartialImages.{partial_image, stub_size, table_there};
 
 use crate::read::rich_record;
@@ -276,8 +276,8 @@ fn faults_of(
     }
 }
 
-/// Reads the header of an image as far as it goes. Fills `image` whatever the file holds, with zeros
-/// where a part can't be read, and says in `faults` why.
+/// Reads the header of an image as far as it goes. Fills `image` whatever the file holds, with
+/// zeros where a part can't be read, and says in `faults` why.
 ///
 /// # Errors
 /// What a read of the image refuses; both records are filled all the same.

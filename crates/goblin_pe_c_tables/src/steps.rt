@@ -16,8 +16,8 @@ pub(crate) fn or_fault(first: PeFault, second: PeFault) -> PeFault
     if first.status == 0 { second } else { first }
 }
 
-/// How many steps a call takes to look at the sections: one for each above 96. Without room it takes
-/// none.
+/// How many steps a call takes to look at the sections: one for each above 96. Without room it
+/// takes none.
 #[inline(always)]
 pub(crate) fn section_steps(image: &PeImage, room: usize) -> usize
     ensures { result ≡ section_steps image.now room }

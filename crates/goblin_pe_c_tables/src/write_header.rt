@@ -7,8 +7,8 @@ use goblin_pe::{Endian, Result};
 use goblin_pe_c_headers::given_header::{header_from_c, stub_of};
 use goblin_pe_c_headers::image::PeImage;
 
-/// Writes the header that the record says. Sets `written` to the size. Without any room it only does
-/// the latter.
+/// Writes the header that the record says. Sets `written` to the size. Without any room it only
+/// does the latter.
 ///
 /// # Errors
 /// Read if the file has no such DOS stub; an optional header of unknown magic, one for 32 bits with

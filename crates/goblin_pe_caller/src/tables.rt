@@ -1,7 +1,6 @@
 //! Short calls of one table each.
 
-ghost use Rattle.std.specs.Prelude.{◌≡◌, ◌↔◌, ◌*◌, [], IfOk, IsTrue, count_by};
-ghost use Rattle.std.specs.Prelude.{length, slice_get};
+ghost use Rattle.std.specs.Prelude.{◌≡◌, ◌↔◌, ◌*◌, [], IfOk, IsTrue, count_by, length, slice_get};
 ghost use Rattle.std.specs.List.{Contains};
 ghost use Rattle.goblin_pe.specs.AddressReadings.{data_at};
 ghost use Rattle.goblin_pe.specs.Answers.{IsSliceFault, Writes};
@@ -18,8 +17,7 @@ ghost use Rattle.goblin_pe.specs.Symbols.{symbol_bytes, symbols_in};
 ghost use Rattle.goblin_pe.specs.declared.endian.Endian.{Endian};
 ghost use Rattle.goblin_pe.specs.declared.error.CauseOf.TheVariants.{Message};
 ghost use Rattle.goblin_pe.specs.declared.error.ErrorOf.TheVariants.{Malformed};
-ghost use Rattle.goblin_pe_caller.specs.Counts.{import_count, leads_to_forwarder};
-ghost use Rattle.goblin_pe_caller.specs.Counts.{rich_entry_count};
+ghost use Rattle.goblin_pe_caller.specs.Counts.{import_count, leads_to_forwarder, rich_entry_count};
 
 use goblin_pe::data_directories::{DataDirectories, DataDirectory};
 use goblin_pe::export::{

@@ -34,9 +34,9 @@ pub extern "C" fn goblin_pe_raw_read_damage(
 
 /// Finds the bytes on which these answers about an image depend: its header, its sections, and all
 /// rows of its imports, exports and base relocations by these options, with whole names. Another
-/// file of the same length, with the same bytes there, gets the same answers. Use it as the key of a
-/// cache. Symbols, the contents of sections and the checksum are not among them. The header is read
-/// again from the bytes, so other numbers in the record change nothing. A file that
+/// file of the same length, with the same bytes there, gets the same answers. Use it as the key of
+/// a cache. Symbols, the contents of sections and the checksum are not among them. The header is
+/// read again from the bytes, so other numbers in the record change nothing. A file that
 /// `goblin_pe_read_image` refuses has the footprint of that refusal.
 ///
 /// Faults: MEMORY; KIND; OPTIONS. Free the footprint with `goblin_pe_free_footprint`.

@@ -2,9 +2,10 @@
 
 ghost use Rattle.std.specs.Prelude.{◌≡◌, ◌≢◌, ◌-◌, length};
 ghost use Rattle.goblin_pe_c_headers.specs.Faults.{options_fault};
-ghost use Rattle.goblin_pe_c_tables.specs.Batches.{GivesImports, ImportBatch, IsImportsFault, WalksOver};
-ghost use Rattle.goblin_pe_c_tables.specs.Libraries.{GivesLibraries, IsLibrariesFault, LibrariesEnd};
-ghost use Rattle.goblin_pe_c_tables.specs.Libraries.{LibraryBatch};
+ghost use Rattle.goblin_pe_c_tables.specs.Batches.{GivesImports, ImportBatch, IsImportsFault};
+ghost use Rattle.goblin_pe_c_tables.specs.Batches.{WalksOver};
+ghost use Rattle.goblin_pe_c_tables.specs.Libraries.{GivesLibraries, IsLibrariesFault};
+ghost use Rattle.goblin_pe_c_tables.specs.Libraries.{LibrariesEnd, LibraryBatch};
 ghost use Rattle.goblin_pe_c_tables.specs.Steps.{section_steps, walk_fault};
 
 use goblin_pe_c_headers::batch::PeBatch;

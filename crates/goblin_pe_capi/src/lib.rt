@@ -4,8 +4,8 @@
 //! check, so no text is copied. The ranges of the bytes on which a file depends are handed over as
 //! memory that the caller frees; the other calls fill the caller's records, or write to its bytes.
 //! Headers and tables have the libraries' own records where these are plain. The crates
-//! `goblin_pe_c_headers` and `goblin_pe_c_tables` have the other records, and what each call does; a
-//! call of this crate tells its refusal as numbers.
+//! `goblin_pe_c_headers` and `goblin_pe_c_tables` have the other records, and what each call does;
+//! a call of this crate tells its refusal as numbers.
 #![tactic(auto)]
 
 mod checksum;

@@ -1,8 +1,8 @@
 //! The calls that look up an RVA or a file offset of an image, or give the contents of a section.
 //!
-//! They look the sections up in the file, and take no memory. If the options have an unknown mapping,
-//! or the file has no room for the section headers, no address has an offset or a region. With
-//! `Identity` each RVA is its own offset, whatever the header says.
+//! They look the sections up in the file, and take no memory. If the options have an unknown
+//! mapping, or the file has no room for the section headers, no address has an offset or a region.
+//! With `Identity` each RVA is its own offset, whatever the header says.
 
 ghost use Rattle.std.specs.Prelude.{◌≡◌, ◌==◌};
 ghost use Rattle.goblin_pe_c_headers.specs.Addresses.{image_address, image_map, text_at};
@@ -10,8 +10,7 @@ ghost use Rattle.goblin_pe_c_headers.specs.Calls.{ReadsWithout, ReportedAfter};
 ghost use Rattle.goblin_pe_c_headers.specs.Faults.{options_fault};
 ghost use Rattle.goblin_pe_c_headers.specs.Found.{Puts};
 ghost use Rattle.goblin_pe_c_headers.specs.Images.{slice_view};
-ghost use Rattle.goblin_pe_c_headers.specs.Memory.{SeesFile, memory_at, memory_view};
-ghost use Rattle.goblin_pe_c_headers.specs.Memory.{section_data};
+ghost use Rattle.goblin_pe_c_headers.specs.Memory.{SeesFile, memory_at, memory_view, section_data};
 ghost use Rattle.goblin_pe_c_headers.specs.Places.{image_places};
 ghost use Rattle.goblin_pe_c_headers.specs.Sections.{section_view};
 
@@ -37,8 +36,8 @@ pub extern "C" fn goblin_pe_raw_find_offset(image: &PeImage, rva: usize, offset:
     put_found(offset, offset_of(image.bytes, &image.options, &places, rva))
 }
 
-/// Sets `*rva` to an RVA that `goblin_pe_find_offset` maps to this offset: that in the first section
-/// whose raw data holds the offset, or else in the headers.
+/// Sets `*rva` to an RVA that `goblin_pe_find_offset` maps to this offset: that in the first
+/// section whose raw data holds the offset, or else in the headers.
 ///
 /// Returns whether there is one. There is none if an earlier section hides it at that RVA; later
 /// sections are not tried.
@@ -59,9 +58,10 @@ pub extern "C" fn goblin_pe_raw_find_rva(image: &PeImage, offset: usize, rva: &m
 ///     if (goblin_pe_memory_at(&image, rva, 16, &memory) && memory.bytes.length == 16)
 ///         use(memory.bytes.bytes);
 ///
-/// A section whose raw data holds the RVA comes first, then the mapped headers, then a section whose
-/// virtual size reaches it. So if `goblin_pe_find_offset` finds an offset inside the file, the first
-/// byte is the byte there, except in uninitialized data without a raw pointer, which is zeros.
+/// A section whose raw data holds the RVA comes first, then the mapped headers, then a section
+/// whose virtual size reaches it. So if `goblin_pe_find_offset` finds an offset inside the file,
+/// the first byte is the byte there, except in uninitialized data without a raw pointer, which is
+/// zeros.
 ///
 /// Returns whether nothing is missing; with `size` 0 so always true.
 #[unsafe(no_mangle)]

@@ -21,8 +21,8 @@ use goblin_pe_c_headers::{kind, object, te};
 use goblin_pe_c_tables::partial::{self, PeHeaderFaults};
 use goblin_pe_c_tables::read;
 
-/// Returns what a file is, as a [`Kind`](goblin_pe_c_headers::kind::Kind). Whether it can be read is
-/// another question.
+/// Returns what a file is, as a [`Kind`](goblin_pe_c_headers::kind::Kind). Whether it can be read
+/// is another question.
 #[unsafe(no_mangle)]
 pub extern "C" fn goblin_pe_raw_kind_of(bytes: &[u8]) -> u32
     ensures { result ≡ kind_number (kind_of bytes.now) }

@@ -1,7 +1,8 @@
 //! The call that walks over blocks of base relocations.
 
 ghost use Rattle.goblin_pe_c_headers.specs.Faults.{options_fault};
-ghost use Rattle.goblin_pe_c_tables.specs.Batches.{BlockBatch, GivesBlocks, IsBlocksFault, WalksOver};
+ghost use Rattle.goblin_pe_c_tables.specs.Batches.{BlockBatch, GivesBlocks, IsBlocksFault};
+ghost use Rattle.goblin_pe_c_tables.specs.Batches.{WalksOver};
 
 use goblin_pe_c_headers::batch::PeBatch;
 use goblin_pe_c_headers::cursor::PeRelocationBlockCursor;

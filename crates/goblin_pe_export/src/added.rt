@@ -1,4 +1,5 @@
-//! What goblin does not have: walks over exports, which list nothing, and what their reads depend on.
+//! What goblin does not have: walks over exports, which list nothing, and what their reads depend
+//! on.
 
 mod addresses;
 mod export_marks;

@@ -5,9 +5,8 @@
 //! export. That entry is the index of the export's address in the address table. An address inside
 //! the directory is that of a forwarder's text.
 
-ghost use Rattle.std.specs.Prelude.{◌≡◌};
-ghost use Rattle.std.specs.Prelude.{IsOk, MatchOption, None};
-ghost use Rattle.std.specs.Prelude.{Option, Some, length, option_and_then, option_map};
+ghost use Rattle.std.specs.Prelude.{◌≡◌, IsOk, MatchOption, None, Option, Some, length};
+ghost use Rattle.std.specs.Prelude.{option_and_then, option_map};
 ghost use Rattle.goblin_base.specs.Answers.{GivesOrMemory};
 ghost use Rattle.goblin_base.specs.Reading.{ReadsOrMemory};
 ghost use Rattle.goblin_pe_sect.specs.Options.{default_options};
@@ -15,8 +14,7 @@ ghost use Rattle.goblin_pe_sect.specs.Addresses.{map_by, map_of};
 ghost use Rattle.goblin_pe_export.specs.ExportReadings as reading;
 ghost use Rattle.goblin_pe_export.specs.ExportRecords.{numbered_by};
 ghost use Rattle.goblin_pe_export.specs.ExportReadings.{numbered_export};
-ghost use Rattle.goblin_pe_export.specs.Exports.{export_data, export_row};
-ghost use Rattle.goblin_pe_export.specs.Exports.{exports, rva_of};
+ghost use Rattle.goblin_pe_export.specs.Exports.{export_data, export_row, exports, rva_of};
 ghost use Rattle.goblin_pe_export.specs.Forwarders.{forwarder_value, forwarder_within};
 ghost use Rattle.readings.specs.Reads.{text_within};
 ghost use Rattle.goblin_pe_sect.specs.Addresses.{Addressing};
@@ -259,8 +257,8 @@ impl<'a> Model for Export<'a> {
 const FEW: usize = 32;
 
 // For how many exports to make room first. If there are few name pointers, it is their number. Else
-// it is the number of exports that are not forwarders, because all of these will be in the list, but
-// at least `FEW`.
+// it is the number of exports that are not forwarders, because all of these will be in the list,
+// but at least `FEW`.
 fn expected_count(tables: &ExportData) -> usize {
     let pointers = tables.pointers();
     if pointers <= FEW {

@@ -1,4 +1,5 @@
-//! What goblin does not have. `goblin_pe` re-exports all but the marks of a header and its sections.
+//! What goblin does not have. `goblin_pe` re-exports all but the marks of a header and its
+//! sections.
 
 mod header_marks;
 mod parts;

@@ -5,9 +5,8 @@ use Rattle.std.specs.declared.borrow.CowStr.{CowStr}
 use Rattle.std.specs.declared.borrow.CowStr.TheVariants.{Borrowed, Owned}
 use Rattle.goblin_base.specs.Tables.{Format, kept_slots}
 use Rattle.goblin_pe_import.specs.ImportEntries.LookupEntry.{ByName, ByOrdinal}
-pub use Rattle.goblin_pe_import.specs.ImportEntries.{EntryValue, HintName, LookupEntry}
-pub use Rattle.goblin_pe_import.specs.ImportEntries.{entries_32, entries_64, entry_slots}
-pub use Rattle.goblin_pe_import.specs.ImportEntries.{entry_value}
+pub use Rattle.goblin_pe_import.specs.ImportEntries.{EntryValue, HintName, LookupEntry, entries_32}
+pub use Rattle.goblin_pe_import.specs.ImportEntries.{entries_64, entry_slots, entry_value}
 use Rattle.goblin_pe_import.specs.LookupReadings.{kept_entry}
 use Rattle.goblin_pe_import.specs.declared.import.lookup_table.HintNameTableEntry.{HintNameTableEntry}
 use Rattle.goblin_pe_import.specs.declared.import.lookup_table.SyntheticImportLookupTableEntry.{SyntheticImportLookupTableEntry}

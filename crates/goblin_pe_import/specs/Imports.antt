@@ -10,8 +10,7 @@ use Rattle.goblin_base.specs.Tables.{each_below}
 use Rattle.goblin_base.specs.Answers.{◌>>=◌, all_at}
 use Rattle.goblin_pe_import.specs.ImportLookup.{LookupEntry}
 use Rattle.goblin_pe_import.specs.ImportEntries.LookupEntry.{ByName, ByOrdinal}
-use Rattle.goblin_pe_import.specs.ImportRecords.{ImportedLibrary}
-use Rattle.goblin_pe_import.specs.ImportRecords.{NumberedLibrary}
+use Rattle.goblin_pe_import.specs.ImportRecords.{ImportedLibrary, NumberedLibrary}
 
 -- Source: PE Format, "The .idata Section".
 

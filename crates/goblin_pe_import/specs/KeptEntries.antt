@@ -1,7 +1,6 @@
 -- The entries that a lookup table keeps, from one of its slots on.
-use Rattle.std.specs.Prelude.{ℕ, ◌+◌, ◌-◌, ◌/◌, Bool}
-use Rattle.std.specs.Prelude.{List, [], length, Option, Some, None}
-use Rattle.std.specs.Prelude.{Result, Ok, Err}
+use Rattle.std.specs.Prelude.{ℕ, ◌+◌, ◌-◌, ◌/◌, Bool, List, [], length, Option, Some, None, Result}
+use Rattle.std.specs.Prelude.{Ok, Err}
 use Rattle.goblin_base.specs.declared.error.ErrorOf.{ErrorOf}
 use Rattle.goblin_base.specs.Tables.{Format}
 use Rattle.readings.specs.Walks.{items_of, table_walk}

@@ -1,6 +1,5 @@
 -- Sums over the slots of a table.
-use Rattle.std.specs.Prelude.{ℕ, zero, suc, ◌+◌, List, Option}
-use Rattle.std.specs.Prelude.{Some, None}
+use Rattle.std.specs.Prelude.{ℕ, zero, suc, ◌+◌, List, Option, Some, None}
 use Rattle.goblin_base.specs.Tables.{SlotFormat, slot_at, stop}
 
 -- f 0 + f 1 + .. + f (n - 1)

@@ -1,5 +1,5 @@
-//! What goblin does not have: walks over imports and libraries, which list nothing, and counts of what
-//! is left out.
+//! What goblin does not have: walks over imports and libraries, which list nothing, and counts of
+//! what is left out.
 
 mod imports;
 mod left_out;

@@ -7,14 +7,12 @@
 //!
 //! Source: PE Format, "The .idata Section".
 
-ghost use Rattle.std.specs.Prelude.{◌≡◌, ◌++◌, IfErr, false};
-ghost use Rattle.std.specs.Prelude.{true};
+ghost use Rattle.std.specs.Prelude.{◌≡◌, ◌++◌, IfErr, false, true};
 ghost use Rattle.goblin_base.specs.Answers.{IsMemory};
 ghost use Rattle.goblin_base.specs.Reading.{ReadsOrMemory};
 ghost use Rattle.readings.specs.Reads.{mapped};
 ghost use Rattle.goblin_pe_sect.specs.Options.{default_options, is_strict};
-ghost use Rattle.goblin_pe_sect.specs.Addresses.{map_by, map_of};
-ghost use Rattle.goblin_pe_sect.specs.Addresses.{reads_strictly};
+ghost use Rattle.goblin_pe_sect.specs.Addresses.{map_by, map_of, reads_strictly};
 ghost use Rattle.goblin_pe_import.specs.ImportReadings as reading;
 
 use goblin_base::{Cause, Error, ResultOf, is_passed_over};

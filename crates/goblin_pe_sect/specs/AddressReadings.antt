@@ -6,8 +6,7 @@ use Rattle.goblin_base.specs.declared.error.CauseOf.TheVariants.{NameRead, Reloc
 use Rattle.goblin_base.specs.declared.error.ErrorOf.{ErrorOf}
 use Rattle.goblin_base.specs.Reading.{Reading}
 use Rattle.readings.specs.Reads.{◌>>=◌, because, mapped, needs, or_else, slice_at, text_at}
-use Rattle.readings.specs.Reads.{text_within}
-use Rattle.readings.specs.Reads.{value_at}
+use Rattle.readings.specs.Reads.{text_within, value_at}
 use Rattle.goblin_pe_sect.specs.Addresses.{Addressing}
 use Rattle.goblin_pe_sect.specs.declared.data_directories.DataDirectory.{DataDirectory}
 

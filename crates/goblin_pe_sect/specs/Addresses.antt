@@ -1,5 +1,6 @@
 -- The map from the addresses of a file to its file offsets.
-use Rattle.std.specs.Prelude.{⊤, ℕ, ◌==◌, ◌≡◌, ◌<◌, Bool, false, true, if◌then◌else◌, List, Option, None, length}
+use Rattle.std.specs.Prelude.{⊤, ℕ, ◌==◌, ◌≡◌, ◌<◌, Bool, false, true, if◌then◌else◌, List, Option}
+use Rattle.std.specs.Prelude.{None, length}
 use Rattle.std.specs.Option.{is_some}
 use Rattle.goblin_base.specs.declared.permissive.ParseMode.TheVariants.{Strict}
 use Rattle.goblin_pe_sect.specs.declared.options.ParseOptions.{ParseOptions}
@@ -10,7 +11,8 @@ use Rattle.goblin_pe_sect.specs.SectionTable.{with_front}
 use Rattle.goblin_pe_sect.specs.WindowIndex.{HasPieces, located}
 use Rattle.goblin_pe_sect.specs.declared.address_map.AddressMap.{AddressMap}
 use Rattle.goblin_pe_sect.specs.declared.address_map.Windows.{Windows}
-use Rattle.goblin_pe_sect.specs.declared.address_map.Windows.TheVariants.{Indexed, IndexedWithFront, Walked}
+use Rattle.goblin_pe_sect.specs.declared.address_map.Windows.TheVariants.{Indexed, IndexedWithFront}
+use Rattle.goblin_pe_sect.specs.declared.address_map.Windows.TheVariants.{Walked}
 
 -- How the addresses of a file are used: the file offset of an address, and the length above which a
 -- name at an address is cut, if there is a limit.

@@ -3,8 +3,7 @@
 ghost use Rattle.std.specs.Prelude.{◌≡◌, ◌^◌, ◌<◌, ℕ, IfErr, IfOk};
 ghost use Rattle.goblin_base.specs.Answers.{GivesOrMemory, IsMemory};
 ghost use Rattle.goblin_pe_sect.specs.Mapping.{file_offset};
-ghost use Rattle.goblin_pe_sect.specs.Addresses.{IsIndexed, KeepsWindowsAlone};
-ghost use Rattle.goblin_pe_sect.specs.Addresses.{reads_strictly};
+ghost use Rattle.goblin_pe_sect.specs.Addresses.{IsIndexed, KeepsWindowsAlone, reads_strictly};
 ghost use Rattle.goblin_pe_sect.specs.Addresses.{map_by, map_of, offset_of};
 ghost use Rattle.std.specs.Prelude.{◌⊎◌, IfSome, Some};
 ghost use Rattle.goblin_pe_sect.specs.Runs.{IsRun, offset_in_run};

@@ -13,8 +13,8 @@ pub fn other_section() -> SectionTable {
     section(0x3000, 0x100, 0x100, 0x100)
 }
 
-/// Makes zeros the sample file whose section has its name elsewhere. After the section table comes a
-/// record whose name is elsewhere too, and empty.
+/// Makes zeros the sample file whose section has its name elsewhere. After the section table comes
+/// a record whose name is elsewhere too, and empty.
 pub fn put_sample(file: &mut [u8]) {
     put_all(file, SAMPLE);
     put_all(file, &[(TABLE, ELSEWHERE), (TABLE_END, b"/50\0")]);

@@ -25,8 +25,7 @@ use Rattle.goblin_base.specs.Tables.{slot_table}
 use Rattle.goblin_base.specs.Values as values
 use Rattle.goblin_base.specs.Values.{IsValueFault}
 use Rattle.goblin_base.proofs.Below.{concat_below-agree}
-use Rattle.goblin_base.proofs.CutTexts.{same-text_within, text_within-in}
-use Rattle.goblin_base.proofs.CutTexts.{text_within-not_memory}
+use Rattle.goblin_base.proofs.CutTexts.{same-text_within, text_within-in, text_within-not_memory}
 use Rattle.goblin_base.proofs.Footprints.{same-counted_table_if, same-number_at, same-record_at}
 use Rattle.goblin_base.proofs.Footprints.{same-slice_at, same-text_at, agree-below, same-all_at}
 use Rattle.goblin_base.proofs.Inside.{below-in, counted-in, led-in, none-in, rest-in, slice-in}

@@ -22,8 +22,9 @@ use Rattle.goblin_pe_export.specs.ExportRecords.{ExportTables, NumberedExport}
 use Rattle.goblin_pe_export.specs.added.LeftOutExports.{pointers_left_out}
 use Rattle.goblin_pe.specs.declared.added.damage.Damage.{Damage}
 use Rattle.goblin_pe.specs.Modes.{in_mode}
-use Rattle.goblin_pe.specs.Whole.{TablePlaces, directory_at, entry_format, export_part, import_list, layout}
-use Rattle.goblin_pe.specs.Whole.{mapped_in, addressing_by, places_in, relocation_part, sections_after}
+use Rattle.goblin_pe.specs.Whole.{TablePlaces, directory_at, entry_format, export_part, import_list}
+use Rattle.goblin_pe.specs.Whole.{layout, mapped_in, addressing_by, places_in, relocation_part}
+use Rattle.goblin_pe.specs.Whole.{sections_after}
 
 -- There is a value and no damage, or there is no value and the cause is true.
 abbrev pub IsDamageOf : {A : Type 0} → Option A → (ErrorOf → Type 0) → Option ErrorOf → Type 0

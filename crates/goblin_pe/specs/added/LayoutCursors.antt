@@ -9,16 +9,13 @@ use Rattle.readings.specs.Reads.{given, pick}
 use Rattle.goblin_pe_sect.specs.declared.data_directories.DataDirectory.{DataDirectory}
 use Rattle.goblin_pe_sect.specs.declared.options.ParseOptions.{ParseOptions}
 use Rattle.goblin_pe_sect.specs.Options.{is_strict}
-use Rattle.goblin_pe_sect.specs.Addresses.{MapOfAddresses, reads_strictly}
-use Rattle.goblin_pe_sect.specs.Addresses.{Addressing}
+use Rattle.goblin_pe_sect.specs.Addresses.{MapOfAddresses, reads_strictly, Addressing}
 use Rattle.goblin_pe_import.specs.ImportLookup.{entries_32, entries_64}
 use Rattle.goblin_pe_import.specs.added.ImportCursors.{first_import}
 use Rattle.goblin_pe_import.specs.Imports.{NumberedImport}
 use Rattle.goblin_pe_import.specs.added.ImportWalks.{AreImportsOver, HasName, IsCursorCause}
-use Rattle.goblin_pe_import.specs.added.ImportWalks.{cursor_left}
-use Rattle.goblin_pe_import.specs.added.ImportWalks.{cursor_of, imports_bytes, imports_map}
-use Rattle.goblin_pe_import.specs.added.ImportWalks.{no_imports}
-use Rattle.goblin_pe_import.specs.added.ImportWalks.{walked_value}
+use Rattle.goblin_pe_import.specs.added.ImportWalks.{cursor_left, cursor_of, imports_bytes}
+use Rattle.goblin_pe_import.specs.added.ImportWalks.{imports_map, no_imports, walked_value}
 use Rattle.goblin_pe_import.specs.added.StepsAhead.{EndsWithin, HaveRunOut}
 use Rattle.goblin_pe_import.specs.Steps.{GivesWithin, HasNotGrown}
 use Rattle.goblin_pe_import.specs.added.StepsAhead.{LooksAt, cursor_ahead, imports_ahead}

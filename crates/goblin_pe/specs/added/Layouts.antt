@@ -25,8 +25,8 @@ use Rattle.goblin_pe_sect.specs.Options.{is_strict}
 use Rattle.goblin_pe_sect.specs.SectionTable.{Section, recorded_sections}
 use Rattle.goblin_pe_sect.specs.Addresses.{Addressing}
 use Rattle.goblin_pe_head.specs.PeHeader.{header_value}
-use Rattle.goblin_pe.specs.Whole.{TablePlaces, directory_at, mapped_in, part_at, places_in, sections_after}
-use Rattle.goblin_pe.specs.Whole.{table_places}
+use Rattle.goblin_pe.specs.Whole.{TablePlaces, directory_at, mapped_in, part_at, places_in}
+use Rattle.goblin_pe.specs.Whole.{sections_after, table_places}
 
 -- ---- what a reader of any table needs
 

@@ -9,8 +9,7 @@ ghost use Rattle.goblin_pe_sect.specs.declared.options.View.TheVariants.{Section
 ghost use Rattle.goblin_pe_import.specs.added.ImportWalks.{IsImportsCause, imports_left};
 ghost use Rattle.goblin_pe.specs.added.LayoutTables.{layout_table};
 ghost use Rattle.goblin_pe.specs.added.Damages.{AreDamaged, IsDamage, IsDamageOf, IsReadByBoth};
-ghost use Rattle.goblin_pe.specs.added.Damages.{IsSound};
-ghost use Rattle.goblin_pe.specs.added.Damages.{TellsDamage};
+ghost use Rattle.goblin_pe.specs.added.Damages.{IsSound, TellsDamage};
 ghost use Rattle.goblin_pe.specs.added.Layouts.{IsFileImportsCause, file_imports_left, layout_map};
 ghost use Rattle.goblin_pe.specs.added.Layouts.{layout_bytes, layout_places};
 ghost use Rattle.goblin_pe.specs.added.TakenMemory.{TakesIndex};

@@ -35,8 +35,8 @@ pub enum FileImports<'a, 'm, 'e> {
 }
 
 impl<'a, 'm, 'e> FileImports<'a, 'm, 'e> {
-    /// Where the walk is. [`Layout::imports_at`](crate::added::Layout::imports_at) yields at this cursor
-    /// what this walk has yet to yield.
+    /// Where the walk is. [`Layout::imports_at`](crate::added::Layout::imports_at) yields at this
+    /// cursor what this walk has yet to yield.
     pub fn cursor(&self) -> ImportCursor
         ensures left { (m : MapOfAddresses) (magic : ℕ) (bytes : List ℕ)
             → IsImportWalk m magic bytes self.now

@@ -34,7 +34,8 @@ impl<'a> Layout<'a> {
     }
 
     /// A walk over the libraries whose import descriptors come next at a cursor, which
-    /// [`Libraries::cursor`] or [`FileImports::cursor`](crate::added::FileImports::cursor) returned.
+    /// [`Libraries::cursor`] or [`FileImports::cursor`](crate::added::FileImports::cursor)
+    /// returned.
     #[tactic(auto, unfolding(crate::specs::Whole::entry_format))]
     pub fn libraries_at<'m>(&'m self, at: ImportCursor) -> Libraries<'a, 'm>
         ensures { AreLibrariesAt (layout_map self.now) (entry_format (layout_places self.now).magic)

@@ -27,16 +27,14 @@ ghost use Rattle.goblin_pe.specs.added.LayoutCursors.{GivesFirst, IsFileCursorCa
 ghost use Rattle.goblin_pe.specs.added.LayoutCursors.{IsImportWalkAt, StartsAt};
 ghost use Rattle.goblin_pe.specs.added.LayoutCursors.{file_cursor_left, file_map, import_begin};
 ghost use Rattle.goblin_pe.specs.added.Layouts.{IsExportWalk, IsFileImportsCause, IsLayoutOf};
-ghost use Rattle.goblin_pe.specs.added.Layouts.{PartWalks};
-ghost use Rattle.goblin_pe.specs.added.Layouts.{file_imports_left, layout_bytes};
+ghost use Rattle.goblin_pe.specs.added.Layouts.{PartWalks, file_imports_left, layout_bytes};
 ghost use Rattle.goblin_pe.specs.added.Layouts.{layout_map, layout_places, layout_sections};
 ghost use Rattle.goblin_pe.specs.added.Layouts.{address_part, walked_exports};
 ghost use Rattle.goblin_pe_export.specs.added.ExportWalks.{walked_tables};
 ghost use Rattle.goblin_pe.specs.added.TakenMemory.{TakesIndex};
-ghost use Rattle.goblin_pe.specs.Whole.{IfRead, entry_format, export_part};
-ghost use Rattle.goblin_pe.specs.Whole.{import_list};
-ghost use Rattle.goblin_pe.specs.Whole.{part_map, relocation_part, section_table_offset};
-ghost use Rattle.goblin_pe.specs.Whole.{places_in, sections_after, table_places};
+ghost use Rattle.goblin_pe.specs.Whole.{IfRead, entry_format, export_part, import_list, part_map};
+ghost use Rattle.goblin_pe.specs.Whole.{relocation_part, section_table_offset, places_in};
+ghost use Rattle.goblin_pe.specs.Whole.{sections_after, table_places};
 
 use crate::added::{Exports, FileImports, ImportCursor, Imports, LeftOut};
 use crate::whole::Part;

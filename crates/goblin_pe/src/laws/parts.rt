@@ -4,8 +4,7 @@ ghost use Rattle.std.specs.Prelude.{ℕ, List};
 ghost use Rattle.goblin_base.specs.Reading.{ReadsOrMemory};
 ghost use Rattle.goblin_pe_head.specs.TeReadings.{te_image};
 ghost use Rattle.goblin_pe_sect.specs.Addresses.{map_by, reads_strictly};
-ghost use Rattle.goblin_pe.specs.TwinParts.{AreParts, AreTwinParts, asked_by};
-ghost use Rattle.goblin_pe.specs.TwinParts.{te_view};
+ghost use Rattle.goblin_pe.specs.TwinParts.{AreParts, AreTwinParts, asked_by, te_view};
 
 use crate::data_directories::DataDirectory;
 use crate::header::{CoffHeader, Header, TeHeader};

@@ -11,8 +11,8 @@ ghost use Rattle.goblin_pe_import.specs.ImportReadings.{import_data};
 ghost use Rattle.goblin_pe_import.specs.Imports.{IsImportListFault, imports_of};
 ghost use Rattle.goblin_pe.specs.Whole.{IsListedImportsFault, both_lists, entry_format};
 ghost use Rattle.goblin_pe.specs.Whole.{export_part, import_data_part, import_read_view};
-ghost use Rattle.goblin_pe.specs.Whole.{items_part, listed_imports_part, listed_tables, listed_view};
-ghost use Rattle.goblin_pe.specs.Whole.{numbered_data_part, part_map, table_places};
+ghost use Rattle.goblin_pe.specs.Whole.{items_part, listed_imports_part, listed_tables};
+ghost use Rattle.goblin_pe.specs.Whole.{listed_view, numbered_data_part, part_map, table_places};
 
 use crate::export::{Export, ExportData};
 use crate::import::{Import, ImportData};

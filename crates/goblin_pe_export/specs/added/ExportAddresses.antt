@@ -1,13 +1,9 @@
 -- What an export directory leads to, without the tables of the names.
-use Rattle.std.specs.Prelude.{◌≡◌, ℕ, List, []}
-use Rattle.std.specs.Prelude.{IfSome}
-use Rattle.std.specs.Prelude.{Some}
+use Rattle.std.specs.Prelude.{◌≡◌, ℕ, List, [], IfSome, Some}
 use Rattle.goblin_base.specs.Reading.{Reading}
-use Rattle.readings.specs.Reads.{◌>>=◌, ◌beside◌, counted_if}
-use Rattle.readings.specs.Reads.{mapped, or_none}
+use Rattle.readings.specs.Reads.{◌>>=◌, ◌beside◌, counted_if, mapped, or_none}
 use Rattle.goblin_pe_sect.specs.declared.data_directories.DataDirectory.{DataDirectory}
-use Rattle.goblin_pe_export.specs.ExportRecords.{ExportTables}
-use Rattle.goblin_pe_export.specs.ExportRecords.{addresses}
+use Rattle.goblin_pe_export.specs.ExportRecords.{ExportTables, addresses}
 use Rattle.goblin_pe_sect.specs.AddressReadings.{at_address, name_at}
 use Rattle.goblin_pe_sect.specs.Addresses.{Addressing}
 use Rattle.goblin_pe_export.specs.declared.export.tables.ExportDirectoryTable.{ExportDirectoryTable}

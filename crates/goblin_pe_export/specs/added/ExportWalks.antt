@@ -3,8 +3,7 @@ use Rattle.std.specs.Prelude.{◌≡◌, ℕ, ◌+◌, ◌-◌, ◌/◌, ◌<◌
 use Rattle.std.specs.Prelude.{Some, filter_map, length, max, min}
 use Rattle.std.specs.Iterator.{YieldsFirstBy}
 use Rattle.std.specs.List.{range_with_len}
-use Rattle.goblin_pe_sect.specs.Addresses.{MapOfAddresses, map_of}
-use Rattle.goblin_pe_sect.specs.Addresses.{Addressing}
+use Rattle.goblin_pe_sect.specs.Addresses.{MapOfAddresses, map_of, Addressing}
 use Rattle.goblin_pe_export.specs.ExportRecords.{ExportTables, tables_in}
 pub use Rattle.goblin_pe_export.specs.ExportRecords.{NumberedExport}
 use Rattle.goblin_pe_export.specs.declared.added.exports.Exports.{Exports}

@@ -1,7 +1,7 @@
 //! A walk over the exports of an image.
 
-ghost use Rattle.std.specs.Prelude.{◌≡◌, ◌≤◌, ◌<◌, ◌^◌, ◌+◌, IfOk, IfSome, MatchOption, None, Some, length};
-ghost use Rattle.std.specs.Prelude.{option_map, slice_get};
+ghost use Rattle.std.specs.Prelude.{◌≡◌, ◌≤◌, ◌<◌, ◌^◌, ◌+◌, IfOk, IfSome, MatchOption, None, Some};
+ghost use Rattle.std.specs.Prelude.{length, option_map, slice_get};
 ghost use Rattle.std.specs.Iterator.{UpTo, at_most};
 ghost use Rattle.std.specs.Iterator.SizeHint.{IsWithinCount};
 ghost use Rattle.goblin_base.specs.Reading.{Reads};
@@ -10,14 +10,12 @@ ghost use Rattle.goblin_pe_export.specs.added.ExportAddresses.{RepeatsAddresses,
 ghost use Rattle.goblin_pe_export.specs.ExportReadings.{numbered_read};
 ghost use Rattle.goblin_pe_export.specs.ExportRecords.{numbered_by, tables_in};
 ghost use Rattle.goblin_pe_export.specs.added.ExportWalks.{AreExportsOver, GivesExport};
-ghost use Rattle.goblin_pe_export.specs.added.ExportWalks.{GivesExportBefore};
-ghost use Rattle.goblin_pe_export.specs.added.ExportWalks.{KeepsOver};
+ghost use Rattle.goblin_pe_export.specs.added.ExportWalks.{GivesExportBefore, KeepsOver};
 ghost use Rattle.goblin_pe_export.specs.added.ExportWalks.{exports_at, exports_position};
 ghost use Rattle.goblin_pe_export.specs.added.ExportWalks.{exports_bound, exports_left};
 ghost use Rattle.goblin_pe_export.specs.ExportReadings.{numbered_export};
 ghost use Rattle.goblin_pe_export.specs.added.ExportWalks.{numbered_from, pointer_count};
-ghost use Rattle.goblin_pe_export.specs.added.ExportWalks.{walked_export};
-ghost use Rattle.goblin_pe_export.specs.added.ExportWalks.{walked_tables};
+ghost use Rattle.goblin_pe_export.specs.added.ExportWalks.{walked_export, walked_tables};
 
 use crate::added::plain::plain_export;
 use crate::export::Export;

@@ -8,8 +8,9 @@ use crate::export::{Export, ExportAddressTableEntry};
 use goblin_base::pread_plain_str;
 use goblin_pe_sect::address_map::Finder;
 
-// The export of an entry of the address table, if it is plain: it is not a forwarder, its RVA and its name lie among those that
-// the finder keeps, and its name is ASCII. `None` says nothing about the export.
+// The export of an entry of the address table, if it is plain: it is not a forwarder, its RVA and
+// its name lie among those that the finder keeps, and its name is ASCII. `None` says nothing about
+// the export.
 #[inline(always)]
 #[tactic(auto, unfolding(crate::specs::ExportReadings::row_of, goblin_pe_sect::specs::AddressReadings::name_at))]
 pub(super) fn plain_export<'a>(

@@ -1,7 +1,6 @@
 -- The parts of a file's header, each by itself, and the section headers that are there.
-use Rattle.std.specs.Prelude.{◌≡◌, ℕ, ◌+◌, ◌-◌, ◌*◌, ◌/◌, ◌==◌, List, [], Bool}
-use Rattle.std.specs.Prelude.{Option, None, Result, Ok, Err, IfSome, min, option_map, replicate}
-use Rattle.std.specs.Prelude.{unwrap_or}
+use Rattle.std.specs.Prelude.{◌≡◌, ℕ, ◌+◌, ◌-◌, ◌*◌, ◌/◌, ◌==◌, List, [], Bool, Option, None}
+use Rattle.std.specs.Prelude.{Result, Ok, Err, IfSome, min, option_map, replicate, unwrap_or}
 use Rattle.goblin_base.specs.declared.error.ErrorOf.{ErrorOf}
 use Rattle.goblin_base.specs.declared.endian.Endian.TheVariants.{Little}
 use Rattle.goblin_base.specs.Reading.{Reading, Reads}

@@ -1,8 +1,7 @@
 //! The header and the sections of a Terse Executable: a firmware image whose PE headers are
 //! stripped.
 
-ghost use Rattle.std.specs.Prelude.{◌≡◌, ◌+◌, ◌*◌, ◌/◌, ◌<◌, length, IsErrAnd, OnOk};
-ghost use Rattle.std.specs.Prelude.{OnErr};
+ghost use Rattle.std.specs.Prelude.{◌≡◌, ◌+◌, ◌*◌, ◌/◌, ◌<◌, length, IsErrAnd, OnOk, OnErr};
 ghost use Rattle.goblin_base.specs.Reading.{Reads, ReadsOrMemory};
 ghost use Rattle.goblin_base.specs.Answers.{Answers};
 ghost use Rattle.goblin_base.specs.Record.{WritesRecord};

@@ -4,8 +4,7 @@ use Rattle.goblin_base.specs.declared.error.ErrorOf.{ErrorOf}
 use Rattle.goblin_base.specs.Reading.{IsRefused, Reading}
 use Rattle.readings.specs.Reads.{mapped, or_else}
 use Rattle.goblin_pe_sect.specs.AddressReadings.{offset_at}
-use Rattle.goblin_pe_sect.specs.Addresses.{MapOfAddresses}
-use Rattle.goblin_pe_sect.specs.Addresses.{Addressing}
+use Rattle.goblin_pe_sect.specs.Addresses.{MapOfAddresses, Addressing}
 use Rattle.goblin_pe_import.specs.ImportReadings.{first_record_offset}
 use Rattle.goblin_pe_import.specs.added.ImportWalks.{IsWalkAt, no_imports}
 use Rattle.goblin_pe_import.specs.declared.added.imports.ImportCursor.{ImportCursor}

@@ -8,8 +8,7 @@ use Rattle.goblin_base.specs.Answers.{FirstFault, IsMemory, all_of}
 use Rattle.goblin_base.specs.Reading.{Reading}
 use Rattle.goblin_base.specs.Tables.{Format}
 use Rattle.readings.specs.Reads.{given, or_else, pick}
-use Rattle.readings.specs.Walks.{GivesNext, refusal_of, table_walk}
-use Rattle.readings.specs.Walks.{until_refused}
+use Rattle.readings.specs.Walks.{GivesNext, refusal_of, table_walk, until_refused}
 use Rattle.goblin_pe_sect.specs.declared.address_map.finder.Finder.{Finder}
 use Rattle.goblin_pe_sect.specs.AddressReadings.{at_address, name_at}
 use Rattle.goblin_pe_sect.specs.Addresses.{Addressing, MapOfAddresses, map_of, reads_strictly}
@@ -26,9 +25,7 @@ use Rattle.goblin_pe_import.specs.declared.added.imports.Imports.{Imports}
 use Rattle.goblin_pe_import.specs.declared.added.imports.PlainImports.{PlainImports}
 use Rattle.goblin_pe_import.specs.declared.added.imports.Walk.{Walk}
 use Rattle.goblin_pe_import.specs.declared.added.imports.WalkedImport.{WalkedImport}
-use Rattle.goblin_pe_import.specs.KeptEntries.{KeptValue}
-use Rattle.goblin_pe_import.specs.KeptEntries.{entries_from, IsEntriesCause}
-use Rattle.goblin_pe_import.specs.KeptEntries.{slots_bound}
+use Rattle.goblin_pe_import.specs.KeptEntries.{KeptValue, entries_from, IsEntriesCause, slots_bound}
 
 -- ---- the entries of a lookup table
 

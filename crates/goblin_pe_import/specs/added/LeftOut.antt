@@ -1,6 +1,5 @@
 -- How much is left out of the imports of a directory, over a map of addresses to file offsets.
-use Rattle.std.specs.Prelude.{ℕ, ◌==◌, Bool, false, ◌&&◌, ◌||◌, not, List}
-use Rattle.std.specs.Prelude.{if◌then◌else◌, is_none}
+use Rattle.std.specs.Prelude.{ℕ, ◌==◌, Bool, false, ◌&&◌, ◌||◌, not, List, if◌then◌else◌, is_none}
 use Rattle.std.specs.Int.{from_bool}
 use Rattle.goblin_base.specs.Tables.{Format, is_kept}
 use Rattle.goblin_pe_import.specs.ImportEntries.{EntryValue, entry_slots}

@@ -73,8 +73,8 @@ library_value x = record {
   cursor = x.cursor;
 }
 
--- The cursor in a library, from which its imports come, and nothing else. Permissive mode gives none
--- of a library without an address table.
+-- The cursor in a library, from which its imports come, and nothing else. Permissive mode gives
+-- none of a library without an address table.
 abbrev pub inside_library : Bool → Addressing → LibraryValue → ImportCursor
 inside_library strict addressing x =
     if x.is_left_out && not strict then no_imports

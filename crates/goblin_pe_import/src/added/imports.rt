@@ -1,10 +1,8 @@
 //! A walk over all imports of an image.
 
 ghost use Rattle.std.specs.Prelude.{◌≡◌, ◌+◌, ◌-◌, ◌<◌, ◌≤◌, ◌^◌, ◌∷◌, ◌++◌, [], IfErr, IfOk};
-ghost use Rattle.std.specs.Prelude.{IfSome};
-ghost use Rattle.std.specs.Prelude.{MatchOption, MatchResult, None, Some, false, length};
-ghost use Rattle.std.specs.Prelude.{List, option_map, true, ℕ};
-ghost use Rattle.std.specs.Prelude.{IsSome, IsOk, Ok, suc};
+ghost use Rattle.std.specs.Prelude.{IfSome, MatchOption, MatchResult, None, Some, false, length};
+ghost use Rattle.std.specs.Prelude.{List, option_map, true, ℕ, IsSome, IsOk, Ok, suc};
 ghost use Rattle.std.specs.Iterator.{UpTo, at_most};
 ghost use Rattle.std.specs.Iterator.SizeHint.{IsWithinCount};
 ghost use Rattle.std.specs.List.{flat_map};
@@ -15,13 +13,13 @@ ghost use Rattle.readings.specs.Reads.{mapped};
 ghost use Rattle.readings.specs.Walks.{GivesNext, IsWalkOf, Walks, until_refused};
 ghost use Rattle.goblin_pe_sect.specs.Addresses.{map_of, reads_strictly};
 ghost use Rattle.goblin_pe_import.specs.added.ImportCursors.{BeginsAt, before_record, first_import};
-ghost use Rattle.goblin_pe_import.specs.ImportReadings.{indexed_at, numbered_data, numbered_libraries_at};
+ghost use Rattle.goblin_pe_import.specs.ImportReadings.{indexed_at, numbered_data};
+ghost use Rattle.goblin_pe_import.specs.ImportReadings.{numbered_libraries_at};
 ghost use Rattle.goblin_pe_import.specs.Imports.{numbered_imports};
 ghost use Rattle.goblin_pe_import.specs.added.ImportWalks.{GivesImport, GivesLibrary, GivesPlain};
 ghost use Rattle.goblin_pe_import.specs.added.ImportWalks.{HasName, IsCursorCause, IsNamed};
-ghost use Rattle.goblin_pe_import.specs.added.ImportWalks.{IsWalkAt};
-ghost use Rattle.goblin_pe_import.specs.added.ImportWalks.{IsImportsCause, cursor_left, cursor_of};
-ghost use Rattle.goblin_pe_import.specs.added.ImportWalks.{IsLaterCause, IsNamedCause};
+ghost use Rattle.goblin_pe_import.specs.added.ImportWalks.{IsWalkAt, IsImportsCause, cursor_left};
+ghost use Rattle.goblin_pe_import.specs.added.ImportWalks.{cursor_of, IsLaterCause, IsNamedCause};
 ghost use Rattle.goblin_pe_import.specs.added.ImportWalks.{IsRecordsCause, IsWalkCause, is_skipped};
 ghost use Rattle.goblin_pe_import.specs.added.ImportWalks.{bound_next, imports_bound, imports_map};
 ghost use Rattle.goblin_pe_import.specs.added.ImportWalks.{imports_bytes, imports_from_record};
@@ -29,20 +27,17 @@ ghost use Rattle.goblin_pe_import.specs.added.ImportWalks.{imports_left, kept_im
 ghost use Rattle.goblin_pe_import.specs.KeptEntries.{kept_value};
 ghost use Rattle.goblin_pe_import.specs.added.ImportWalks.{later_items, library_items};
 ghost use Rattle.goblin_pe_import.specs.added.ImportWalks.{library_name, one_if, origin};
-ghost use Rattle.goblin_pe_import.specs.added.ImportWalks.{records_bound};
-ghost use Rattle.goblin_pe_import.specs.added.ImportWalks.{finder_of, plain_at, plain_walk};
-ghost use Rattle.goblin_pe_import.specs.added.ImportWalks.{walk_answer, walk_at};
+ghost use Rattle.goblin_pe_import.specs.added.ImportWalks.{records_bound, finder_of, plain_at};
+ghost use Rattle.goblin_pe_import.specs.added.ImportWalks.{plain_walk, walk_answer, walk_at};
 ghost use Rattle.goblin_pe_import.specs.added.ImportWalks.{record_index, records_left};
 ghost use Rattle.goblin_pe_import.specs.KeptEntries.{slots_bound};
 ghost use Rattle.goblin_pe_import.specs.added.ImportWalks.{pending_table, walk_bound, walk_left};
 ghost use Rattle.goblin_pe_import.specs.added.ImportWalks.{walked_value};
 ghost use Rattle.goblin_pe_import.specs.ImportRecords.{address_table_rva};
 ghost use Rattle.goblin_pe_import.specs.added.StepsAhead.{EndsWithin, GivesImportWithin};
-ghost use Rattle.goblin_pe_import.specs.Steps.{GivesWithin};
-ghost use Rattle.goblin_pe_import.specs.Steps.{HasNotGrown};
-ghost use Rattle.goblin_pe_import.specs.added.StepsAhead.{HaveRunOut, LooksAt};
-ghost use Rattle.goblin_pe_import.specs.added.StepsAhead.{imports_ahead, later_ahead};
-ghost use Rattle.goblin_pe_import.specs.added.StepsAhead.{record_steps, tested_ahead};
+ghost use Rattle.goblin_pe_import.specs.Steps.{GivesWithin, HasNotGrown};
+ghost use Rattle.goblin_pe_import.specs.added.StepsAhead.{HaveRunOut, LooksAt, imports_ahead};
+ghost use Rattle.goblin_pe_import.specs.added.StepsAhead.{later_ahead, record_steps, tested_ahead};
 ghost use Rattle.goblin_pe_import.specs.Steps.{slots_ahead};
 ghost use Rattle.goblin_pe_import.specs.added.StepsAhead.{pending_ahead, walk_ahead};
 

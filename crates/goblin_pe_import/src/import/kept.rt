@@ -1,7 +1,7 @@
 //! A walk over the entries that a lookup table keeps.
 
-ghost use Rattle.std.specs.Prelude.{◌≡◌, ◌⊎◌, ◌+◌, ◌<◌, ◌≤◌, ◌^◌, IfErr, IfOk, IfSome, IsSome, None};
-ghost use Rattle.std.specs.Prelude.{Ok, Some, length, true};
+ghost use Rattle.std.specs.Prelude.{◌≡◌, ◌⊎◌, ◌+◌, ◌<◌, ◌≤◌, ◌^◌, IfErr, IfOk, IfSome, IsSome};
+ghost use Rattle.std.specs.Prelude.{None, Ok, Some, length, true};
 ghost use Rattle.goblin_pe_sect.specs.Addresses.{map_of, reads_strictly};
 ghost use Rattle.goblin_pe_import.specs.KeptEntries.{IsEntriesCause, entries_from, kept_value};
 ghost use Rattle.goblin_pe_import.specs.KeptEntries.{place_after, slots_bound};

@@ -1,14 +1,11 @@
 //! The libraries that an image imports from.
 
-ghost use Rattle.std.specs.Prelude.{◌≡◌, ◌<◌, ◌^◌, [], map};
-ghost use Rattle.std.specs.Prelude.{option_map, true, unwrap_or};
+ghost use Rattle.std.specs.Prelude.{◌≡◌, ◌<◌, ◌^◌, [], map, option_map, true, unwrap_or};
 ghost use Rattle.goblin_base.specs.Reading.{Reads, ReadsOrMemory};
 ghost use Rattle.readings.specs.Reads.{or_else};
 ghost use Rattle.goblin_pe_sect.specs.Options.{default_options};
-ghost use Rattle.goblin_pe_sect.specs.Addresses.{map_by, map_of};
-ghost use Rattle.goblin_pe_sect.specs.Addresses.{reads_strictly};
-ghost use Rattle.goblin_pe_import.specs.ImportRecords.{address_table_rva};
-ghost use Rattle.goblin_pe_import.specs.ImportRecords.{lookup_offset};
+ghost use Rattle.goblin_pe_sect.specs.Addresses.{map_by, map_of, reads_strictly};
+ghost use Rattle.goblin_pe_import.specs.ImportRecords.{address_table_rva, lookup_offset};
 ghost use Rattle.goblin_pe_import.specs.ImportLookup.{entry_view};
 ghost use Rattle.goblin_pe_import.specs.ImportReadings as reading;
 ghost use Rattle.goblin_pe_sect.specs.AddressReadings.{name_at};

@@ -1,13 +1,11 @@
 //! Import lookup tables: what is imported from a library, by name or by ordinal.
 
-ghost use Rattle.std.specs.Prelude.{◌≡◌, ◌<◌, IfOk, None, Some, length};
-ghost use Rattle.std.specs.Prelude.{map, true, All};
+ghost use Rattle.std.specs.Prelude.{◌≡◌, ◌<◌, IfOk, None, Some, length, map, true, All};
 ghost use Rattle.std.specs.List.Sorted.{IsStrictlyIncreasing};
 ghost use Rattle.goblin_base.specs.Reading.{Reads, ReadsOrMemory};
 ghost use Rattle.goblin_base.specs.Tables.{stop};
 ghost use Rattle.goblin_pe_sect.specs.Options.{default_options, is_strict};
-ghost use Rattle.goblin_pe_sect.specs.Addresses.{map_by, map_of};
-ghost use Rattle.goblin_pe_sect.specs.Addresses.{reads_strictly};
+ghost use Rattle.goblin_pe_sect.specs.Addresses.{map_by, map_of, reads_strictly};
 ghost use Rattle.goblin_pe_import.specs.ImportLookup.{entry_slots, lookup_slots};
 ghost use Rattle.goblin_pe_import.specs.ImportLookup.{entry_view, hint_name_view, kept_view};
 ghost use Rattle.goblin_pe_import.specs.LookupReadings as reading;

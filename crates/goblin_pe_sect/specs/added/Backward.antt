@@ -1,7 +1,6 @@
 -- The map from file offsets back to addresses.
-use Rattle.std.specs.Prelude.{ℕ, ◌+◌, ◌-◌, ◌==◌, ◌≡◌, Bool, ◌&&◌, nat_le}
-use Rattle.std.specs.Prelude.{false, nat_lt, if◌then◌else◌, List, Option, Some, None, find}
-use Rattle.std.specs.Prelude.{option_and_then}
+use Rattle.std.specs.Prelude.{ℕ, ◌+◌, ◌-◌, ◌==◌, ◌≡◌, Bool, ◌&&◌, nat_le, false, nat_lt}
+use Rattle.std.specs.Prelude.{if◌then◌else◌, List, Option, Some, None, find, option_and_then}
 use Rattle.std.specs.Int.{is_power_of_two}
 use Rattle.goblin_pe_sect.specs.declared.options.ParseOptions.{ParseOptions}
 use Rattle.goblin_pe_sect.specs.SectionTable.{Section}

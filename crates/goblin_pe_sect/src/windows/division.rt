@@ -4,8 +4,7 @@
 //! gives the pieces in order. Otherwise the cuts are sorted first, and then each piece gets its
 //! owner.
 
-ghost use Rattle.std.specs.Prelude.{◌≡◌, ◌<◌, ◌≤◌, ◌∷◌, [], ◌++◌, IsTrue};
-ghost use Rattle.std.specs.Prelude.{IfOk, None, OnOk, Some};
+ghost use Rattle.std.specs.Prelude.{◌≡◌, ◌<◌, ◌≤◌, ◌∷◌, [], ◌++◌, IsTrue, IfOk, None, OnOk, Some};
 ghost use Rattle.goblin_pe_sect.specs.WindowDivision.{IsDivision};
 ghost use Rattle.goblin_pe_sect.specs.WindowIndex.{begins_of, owners_of};
 

@@ -30,7 +30,8 @@ fn has_all_by(alloc: Global, file: &[u8], header: &Header) -> bool {
     matches!(&Layout::of(alloc, file, header, &opts), Ok(layout) if has_all(layout))
 }
 
-/// Whether a file has its import directory, no base relocations, and an exception directory nowhere.
+/// Whether a file has its import directory, no base relocations, and an exception directory
+/// nowhere.
 fn has_directories(alloc: Global, file: &[u8]) -> bool {
     matches!(&Header::parse(file), Ok(header) if has_all_by(alloc, file, header))
 }
