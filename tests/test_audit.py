@@ -1,5 +1,5 @@
 """The built program pe_audit, which uses goblin_pe as users do, compared with llvm-readobj; and the page for such users, whose
-code is that of goblin_pe_caller."""
+code is that of goblin_pe_examples."""
 import re
 
 from tests.images import sample
@@ -80,7 +80,7 @@ class Audits(Case):
 
 class Page(Case):
     def test_its_code_is_that_of_the_crate(self):
-        sources = "\n".join(it.read_text("utf-8") for it in sorted((CRATES / "goblin_pe_caller").glob("[sp]*/**/*")) if it.suffix in (".rt", ".antt"))
+        sources = "\n".join(it.read_text("utf-8") for it in sorted((CRATES / "goblin_pe_examples").glob("[sp]*/**/*")) if it.suffix in (".rt", ".antt"))
         for language, code in re.findall(r"(?ms)^```(\w+)\n(.*?)^```", PAGE.read_text("utf-8")):
             if language in ("rust", "antt"):
                 for piece in re.split(r"(?m)^ *\.\.\n", code):
@@ -90,8 +90,10 @@ class Page(Case):
     def test_each_word_is_in_its_file(self):
         """The file is one of goblin_pe, or one that it re-exports."""
         specs = CRATES / "goblin_pe/specs"
-        modules = re.findall(r"(?m)^pub (?:mod|use Rattle\.(\w+)\.specs\.)\s*(\w+)$", (specs / "Lib.antt").read_text("utf-8"))
-        files = {name: CRATES / (crate or "goblin_pe") / "specs" / f"{name}.antt" for crate, name in modules}
+        files = {folder + name: CRATES / (crate or "goblin_pe") / "specs" / f"{folder}{name}.antt"
+                 for node, folder in (("Lib", ""), ("added", "added/"))
+                 for crate, name in re.findall(rf"(?m)^pub (?:mod|use Rattle\.(\w+)\.specs\.{folder.replace('/', '.')})\s*(\w+)$",
+                                               (specs / f"{node}.antt").read_text("utf-8"))}
         table, = re.findall(r"(?ms)^Word \| File\n\S+\n(.*?)\n\n", PAGE.read_text("utf-8"))
         for row in table.splitlines():
             words, names = (cell.split("; ") for cell in row.strip("| ").split(" | "))

@@ -52,7 +52,7 @@ def listings():
 def main():
     with_tests = sorted({CRATES / it.relative_to(CRATES).parts[0] for it in CRATES.glob("*/src/**/*.rt") if "#[test]" in it.read_text("utf-8")})
     passed, failed = 0, int(not with_tests)
-    for module in ("tests.test_constants", "tests.test_english", "tests.test_generated"):
+    for module in ("tests.test_added", "tests.test_constants", "tests.test_english", "tests.test_generated"):
         said, went_well, went_wrong, _ = tested(module)
         print(said, flush=True)
         passed, failed = passed + went_well, failed + went_wrong

@@ -6,7 +6,7 @@ use Rattle.goblin_base.proofs.Steps.{all_at-each, all_at-zero}
 use Rattle.goblin_pe_sect.specs.SectionReadings.{named_section_at}
 use Rattle.goblin_pe_sect.specs.SectionTable.{Section, unnamed}
 use Rattle.goblin_pe_head.specs.added.HeaderParts.{sections_there, whole_sections}
-use Rattle.goblin_pe_head.proofs.SectionRecords.{section_end, section_more, sections_from, sections_of_slice, unnamed_from}
+use Rattle.goblin_pe_head.proofs.added.SectionRecords.{section_end, section_more, sections_from, sections_of_slice, unnamed_from}
 
 module _ (strict : Bool) (table : ℕ) (bytes : List ℕ) (p : ℕ) where
   abbrev pub value : ℕ → Option Section

@@ -11,7 +11,6 @@ pub mod RichEntries
 pub mod RichLaw
 pub mod RichMetadataRoundTrip
 pub mod RichPlaces
-pub mod SectionRecords
 pub mod Sections
 pub mod TeHeaderRoundTrip
 pub mod WordPlaces

@@ -1,3 +1,4 @@
 pub mod HeaderRanges
+pub mod SectionRecords
 pub mod SectionsThere
 pub mod WholeParts

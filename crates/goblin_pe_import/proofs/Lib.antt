@@ -1,4 +1,3 @@
-mod AddressTables
 pub mod ImportBound
 pub mod ImportDirectoryRoundTrip
 pub mod Imports

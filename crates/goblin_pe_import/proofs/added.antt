@@ -1,3 +1,4 @@
+pub mod AddressTables
 pub mod ImportCursors
 pub mod ImportFaults
 pub mod ImportSteps

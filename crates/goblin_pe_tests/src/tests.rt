@@ -4,8 +4,8 @@
 //! and not in each function that has one. What owns memory is looked at by a function that borrows
 //! it, or takes it.
 
-mod caller;
 mod directories;
+mod examples;
 mod exports;
 mod footprints;
 mod imports;

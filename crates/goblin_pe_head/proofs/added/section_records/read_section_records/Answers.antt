@@ -4,7 +4,7 @@ use Rattle.goblin_base.proofs.Steps.{all_at-zero}
 use Rattle.goblin_pe_sect.specs.Options.{is_strict}
 use Rattle.goblin_pe_sect.specs.SectionReadings.{named_section_at}
 use Rattle.goblin_pe_sect.specs.SectionTable.{Section, sections_in, unnamed}
-use Rattle.goblin_pe_head.proofs.SectionRecords.{section_end, section_more, sections_from, sections_of_got, unnamed_from, unnamed_refused}
+use Rattle.goblin_pe_head.proofs.added.SectionRecords.{section_end, section_more, sections_from, sections_of_got, unnamed_from, unnamed_refused}
 use Rattle.goblin_pe_head.proofs.added.section_records.read_section_records.Goals as goal
 
 pub records-init : goal.records-init

@@ -1,7 +1,7 @@
 -- The sections so far are those of the table, each in the file.
 use Rattle.std.proofs.Common.{◌≡◌, ◌+◌, ◌*◌, ◌<◌, ◌≤◌, ℕ, length, Some}
 use Rattle.goblin_pe_sect.specs.Options.{is_strict}
-use Rattle.goblin_pe_head.proofs.SectionRecords.{sections_from, unnamed_from}
+use Rattle.goblin_pe_head.proofs.added.SectionRecords.{sections_from, unnamed_from}
 use Rattle.goblin_pe_head.proofs.added.section_records.read_section_records.Given as goal
 
 abbrev pub invariant-records : goal.invariant-records

@@ -4,7 +4,7 @@ use Rattle.goblin_base.specs.declared.error.ErrorOf.TheVariants.{Read}
 use Rattle.goblin_base.specs.declared.error.ReadFault.TheVariants.{BadOffset}
 use Rattle.goblin_pe_import.specs.ImportEntries.{entry_slots}
 use Rattle.goblin_pe_import.specs.LookupReadings.{entry_number, entry_value_at}
-use Rattle.goblin_pe_import.proofs.AddressTables.{entry_there, record_past}
+use Rattle.goblin_pe_import.proofs.added.AddressTables.{entry_there, record_past}
 use Rattle.goblin_pe_import.proofs.SlotSteps.{stop-here}
 use Rattle.goblin_pe_import.proofs.added.StepsAhead.{stop-reached}
 use Rattle.goblin_pe_import.proofs.added.tested.test_numbers.Goals as goal

@@ -6,7 +6,7 @@ ghost use Rattle.goblin_pe.specs.Answers.{IsMemory};
 ghost use Rattle.goblin_pe.specs.Footprints.{Agree};
 ghost use Rattle.goblin_pe.specs.Options.{default_options};
 ghost use Rattle.goblin_pe.specs.Whole.{whole_file};
-ghost use Rattle.goblin_pe_caller.specs.Verdicts.{IsVerdictOn};
+ghost use Rattle.goblin_pe_examples.specs.Verdicts.{IsVerdictOn};
 
 use crate::report::refusal;
 use goblin_pe::Result;

@@ -7,7 +7,7 @@ ghost use Rattle.goblin_pe.specs.Bytes.{overwritten};
 ghost use Rattle.goblin_pe.specs.HeaderReadings.{pe_header};
 ghost use Rattle.goblin_pe.specs.PeHeader.{IsUnwrittenPart, header_bytes};
 ghost use Rattle.goblin_pe.specs.Reading.{IsRefused};
-ghost use Rattle.goblin_pe_caller.specs.Audits.{stamped};
+ghost use Rattle.goblin_pe_examples.specs.Audits.{stamped};
 
 use goblin_pe::header::Header;
 use goblin_pe::{Endian, Result};

@@ -7,7 +7,7 @@ ghost use Rattle.goblin_pe.specs.Reading.{IsRefused};
 ghost use Rattle.goblin_pe.specs.ErrorText.{error_text};
 ghost use Rattle.goblin_pe.specs.Options.{default_options};
 ghost use Rattle.goblin_pe.specs.Whole.{whole_file};
-ghost use Rattle.goblin_pe_caller.specs.Audits.{Tells};
+ghost use Rattle.goblin_pe_examples.specs.Audits.{Tells};
 
 use goblin_pe::options::ParseOptions;
 use goblin_pe::{Error, Result, Whole};

@@ -4,7 +4,7 @@ use Rattle.std.specs.Option.{is_some}
 use Rattle.goblin_pe.specs.added.Keys.{IsKeyOf}
 use Rattle.goblin_pe.specs.Options.{default_options}
 use Rattle.goblin_pe.specs.Whole.{whole_file}
-use Rattle.goblin_pe_caller.specs.declared.verdict.Verdict.{Verdict}
+use Rattle.goblin_pe_examples.specs.declared.verdict.Verdict.{Verdict}
 
 -- The verdict says whether this file is read, and its key is the key of the file.
 pub record IsVerdictOn (file : List ℕ) (verdict : Verdict) : Type 0 where

@@ -11,7 +11,7 @@ ghost use Rattle.goblin_pe.specs.Reading.{Reads, ReadsOrMemory};
 ghost use Rattle.goblin_pe.specs.Reads.{mapped};
 ghost use Rattle.goblin_pe.specs.added.TakenMemory.{TakesIndex};
 ghost use Rattle.goblin_pe.specs.Whole.{export_part};
-ghost use Rattle.goblin_pe_caller.specs.Audits.{forwarder_count, forwarders, is_forwarder};
+ghost use Rattle.goblin_pe_examples.specs.Audits.{forwarder_count, forwarders, is_forwarder};
 
 use goblin_pe::added::{Exports, Layout};
 use goblin_pe::header::Header;

@@ -1,4 +1,4 @@
-//! What a caller makes of a file.
+//! What the examples make of a file.
 
 use fixture::sample::{SAMPLE_LEN, is_err, is_ok, put, put_all, sample};
 use goblin_base::Error;
@@ -11,11 +11,11 @@ use goblin_pe::options::ParseOptions;
 use goblin_pe::relocation::RelocationWord;
 use goblin_pe::section_table::SectionTable;
 use goblin_pe::table::*;
-use goblin_pe_caller::imports::imports_from;
-use goblin_pe_caller::tables::{
+use goblin_pe_examples::imports::imports_from;
+use goblin_pe_examples::tables::{
     count_entries, count_forwarders, count_imports, has_ordinal, name_pointer, value_at,
 };
-use goblin_pe_caller::verdict::Verdict;
+use goblin_pe_examples::verdict::Verdict;
 use std::alloc::{AllocError, Global};
 
 #[test]

@@ -11,7 +11,7 @@ ghost use Rattle.goblin_pe.specs.Reads.{mapped};
 ghost use Rattle.goblin_pe.specs.added.TakenMemory.{TakesIndex};
 ghost use Rattle.goblin_pe.specs.added.Questions.{counted, has_any};
 ghost use Rattle.goblin_pe.specs.Whole.{import_list};
-ghost use Rattle.goblin_pe_caller.specs.Audits.{imports_from, is_from};
+ghost use Rattle.goblin_pe_examples.specs.Audits.{imports_from, is_from};
 
 use goblin_pe::added::{FileImports, Layout};
 use goblin_pe::header::Header;

@@ -2,7 +2,7 @@
 
 ghost use Rattle.std.specs.Prelude.{◌≡◌, filter};
 ghost use Rattle.goblin_pe.specs.Reading.{ReadsOrMemory};
-ghost use Rattle.goblin_pe_caller.specs.Audits.{is_writable_code, writable_code};
+ghost use Rattle.goblin_pe_examples.specs.Audits.{is_writable_code, writable_code};
 
 use goblin_pe::header::Header;
 use goblin_pe::options::ParseOptions;

@@ -17,7 +17,8 @@ ghost use Rattle.goblin_pe.specs.Symbols.{symbol_bytes, symbols_in};
 ghost use Rattle.goblin_pe.specs.declared.endian.Endian.{Endian};
 ghost use Rattle.goblin_pe.specs.declared.error.CauseOf.TheVariants.{Message};
 ghost use Rattle.goblin_pe.specs.declared.error.ErrorOf.TheVariants.{Malformed};
-ghost use Rattle.goblin_pe_caller.specs.Counts.{import_count, leads_to_forwarder, rich_entry_count};
+ghost use Rattle.goblin_pe_examples.specs.Counts.{import_count, leads_to_forwarder};
+ghost use Rattle.goblin_pe_examples.specs.Counts.{rich_entry_count};
 
 use goblin_pe::data_directories::{DataDirectories, DataDirectory};
 use goblin_pe::export::{

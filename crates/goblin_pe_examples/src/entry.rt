@@ -2,7 +2,7 @@
 
 ghost use Rattle.std.specs.Prelude.{◌≡◌};
 ghost use Rattle.goblin_pe.specs.Reading.{ReadsOrMemory};
-ghost use Rattle.goblin_pe_caller.specs.Audits.{enters_code, is_entered_in_code};
+ghost use Rattle.goblin_pe_examples.specs.Audits.{enters_code, is_entered_in_code};
 
 use goblin_pe::header::Header;
 use goblin_pe::optional_header::OptionalHeader;

@@ -1,5 +1,5 @@
-//! Callers of `goblin_pe` alone, whose code and clauses name no crate below it. docs/CALLERS.md
-//! shows their code.
+//! Examples of programs over `goblin_pe` alone, whose code and clauses name no crate below it.
+//! docs/CALLERS.md shows their code.
 #![tactic(auto)]
 
 pub mod entry;

@@ -1,0 +1,49 @@
+"""What goblin has stands without what is added to it: no file outside the folders `added` names one of them, or calls a method
+from there. ARCHITECTURE.md says how many lines both have."""
+import re
+import unittest
+
+from tests.programs import CRATES, TOP
+
+GOBLIN = ("goblin_base", "readings", "goblin_pe_sect", "goblin_pe_symbol", "goblin_pe_head", "goblin_pe_import", "goblin_pe_export",
+          "goblin_pe")
+FOR_C = ("goblin_pe_c_headers", "goblin_pe_c_tables", "goblin_pe_capi")
+NAMED = re.compile(r"\b(?:specs|proofs|declared|crate|super|self|readings|goblin_\w+)(?:::|\.)added\b|\badded::|[{,]\s*added\s*[,}:]")
+
+
+def files(part, crates, added):
+    """The files of one part of the crates, outside the folders `added` or inside."""
+    return [it for crate in crates for it in sorted((CRATES / crate / part).glob("**/*.*t"))
+            if ("added" in it.with_suffix("").parts) == added and it.suffix in (".rt", ".antt")]
+
+
+def code(file):
+    return re.sub(r"(?m)(//|--).*$", "", file.read_text("utf-8"))
+
+
+class Added(unittest.TestCase):
+    def test_what_goblin_has_names_nothing_that_is_added(self):
+        for file in [it for part in ("src", "specs", "proofs") for it in files(part, GOBLIN, False)]:
+            with self.subTest(file.relative_to(CRATES)):
+                self.assertNotRegex(code(file), NAMED)
+
+    def test_what_goblin_has_calls_no_method_that_is_added(self):
+        added = "\n".join(map(code, files("src", GOBLIN, True)))
+        others = "\n".join(map(code, files("src", GOBLIN, False)))
+        for kind, body in re.findall(r"(?ms)^impl(?:<[^>]*>)? (\w+)(?:<[^{]*>)? \{\n(.*?)^\}", added):
+            for name in re.findall(r"\bfn (\w+)", body) if re.search(rf"\b(?:struct|enum) {kind}\b", others) else ():
+                with self.subTest(f"{kind}::{name}"):
+                    self.assertNotRegex(others, rf"(?:{kind}::|Self::|\.){name}\b[(:]")
+
+    def test_the_lines_are_counted(self):
+        text = (TOP / "docs/ARCHITECTURE.md").read_text("utf-8")
+        for name, added in (("What goblin has", False), ("What is added", True)):
+            told = re.search(rf"\| {name} \| ([\d,]+) \| ([\d,]+) \| ([\d,]+) \|", text).groups()
+            for part, said in zip(("src", "specs", "proofs"), told):
+                counted = sum(it.read_text("utf-8").count("\n") for it in files(part, GOBLIN, added) + added * files(part, FOR_C, False))
+                with self.subTest(f"{name}, {part}: {counted}"):
+                    self.assertLessEqual(abs(int(said.replace(",", "")) - counted), counted / 50)
+
+
+if __name__ == "__main__":
+    unittest.main()
