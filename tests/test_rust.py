@@ -1,14 +1,17 @@
 """The crate for Rust."""
+import hashlib
 import json
 import os
+import pathlib
 import re
 import shutil
 import subprocess
 import unittest
 
-from tests import hostile
+from tests import hostile, images
 from tests.bindings import BINDINGS, library
-from tests.programs import SAMPLES, Case, environment, folder, need, run, succeed
+from tests.programs import BY_NAME, SAMPLES, Case, environment, folder, need, run, succeed
+from tests.test_python import triaged_images
 
 # A program that runs all examples of the crate's documentation on files, and names those that panic.
 HOSTILE = """#![allow(warnings)]
@@ -29,6 +32,27 @@ fn main() {
             }
         }
     }
+}
+"""
+
+# What says of each file what pefile says of it: a line of JSON.
+COMPARED = """use goblin_pe::{Budget, Image, Options};
+
+fn hex(bytes: &[u8]) -> String {
+    bytes.iter().map(|it| format!("{it:02x}")).collect()
+}
+
+fn main() -> Result<(), Box<dyn std::error::Error>> {
+    for path in std::env::args().skip(1) {
+        let bytes = std::fs::read(&path)?;
+        let image = Image::read(&bytes, Options::permissive())?;
+        let overlay = bytes.len() - image.overlay().len();
+        let rich = image.rich_header().map_or(String::new(), |it| hex(&it.cleared()));
+        let imports = image.imphash_text(&mut Budget::steps(100_000))?.unwrap_or_default();
+        let kinds = [image.is_exe(), image.is_dll(), image.is_driver(), image.is_lib(), image.is_64()];
+        println!("[{overlay}, {rich:?}, {imports:?}, {kinds:?}]");
+    }
+    Ok(())
 }
 """
 
@@ -82,20 +106,52 @@ class Rust(Case):
         printed = succeed(["cargo", "test", "-q", "--offline", "--manifest-path", user / "Cargo.toml", "--test", "newcomer"], env=env)
         self.assertIn("test result: ok. 10 passed", printed)
 
-    def test_no_documented_example_panics_on_a_hostile_file(self):
-        """The build checks sums for overflow."""
+    def user(self, name, source):
+        """A program of a user of the crate."""
         need("cargo")
+        user, env = self.folder / name, environment(GOBLIN_PE_LIB=str(library()), CARGO_TARGET_DIR=str(folder() / "rust"))
+        succeed(["cargo", "new", "-q", "--vcs", "none", user])
+        succeed(["cargo", "add", "-q", "--offline", "--manifest-path", user / "Cargo.toml", "--path", BINDINGS / "rust"], env=env)
+        (user / "src/main.rs").write_text(source, "utf-8")
+        succeed(["cargo", "build", "-q", "--offline", "--manifest-path", user / "Cargo.toml"], env=env)
+        return folder() / "rust/debug" / name
+
+    def test_overlays_hashes_and_kinds_as_by_pefile(self):
+        """Beside what pefile 2023.2.7 says of the same images. It knows a driver by its imports; so those of a native subsystem are
+        compared with what `file` calls them."""
+        wanted = json.loads(pathlib.Path(__file__).with_name("pefile_answers.json").read_text("utf-8"))
+        files = triaged_images()
+        optional = int.from_bytes(BY_NAME.read_bytes()[0x3C:0x40], "little") + 24
+        natives = {f"native{flags:x}": images.with_parts(BY_NAME.read_bytes(), (optional + 68, b"\1\0"), (optional - 2, flags.to_bytes(2, "little")))
+                   for flags in (0x2022, 0x22, 0x20)}
+        paths = [self.written(name, data) for name, data in [*files.items(), *natives.items()]]
+        lines = list(map(json.loads, succeed([self.user("compared", COMPARED), *paths]).splitlines()))
+        for (name, data), (overlay, rich, imports, kinds) in zip(files.items(), lines):
+            with self.subTest(name):
+                rich, imports = (text and hashlib.md5(text).hexdigest() for text in (bytes.fromhex(rich), imports.encode()))
+                it = wanted[name]
+                self.assertEqual((overlay, rich or None, imports or ""), (it["overlay"] or len(data), it["rich_hash"], it["imphash"]))
+                self.assertEqual(kinds, [not it["is_lib"], it["is_lib"], False, it["is_lib"], it["is_64"]])
+        self.assertEqual([it[3][:3] for it in lines[len(files):]], [[False, True, True], [False, False, True], [False, False, True]])
+        need("file")
+        for path in paths[len(files):]:
+            self.assertIn("(native)", succeed(["file", path]))
+
+    def test_each_type_that_borrows_has_a_test_that_it_does(self):
+        """That a program does not compile in which the bytes are dropped first."""
+        texts = [it.read_text("utf-8") for it in (BINDINGS / "rust/src").glob("*.rs") if it.name not in ("ffi.rs", "borrowed.rs")]
+        borrowing = {name for text in texts for name in re.findall(r"(?m)^pub (?:struct|enum) (\w+)<'a", text)}
+        tested = set(re.findall(r"(?m)^    (\w+): \"", (BINDINGS / "rust/src/borrowed.rs").read_text("utf-8")))
+        self.assertEqual(borrowing, tested)
+
+    def test_no_documented_example_panics_on_a_hostile_file(self):
+        """In a build that tests sums for overflows."""
         examples = documented_examples()
         self.assertGreater(len(examples), 15)
-        user, env = self.folder / "user", environment(GOBLIN_PE_LIB=str(library()), CARGO_TARGET_DIR=str(folder() / "rust"))
-        succeed(["cargo", "new", "-q", "--vcs", "none", "--name", "hostile", user])
-        succeed(["cargo", "add", "-q", "--offline", "--manifest-path", user / "Cargo.toml", "--path", BINDINGS / "rust"], env=env)
         functions = "".join("fn example_%d() -> Result<(), Box<dyn std::error::Error>> {\n%s\nOk(())\n}\n" % row for row in enumerate(examples.values()))
         table = "".join("(%s, example_%d)," % (json.dumps(name), index) for index, name in enumerate(examples))
-        (user / "src/main.rs").write_text(HOSTILE % (functions, table), "utf-8")
-        succeed(["cargo", "build", "-q", "--offline", "--manifest-path", user / "Cargo.toml"], env=env)
         files = [self.written(f"{index}.bin", data) for index, data in enumerate(hostile.files(3))]
-        said = subprocess.run([folder() / "rust/debug/hostile", *files], stdout=subprocess.DEVNULL, stderr=subprocess.PIPE, check=False)
+        said = subprocess.run([self.user("hostile", HOSTILE % (functions, table)), *files], stdout=subprocess.DEVNULL, stderr=subprocess.PIPE, check=False)
         self.assertEqual((said.returncode, re.findall(rb"(?m)^.* panics on .*$", said.stderr)), (0, []), said.stderr[-2000:])
 
     def test_examples_end_on_each_hostile_file_in_a_second(self):

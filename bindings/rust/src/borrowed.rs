@@ -26,8 +26,9 @@ borrow! {
     Section: "image.sections().next()";
     Rows: "image.sections()";
     Walk: "image.imports()";
-    Within: "image.imports().within(&mut goblin_pe::Budget::unlimited()).into_inner()";
+    Within: "image.imports().within(Box::leak(Box::new(goblin_pe::Budget::unlimited())))";
     Import: "image.imports().next()";
+    Imported: "image.imports().next().unwrap().unwrap().name";
     Library: "image.libraries().next()";
     Export: "image.exports().next()";
     ExportDirectory: "image.export_directory()";

@@ -1,6 +1,7 @@
 //! What went wrong.
 
 use std::ffi::CStr;
+use std::io::Write;
 use std::{fmt, io};
 
 use crate::ffi;
@@ -18,8 +19,8 @@ const PLACE: u32 = 0xFFFF_FFFF;
 
 /// Why a file, a table or a part of one can't be read.
 ///
-/// Its text says what is wrong, with the numbers. Errors are equal if they have the same kind and
-/// the same numbers, whatever table they are about.
+/// Its text says in which [`table`](Error::table), and what is wrong, with the numbers. Errors are
+/// equal if they have the same kind and the same numbers, whatever table they are about.
 #[derive(Clone, Copy)]
 pub struct Error {
     fault: ffi::Fault,
@@ -64,8 +65,8 @@ impl Error {
     }
 
     // The error of a part, if it has one.
-    pub(crate) fn some(fault: ffi::Fault, table: Table) -> Option<Error> {
-        Error::test(fault, Some(table)).err()
+    pub(crate) fn some(fault: ffi::Fault, table: Option<Table>) -> Option<Error> {
+        Error::test(fault, table).err()
     }
 
     /// What kind of error it is.
@@ -103,8 +104,9 @@ impl Error {
         (self.fault.first, self.fault.second)
     }
 
-    /// The part of the file that could not be read, if a read or a walk returned the error; `None`
-    /// of a look-up.
+    /// The part of the file that could not be read, if a read or a walk returned the error. `None`
+    /// for an error of a look-up, and for one of [`Damage`](crate::Damage) and
+    /// [`HeaderFaults`](crate::HeaderFaults), where the field names the part.
     #[must_use]
     pub const fn table(&self) -> Option<Table> {
         self.table
@@ -133,7 +135,16 @@ impl fmt::Display for Error {
         let mut text = [0; 256];
         ffi::goblin_pe_fault_string(&self.fault, &mut text);
         let text = CStr::from_bytes_until_nul(&text).unwrap_or_default();
-        f.pad(text.to_str().unwrap_or_default())
+        let text = text.to_str().unwrap_or_default();
+        let Some(table) = self.table else {
+            return f.pad(text);
+        };
+        // (without memory, which may be what was refused)
+        let mut line = [0; 300];
+        let mut rest = &mut line[..];
+        let _ = write!(rest, "{table}: {text}");
+        let size = 300 - rest.len();
+        f.pad(std::str::from_utf8(&line[..size]).unwrap_or_default())
     }
 }
 

@@ -5,7 +5,9 @@ use std::io::{self, Write};
 use std::ops::Range;
 use std::ptr::NonNull;
 
-use crate::constants::{IMAGE_FILE_DLL, MAGIC_64};
+use crate::constants::{
+    IMAGE_FILE_DLL, IMAGE_FILE_EXECUTABLE_IMAGE, IMAGE_SUBSYSTEM_NATIVE, MAGIC_64,
+};
 use crate::error::Error;
 use crate::ffi;
 use crate::headers::{
@@ -197,8 +199,28 @@ impl<'a> Image<'a> {
 
     /// Whether the COFF header has the flag of a dynamic-link library.
     #[must_use]
-    pub fn is_lib(&self) -> bool {
+    pub fn is_dll(&self) -> bool {
         self.record.coff_header.characteristics & IMAGE_FILE_DLL != 0
+    }
+
+    /// As [`is_dll`](Self::is_dll), under goblin's name.
+    #[must_use]
+    pub fn is_lib(&self) -> bool {
+        self.is_dll()
+    }
+
+    /// Whether the subsystem is the native one, as that of a driver of Windows. The imports are not
+    /// looked at.
+    #[must_use]
+    pub fn is_driver(&self) -> bool {
+        self.record.optional_header.windows_fields.subsystem == IMAGE_SUBSYSTEM_NATIVE
+    }
+
+    /// Whether the COFF header has the flag of an executable image, and it is no DLL and no driver.
+    #[must_use]
+    pub fn is_exe(&self) -> bool {
+        let is_executable = self.record.coff_header.characteristics & IMAGE_FILE_EXECUTABLE_IMAGE != 0;
+        is_executable && !self.is_dll() && !self.is_driver()
     }
 
     /// The RVA of the entry point; 0 if there is none.
@@ -350,7 +372,7 @@ impl<'a> Image<'a> {
                 self.refusal::<Symbol>(),
             ),
         };
-        match Error::some(fault, table) {
+        match Error::some(fault, Some(table)) {
             _ if !is_there => TableState::Absent,
             None => TableState::Present,
             Some(error) => TableState::Refused(error),
@@ -547,7 +569,8 @@ impl<'a> Image<'a> {
 /// # Facts about the whole file
 impl<'a> Image<'a> {
     /// What strict mode refuses of the image, part by part, and what the walks skip. Both modes give
-    /// the same.
+    /// the same. In a [partial](Self::read_partial) image this is the damage of the parts that were
+    /// read. Its [`HeaderFaults`] have the others.
     ///
     /// # Errors
     /// [`ErrorKind::Steps`](crate::ErrorKind::Steps), if the budget is too small for the whole
@@ -556,7 +579,13 @@ impl<'a> Image<'a> {
         let it = budget.take(|steps| {
             filled(None, |it| ffi::goblin_pe_read_damage(&self.record, it, steps))
         })?;
-        Ok(Damage::of(&it))
+        let mut damage = Damage::of(&it);
+        if Image::read(self.bytes(), self.options()).is_err() {
+            damage.is_sound = false;
+            // (zeros in place of a DOS header place no stub)
+            damage.dos_stub = damage.dos_stub.filter(|_| self.record.dos_header.signature != 0);
+        }
+        Ok(damage)
     }
 
     /// The file offsets of the bytes on which these answers depend: the header, the section headers,
@@ -913,18 +942,18 @@ impl HeaderFaults {
     }
 
     fn of(refusal: ffi::Fault, it: &ffi::HeaderFaults) -> HeaderFaults {
-        let header = |fault| Error::some(fault, Table::Header);
+        let part = |fault| Error::some(fault, None);
         HeaderFaults {
-            refusal: header(refusal),
-            dos_header: header(it.dos_header),
-            dos_stub: header(it.dos_stub),
-            rich_header: Error::some(it.rich_header, Table::RichHeader),
-            coff_header: header(it.coff_header),
-            standard_fields: header(it.standard_fields),
-            windows_fields: header(it.windows_fields),
-            directories: header(it.directories),
-            section_table: header(it.section_table),
-            section_names: header(it.section_names),
+            refusal: Error::some(refusal, Some(Table::Header)),
+            dos_header: part(it.dos_header),
+            dos_stub: part(it.dos_stub),
+            rich_header: part(it.rich_header),
+            coff_header: part(it.coff_header),
+            standard_fields: part(it.standard_fields),
+            windows_fields: part(it.windows_fields),
+            directories: part(it.directories),
+            section_table: part(it.section_table),
+            section_names: part(it.section_names),
         }
     }
 }
@@ -972,12 +1001,13 @@ impl Damage {
     }
 
     fn of(it: &ffi::Damage) -> Damage {
+        let part = |fault| Error::some(fault, None);
         Damage {
-            dos_stub: Error::some(it.dos_stub, Table::Header),
-            section_names: Error::some(it.section_names, Table::Header),
-            imports: Error::some(it.imports, Table::Imports),
-            exports: Error::some(it.exports, Table::Exports),
-            relocations: Error::some(it.relocations, Table::Relocations),
+            dos_stub: part(it.dos_stub),
+            section_names: part(it.section_names),
+            imports: part(it.imports),
+            exports: part(it.exports),
+            relocations: part(it.relocations),
             skipped_libraries: it.skipped_libraries,
             skipped_entries: it.skipped_entries,
             unmapped_entries: it.unmapped_entries,

@@ -22,7 +22,7 @@ use crate::tables::{
 
 /// The names of a number: an iterator over them, each with its bits. `{}` prints them, and what is
 /// left in hexadecimal; a width pads them.
-#[derive(Clone, Debug)]
+#[derive(Clone)]
 pub struct Names {
     known: &'static [(&'static str, u32)],
     left: u32,
@@ -71,7 +71,13 @@ impl fmt::Display for Names {
     }
 }
 
-// The names of a number, of which one stands for all its bits.
+impl fmt::Debug for Names {
+    fn fmt(&self, f: &mut fmt::Formatter<'_>) -> fmt::Result {
+        write!(f, "Names({self})")
+    }
+}
+
+// The names of a number that has one name for all its bits.
 fn number(names: &'static [(&'static str, u32)], number: impl Into<u32>) -> Names {
     Names {
         known: names,

@@ -39,13 +39,37 @@ fn damage_of(bytes: &[u8]) -> goblin_pe::Damage {
 fn errors_have_kinds_numbers_and_texts() {
     let error = Image::parse(b"").expect_err("no bytes");
     assert_eq!(error.kind(), ErrorKind::Malformed(Cause::NoDosSignature));
-    assert_eq!(error.to_string(), "the file is too short for the DOS signature");
+    assert_eq!(error.to_string(), "header: the file is too short for the DOS signature");
     let error = Image::read(b"no image", Options::permissive()).expect_err("no image");
-    let text = "the file begins with 0x6f6e in place of the DOS signature";
+    let text = "header: the file begins with 0x6f6e in place of the DOS signature";
     assert_eq!((error.to_string().as_str(), error.numbers()), (text, (0x6f6e, 0)));
     assert_eq!(error.kind(), ErrorKind::Malformed(Cause::DosMagic));
     let error = Image::read_te(b"VZ", Options::default()).expect_err("no header");
     assert_eq!(error.kind(), ErrorKind::TooBig);
+    let text = "header: there are not enough bytes, or not enough room";
+    assert_eq!(format!("{error:.^60}"), format!("{text:.^60}"));
+    let bytes = sample("imports_by_name_x64.dll");
+    let image = Image::parse(&bytes).expect("an image");
+    let error = image.imports().within(&mut Budget::steps(0)).next();
+    let error = error.expect("a row").expect_err("no step");
+    assert_eq!(error.to_string(), "imports: no steps are left");
+    let error = image.text_at(0x9000).expect_err("a look-up");
+    assert_eq!(error.to_string(), "the address 0x9000 has no offset in the file");
+}
+
+#[test]
+fn the_damage_of_a_partial_image_is_that_of_what_was_read() -> Result<(), Error> {
+    let whole = sample("imports_by_name_x64.dll");
+    for length in (0..whole.len()).step_by(5) {
+        let bytes = &whole[..length];
+        let (image, faults) = Image::read_partial(bytes, Options::permissive());
+        let damage = image.damage(&mut Budget::unlimited())?;
+        assert_eq!(damage.dos_stub, None, "{length}");
+        assert!(!(damage.is_sound && faults.refusal.is_some()), "{length}");
+        let printed = format!("{damage}{:?}", Vec::from_iter(faults.errors()));
+        assert!(!printed.contains(": header: "), "{printed}");
+    }
+    Ok(())
 }
 
 #[test]

@@ -118,10 +118,10 @@ fn a_walk_over_many_rows_takes_memory_as_it_begins() -> Result<(), Error> {
 fn errors_and_texts_are_printed_without_memory() {
     let error = starved(|| Image::parse(b"MZ").expect_err("no image"));
     let mut text = [0; 80];
-    starved(|| write!(&mut text[..], "{error:>50}|{:>4}|", Text(b"a"))).expect("room");
+    starved(|| write!(&mut text[..], "{error:>60}|{:>4}|", Text(b"a"))).expect("room");
     let text = String::from_utf8_lossy(&text);
     let text = text.trim_end_matches('\0').trim_start();
-    assert_eq!(text, "the file is too short for the DOS header|   a|");
+    assert_eq!(text, "header: the file is too short for the DOS header|   a|");
     let none = starved(|| Pe::parse(&[])).err().map(|it| it.kind());
     assert!(matches!(none, Some(ErrorKind::Malformed(_))));
 }

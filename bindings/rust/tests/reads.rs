@@ -1,7 +1,7 @@
 //! What is read of the samples, by lists and by walks, and how budgets limit it.
 use goblin_pe::{
-    Budget, Error, ErrorKind, Image, Imported, Kind, Mapping, Options, Pe, Table, TableState, Text,
-    update_checksum,
+    Budget, Error, ErrorKind, Forwarder, Image, Imported, Kind, Mapping, Options, Pe, Table,
+    TableState, Text, names, update_checksum,
 };
 use std::fmt::Write;
 use std::path::PathBuf;
@@ -259,4 +259,10 @@ fn texts_print_safely() {
     );
     assert_eq!(format!("{:?}", Text(b"a\"b")), r#""a\x22b""#);
     assert_eq!(String::from(Text(b"a\xFF")), Text(b"a\xFF").to_string());
+    let (ordinal, dll, name) = (Imported::Ordinal(7), Text(b"A"), Text(b"b"));
+    assert_eq!(format!("{ordinal:*>4}|{:*<5}", Forwarder::Name { dll, name }), "**#7|A.b**");
+    let (flags, machine) = (names::file_flags(0x2002), names::machine(0x14C));
+    assert_eq!(format!("{flags:_^48}"), "__IMAGE_FILE_EXECUTABLE_IMAGE | IMAGE_FILE_DLL__");
+    assert_eq!(format!("{machine:>18}|{:-<7}", Table::Header), "  COFF_MACHINE_X86|header-");
+    assert_eq!(format!("{machine:?}"), "Names(COFF_MACHINE_X86)");
 }
