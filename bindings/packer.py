@@ -51,6 +51,12 @@ OVERRIDES = """goblin-pe: package-name-doesnt-match-sonames
 goblin-pe: link-to-shared-library-in-wrong-package
 """
 
+# Python keeps compiled modules there, if root runs the package.
+PRERM = b"""#!/bin/sh
+set -e
+rm -rf "$DPKG_ROOT/usr/lib/python3/dist-packages/goblin_pe/__pycache__"
+"""
+
 
 def told(*command):
     """What a command answers; nothing if there is no such command, or if it fails."""
@@ -124,7 +130,7 @@ def tar(files, date):
             elif isinstance(data, str):
                 entry.type, entry.linkname, entry.mode = tarfile.SYMTYPE, data, 0o777
             else:
-                entry.size, entry.mode = len(data), 0o644
+                entry.size, entry.mode = len(data), 0o755 if place == "prerm" else 0o644
             file.addfile(entry, io.BytesIO(data) if isinstance(data, bytes) else None)
     return zipped(made.getvalue(), date)
 
@@ -133,7 +139,7 @@ def deb(version, glibc, soname, files, date):
     """A package for Debian, which is an ar of two tars."""
     control = CONTROL.format(version=version, architecture=architecture(), glibc=glibc, maintainer=maintainer())
     sums = ["%s  %s\n" % (hashlib.md5(data).hexdigest(), place) for place, data in sorted(files.items()) if isinstance(data, bytes)]
-    control = tar({"control": control.encode(), "md5sums": "".join(sums).encode(), "triggers": b"activate-noawait ldconfig\n",
+    control = tar({"control": control.encode(), "prerm": PRERM, "md5sums": "".join(sums).encode(), "triggers": b"activate-noawait ldconfig\n",
                    "shlibs": ("libgoblin_pe %s goblin-pe (= %s)\n" % (soname, version)).encode()}, date)
     made = b"!<arch>\n"
     for name, data in ("debian-binary", b"2.0\n"), ("control.tar.gz", control), ("data.tar.gz", tar(files, date)):

@@ -1,8 +1,14 @@
 """Files that no reader may trust. The examples are run on them."""
 import random
 
-from tests import images
+from tests import images, test_limits
 from tests.programs import BY_NAME, IMAGES, OBJECTS, TERSE
+
+
+def large():
+    """Files that make readers slow, or have them write much."""
+    yield from (images.shared_image(3000, 50000), images.own_tables(1609), images.hostile_image(1 << 22), images.large_image())
+    yield from (make() for _, make, *_ in test_limits.ROWS.values())
 
 
 def files(changed=40):

@@ -1,5 +1,6 @@
 """The examples that map, change and look further into a file: their answers on known images, and that they end on any file."""
 import importlib.util
+import itertools
 import os
 import re
 import shutil
@@ -91,12 +92,22 @@ class Changes(Case):
         self.assertIn(".text 0x3 of type 0x4: keep_it\n", printed)
         self.assertRegex(printed, r"(?m)^symbol \d+ in section 1 at 0x0: .text \(\d+ bytes\)$")
 
+    def test_an_image_of_many_imports_is_not_called_damaged(self):
+        """Of more than 65,536; and one of more than all steps."""
+        printed = succeed([built("damage"), self.written("many.dll", images.large_image(libraries=70, functions=1024, exports=0, blocks=0))])
+        self.assertEqual(printed.splitlines()[-3:], ["sound", "imports as Windows maps: 71680", "imports as goblin maps: 71680"])
+        printed = succeed([built("damage"), self.written("more.dll", images.large_image(libraries=256, functions=1024, exports=0, blocks=0))])
+        self.assertEqual({it.partition(": ")[2] for it in printed.splitlines()}, {"not known, because it takes more than 500000 steps"})
+
     def test_damage_is_reported(self):
         sound = b"skipped: 0 libraries, 0 imports and 0 exports\nimports that lead nowhere: 0\nsound\nimports as Windows maps: 1\nimports as goblin maps: 1\n"
         self.assertEqual(run([built("damage"), BY_NAME]), (0, sound, b""))
         printed = run([built("damage"), self.written("cut.dll", BY_NAME.read_bytes()[:0x1E0])])[1].decode().splitlines()
         self.assertEqual(printed[0], "refused: there are not enough bytes, or not enough room")
         self.assertTrue(printed[1].startswith("section table: "), printed)
+        for size in range(0, BY_NAME.stat().st_size, 16):
+            status, printed, _ = run([built("damage"), self.written("cut.dll", BY_NAME.read_bytes()[:size])])
+            self.assertIn((status, b"\nsound\n" in printed), ((1, False), (0, False), (0, True)))
 
 
 class InPython(Case):
@@ -182,21 +193,27 @@ class Ends(Case):
         entries = struct.pack("<2I2H4I", 0, 0, 0, 0, 2, 0xFFFFFFFF, 0, 0x10000) * 2000  # (that lead to one long path)
         shared = images.with_parts(wide, (0x150, struct.pack("<4I", 0x20000, 0x1000, 0x20000, 0x200)), (0x400, entries), (0x10000, b"RSDS" + b"x" * 0x20000))
         yield images.with_directory(shared, 6, 0x1200, len(entries))
-        yield from (images.shared_image(3000, 50000), images.own_tables(1609), images.hostile_image(1 << 22), images.large_image())
         yield from hostile.files(1)
 
-    def test_each_example(self):
-        env = environment(GOBLIN_PE_SO=str(library() / "libgoblin_pe.so"), PYTHONPATH=str(BINDINGS / "python"), PYTHONDONTWRITEBYTECODE="1")
-        to, file = self.folder / "to.dll", self.folder / "some.dll"
+    def test_each_example_in_c(self):
+        file = self.folder / "some.dll"
         commands = [*([built(it), file] for it in ("damage", "libraries", "object")), [built("walk"), "1000", file], [built("loader"), file, file],
-                    [built("patch"), file, "7", ".text", ".code", to],
-                    *([sys.executable, BINDINGS / f"python/examples/{it}.py", file] for it in IN_PYTHON)]
-        for index, data in enumerate(self.files()):
+                    [built("patch"), file, "7", ".text", ".code", self.folder / "to.dll"], [built("imports")]]
+        self.assert_end(commands, (*self.files(), *hostile.large()))
+
+    def test_each_example_in_python(self):
+        commands = [[sys.executable, BINDINGS / f"python/examples/{it}.py", self.folder / "some.dll"] for it in IN_PYTHON]
+        self.assert_end(commands, (*self.files(), *itertools.islice(hostile.large(), 4)))
+
+    def assert_end(self, commands, files):
+        env = environment(GOBLIN_PE_SO=str(library() / "libgoblin_pe.so"), PYTHONPATH=str(BINDINGS / "python"), PYTHONDONTWRITEBYTECODE="1")
+        file = self.folder / "some.dll"
+        for index, data in enumerate(files):
             file.write_bytes(data)
             for command in commands:
                 with self.subTest(index=index, command=os.path.basename(command[1] if command[0] == sys.executable else command[0])):
                     before = os.times()
-                    status, out, said = run(command, env=env)
+                    status, out, said = run(command, file, env=env)
                     after = os.times()
                     self.assertIn(status, (0, 1, 2), said)
                     self.assertNotIn(b"Traceback", said)

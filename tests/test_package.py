@@ -169,6 +169,11 @@ class Packages(Case):
         self.assert_is_listed_by(python(), "-B", "-m", "goblin_pe", env={"PYTHONPATH": str(modules)})
         if platform.machine() == "x86_64":
             self.assertEqual(succeed(["dpkg-deb", "-f", made, "Architecture"]), "amd64\n")
+        # (what Python keeps goes with it)
+        succeed([python(), "-c", "import goblin_pe"], env={"PYTHONPATH": str(modules)})
+        self.assertTrue((modules / "goblin_pe/__pycache__").exists())
+        succeed([*away(), "dpkg", "--root", root, "--log=/dev/null", "--force-script-chrootless", "-r", "goblin-pe"], env=env)
+        self.assertEqual([it for it in root.rglob("*") if "goblin" in it.name and "var" not in it.parts], [])
 
     def test_the_package_for_debian_keeps_its_rules(self):
         """Programs that link with the library depend on this package, and ldconfig runs after its installation."""
@@ -232,7 +237,8 @@ class Releases(Case):
         return {it.name: it.read_bytes() for it in self.out.iterdir()}
 
     def proved(self):
-        shutil.unpack_archive(next(self.out.glob("*.tar.gz")), self.folder / "unpacked")
+        archive, = (it for it in self.out.glob("*.tar.gz") if "source" not in it.name)
+        shutil.unpack_archive(archive, self.folder / "unpacked")
         text, = (self.folder / "unpacked").glob("*/PROVED")
         return text.read_text("utf-8")
 
@@ -252,9 +258,21 @@ class Releases(Case):
 
     def test_nothing_of_the_working_tree_is_packed(self):
         wanted = self.package()
-        self.assertEqual(len(wanted), 3)
+        self.assertEqual(len(wanted), 4)
         self.spoil()
         self.assertEqual(self.package(), wanted)
+
+    def test_the_sources_are_those_of_the_commit(self):
+        """All of them, as git has them."""
+        self.package()
+        self.spoil()
+        shutil.unpack_archive(next(self.out.glob("*-source.tar.gz")), self.folder / "unpacked")
+        made, = (self.folder / "unpacked").iterdir()
+        files = {str(it.relative_to(made)): (it.read_bytes(), it.stat().st_mode & 0o100) for it in made.rglob("*") if it.is_file()}
+        rows = (it.split() for it in self.git("ls-tree", "-r", "HEAD").splitlines())
+        sums = {place: (name, int(mode, 8) & 0o100) for mode, _, name, place in rows}
+        blob = lambda data: hashlib.sha1(b"blob %d\0" % len(data) + data).hexdigest()
+        self.assertEqual({place: (blob(data), mode) for place, (data, mode) in files.items()}, sums)
 
     def test_a_branch_that_changes_meanwhile(self):
         first = self.git("rev-parse", "HEAD")

@@ -155,17 +155,19 @@ class Rust(Case):
         self.assertEqual((said.returncode, re.findall(rb"(?m)^.* panics on .*$", said.stderr)), (0, []), said.stderr[-2000:])
 
     def test_examples_end_on_each_hostile_file_in_a_second(self):
-        self.cargo("build", "--examples")
-        for index, data in enumerate(hostile.files(1)):
+        """And write less than ten megabytes."""
+        self.cargo("build", "--release", "--examples")
+        for index, data in enumerate([*hostile.large(), *hostile.files(1)]):
             file = self.written("some.dll", data)
             for name, *words in (("imports", file), ("scan", file, file), ("triage", file), ("object", file),
                                  ("export", self.folder, "some.dll", "Apple"), ("export", self.folder, "some.dll", "#1")):
                 with self.subTest(example=name, index=index):
                     began = os.times()
-                    status, out, said = run([folder() / f"rust/debug/examples/{name}", *words])
+                    status, out, said = run([folder() / f"rust/release/examples/{name}", *words])
                     ended = os.times()
                     self.assertIn(status, (0, 1), said)
-                    self.assertTrue((out + said).decode().replace("\n", "").isprintable(), out + said)
+                    self.assertTrue((out + said).decode().replace("\n", "").isprintable(), out[:1000] + said)
+                    self.assertLess(len(out), 10 << 20)
                     self.assertLess(ended.children_user - began.children_user + ended.children_system - began.children_system, 1)
 
 

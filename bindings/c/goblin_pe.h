@@ -16,7 +16,7 @@
            struct goblin_pe_import_cursor cursor = { 0 };
            struct goblin_pe_image image; struct goblin_pe_damage damage;
            struct goblin_pe_batch batch; char text[GOBLIN_PE_FAULT_ROOM];
-           size_t steps = 100000, damage_steps = 100000;
+           size_t steps = 10000, damage_steps = 100000;
            size_t length = fread(file, 1, sizeof file, stdin);
            struct goblin_pe_fault fault = goblin_pe_read_image(file, length, &options, &image);
            if (!fault.status) do {

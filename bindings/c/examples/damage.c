@@ -1,15 +1,21 @@
-/* damage FILE: what is wrong with an image. First the parts of the header that can't be read, then what strict mode refuses and
-   what the walks skip, and then how many imports a reader finds that maps addresses as goblin does. */
+/* damage FILE: says what is wrong with an image. First it lists the parts of the header that can't be read. Then it says what
+   strict mode refuses, and what the walks skip. At last it counts the imports, also those that goblin would find. An image that
+   takes too many steps is not called damaged for that. */
 #include "goblin_pe.h"
 
 #include <stdio.h>
 
 static uint8_t file[1 << 26];
 
+/* The limit of steps for the damage, and for each count of imports. */
+static const size_t most = 500000;
+
 static bool tell(const char *part, struct goblin_pe_fault fault)
 {
     char text[GOBLIN_PE_FAULT_ROOM];
-    if (fault.status)
+    if (fault.status == GOBLIN_PE_STATUS_STEPS)
+        printf("%s: not known, because it takes more than %zu steps\n", part, most);
+    else if (fault.status)
         printf("%s: %s\n", part, goblin_pe_fault_string(&fault, text));
     return fault.status;
 }
@@ -27,10 +33,11 @@ static void tell_header(const struct goblin_pe_header_faults *faults)
     tell("section names", faults->section_names);
 }
 
-static void tell_damage(const struct goblin_pe_image *image, size_t *steps)
+static void tell_damage(const struct goblin_pe_image *image, bool is_refused)
 {
     struct goblin_pe_damage damage;
-    if (tell("damage", goblin_pe_read_damage(image, &damage, steps)))
+    size_t steps = most;
+    if (tell("damage", goblin_pe_read_damage(image, &damage, &steps)))
         return;
     tell("imports", damage.imports);
     tell("exports", damage.exports);
@@ -38,39 +45,39 @@ static void tell_damage(const struct goblin_pe_image *image, size_t *steps)
     printf("skipped: %zu libraries, %zu imports and %zu exports\n", damage.skipped_libraries, damage.skipped_entries,
            damage.skipped_exports);
     printf("imports that lead nowhere: %zu\n", damage.unmapped_entries);
-    puts(damage.is_sound ? "sound" : "not sound");
+    puts(damage.is_sound && !is_refused ? "sound" : "not sound");
 }
 
-static void count_imports(const char *what, const struct goblin_pe_image *image, size_t *steps)
+static void count_imports(const char *what, const struct goblin_pe_image *image)
 {
-    static struct goblin_pe_import rows[1024];
+    static struct goblin_pe_import rows[1 << 14];
     struct goblin_pe_import_cursor cursor = { 0 };
     struct goblin_pe_batch batch;
-    size_t count = 0;
+    size_t count = 0, steps = most;
     do {
-        if (tell(what, goblin_pe_next_imports(image, &cursor, rows, 1024, steps, &batch)))
+        if (tell(what, goblin_pe_next_imports(image, &cursor, rows, 1 << 14, &steps, &batch)))
             return;
         count += batch.count;
     } while (!batch.is_done);
-    printf("imports %s: %zu\n", what, count);
+    printf("%s: %zu\n", what, count);
 }
 
 int main(int argc, char **argv)
 {
-    struct goblin_pe_options options = { .is_permissive = true, .longest_name = 512 };
+    /* (no name is printed, so the first bytes are enough) */
+    struct goblin_pe_options options = { .is_permissive = true, .longest_name = 16 };
     struct goblin_pe_header_faults faults;
     struct goblin_pe_image image, as_stored;
-    size_t steps = 200000;
     FILE *from = argc == 2 ? fopen(argv[1], "rb") : NULL;
     size_t length = from ? fread(file, 1, sizeof file, from) : 0;
     if (!from)
         return fprintf(stderr, "usage: damage FILE\n"), 2;
     bool is_refused = tell("refused", goblin_pe_read_partial_image(file, length, &options, &image, &faults));
     tell_header(&faults);
-    tell_damage(&image, &steps);
+    tell_damage(&image, is_refused);
     as_stored = image;
     as_stored.options.mapping = GOBLIN_PE_MAPPING_AS_STORED;
-    count_imports("as Windows maps", &image, &steps);
-    count_imports("as goblin maps", &as_stored, &steps);
+    count_imports("imports as Windows maps", &image);
+    count_imports("imports as goblin maps", &as_stored);
     return is_refused;
 }

@@ -1,11 +1,11 @@
-/* object FILE: the symbols of an object, and the relocations of its sections with the symbols that they name. */
+/* object FILE: lists the symbols of an object, and the relocations of its sections with the symbols that they name. */
 #include "goblin_pe.h"
 
 #include <stdio.h>
 
 static uint8_t file[1 << 26];
 
-/* At most so many rows are listed. */
+/* How many more rows are listed. */
 static size_t left = 10000;
 
 static void put(struct goblin_pe_slice text)

@@ -49,13 +49,14 @@ static void update_checksum(const struct goblin_pe_image *image)
 int main(int argc, char **argv)
 {
     char text[GOBLIN_PE_FAULT_ROOM];
+    struct goblin_pe_options options = { .longest_name = 512 };
     struct goblin_pe_image image;
     struct goblin_pe_section section;
     FILE *from = argc == 6 ? fopen(argv[1], "rb") : NULL, *to;
     size_t length = from ? fread(file, 1, sizeof file, from) : 0;
     if (!from || ferror(from) || strlen(argv[4]) > sizeof section.stored_name)
         return fprintf(stderr, "usage: patch FROM STAMP SECTION NAME TO\n"), 2;
-    struct goblin_pe_fault fault = goblin_pe_read_image(file, length, NULL, &image);
+    struct goblin_pe_fault fault = goblin_pe_read_image(file, length, &options, &image);
     if (!fault.status) {
         if (!find(&image, argv[3], &section))
             return fprintf(stderr, "no section %s\n", argv[3]), 1;
@@ -66,7 +67,7 @@ int main(int argc, char **argv)
     }
     if (!fault.status) {
         update_checksum(&image);
-        fault = goblin_pe_read_image(file, length, NULL, &image);
+        fault = goblin_pe_read_image(file, length, &options, &image);
     }
     if (fault.status)
         return fprintf(stderr, "%s\n", goblin_pe_fault_string(&fault, text)), 1;
