@@ -121,10 +121,14 @@ int main(int argc, char **argv)
                 self.assertEqual(refused > 0, call == "footprint" or call in walks and count > 96)
 
     def test_the_program_of_the_page(self):
+        """All its pieces; and what the page says that it prints."""
         page = (BINDINGS / "c/README.md").read_text("utf-8")
-        made = self.built(self.written("exports.c", re.search("(?s)```c\n(.*?)```", page)[1].encode()))
-        self.assertEqual(run([made], BY_NAME), (0, b"1 0x1000 answer\n2 0x1020 ticks\n", b""))
-        self.assertEqual(run([made], images.library(b"some.dll", [(b"Ap\x1bple", 0x3010)])), (0, b"1 0x3010 Ap?ple\n", b""))
+        made = self.built(self.written("page.c", "\n".join(re.findall("(?s)```c\n(.*?)```", page)).encode()))
+        told = re.search(r"(?s)```console\n\$ \./program < samples/(.*?)\n(.*?)```", page)
+        self.assertEqual(run([made], SAMPLES / told[1]), (0, told[2].encode(), b""))
+        self.assertEqual(run([made], images.library(b"some.dll", [(b"Ap\x1bple", 0x3010)])), (0, b"1 0x3010 Ap?ple\n0 imports are skipped\n", b""))
+        self.assertIn(b"\n2 0x10 keep_it\n", run([made], OTHERS[0])[1])
+        self.assertIn(b"\ndamaged: ", run([made], BY_NAME.read_bytes()[:-0x400])[1])
         self.assertEqual(run([made], b"MZ"), (1, b"", b"the file is too short for the DOS header\n"))
 
     def test_compilers_warn_of_nothing(self):

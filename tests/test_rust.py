@@ -116,6 +116,16 @@ class Rust(Case):
         succeed(["cargo", "build", "-q", "--offline", "--manifest-path", user / "Cargo.toml"], env=env)
         return folder() / "rust/debug" / name
 
+    def test_the_programs_of_the_page(self):
+        """They print what stands below them."""
+        text = (BINDINGS / "rust/README.md").read_text("utf-8")
+        programs, wanted = (re.findall(r"(?s)```%s\n(.*?)```" % it, text) for it in ("rust", "text"))
+        bodies = [re.sub(r"(?m)^# ?.*\n", "", it) for it in programs]
+        functions = "".join("fn program_%d() -> Result<(), Box<dyn std::error::Error>> {\n%s\nOk(())\n}\n" % row for row in enumerate(bodies))
+        calls = "".join("program_%d()?;\n" % index for index in range(len(bodies)))
+        main = "#![allow(unused)]\n%sfn main() -> Result<(), Box<dyn std::error::Error>> {\n%sOk(())\n}\n" % (functions, calls)
+        self.assertEqual(succeed([self.user("page", main)], cwd=SAMPLES), "".join(wanted))
+
     def test_overlays_hashes_and_kinds_as_by_pefile(self):
         """Beside what pefile 2023.2.7 says of the same images. It knows a driver by its imports; so those of a native subsystem are
         compared with what `file` calls them."""

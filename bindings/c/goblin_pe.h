@@ -1,6 +1,6 @@
 /* goblin_pe: read PE images, COFF objects and TE files with a library whose answers are proved.
 
-   This program lists the imports of an untrusted image. It bounds its work, its memory and the
+   This program lists the imports of an untrusted image. It limits its work, its memory and the
    length of each name, and it says what it could not read:
 
        #include "goblin_pe.h"
@@ -62,10 +62,10 @@
        struct goblin_pe_image strict = image;
        strict.options.is_permissive = false;
 
-   You may change any number. A header with other numbers leads to other tables, and harms
-   nothing. A pointer that you change has to point at as many bytes as its length says.
+   You may change any number in the record. It then leads to other tables, which harms nothing. A
+   pointer that you change has to point at as many bytes as its length says.
 
-   goblin_pe_read_partial_image fills the record as far as a damaged file goes.
+   goblin_pe_read_partial_image fills the record with what is there of a damaged header.
    goblin_pe_read_object and goblin_pe_read_te fill the same record from a COFF object and from a
    Terse Executable.
 
@@ -77,19 +77,19 @@
            const struct goblin_pe_image *image, struct goblin_pe_symbol_cursor *cursor,
            struct goblin_pe_symbol *symbols, size_t room, struct goblin_pe_batch *batch);
 
-   The cursor says where the walk is. A cursor of zeros begins the walk. Rows that have a table of
-   their own hold the cursor at which it begins: a library its imports, a block its base
+   The cursor says where the walk is. A cursor of zeros begins the walk. Some rows have a table of
+   their own, and hold the cursor at which it begins: a library has its imports, a block its base
    relocations, a section of an object its relocations. A walk from there ends with that table.
-   Cursors are plain data, without pointers: copy one to come back to a row, keep one in a file.
+   Cursors are plain data, without pointers: copy one to come back to a row, or keep one in a file.
    A cursor belongs to the file, the header and the options of the image that it was made with.
-   With another image, or with made-up numbers, a walk gives other rows, and harms nothing.
+   With another image, or with made-up numbers, a walk gives other rows, which harms nothing.
 
    The batch says what the call did:
 
-       count    how many rows the call gave
+       count     how many rows the call gave
        is_done   whether to stop: there are no more rows, or the call returned a fault
 
-   next_imports and next_exports also take `steps`: see below. So every walk is this loop:
+   next_imports and next_exports also have an argument `steps`: see below. Every walk is this loop:
 
        do {
            fault = goblin_pe_next_X(&image, &cursor, rows, ROOM, &batch);
@@ -97,17 +97,17 @@
                use(&rows[i]);
        } while (!batch.is_done);
 
-   A walk inside of another has a batch of its own. Both can take from the same steps.
+   A walk inside another one has a batch of its own. Both can count down the same steps.
 
-   - The loop ends, whatever the file holds: a call with room gives a row, takes a step or sets
+   - The loop ends, whatever the file holds: a call with room gives a row, uses a step or sets
      is_done. (With room 0 it does not end: is_done is false unless the call returns a fault.)
-   - A call may give fewer rows than there is room for before the end, and one that takes steps
-     even none. Only is_done tells.
-   - After a fault count is 0, and is_done is true. The cursor, the rows and the steps are
+   - Before the end, a call may give fewer rows than there is room for. A call of next_imports or
+     next_exports may even give none. Only is_done says that the walk is over.
+   - After a fault, count is 0 and is_done is true. The cursor, the rows and the steps are
      unchanged, so you can call again, with more steps or more memory.
-   - The rows before a damaged one are given first. The next call returns the fault.
-   - A call with room 0 gives no row, takes and needs no steps, and leaves the cursor, but it
-     returns a fault if strict mode refuses the table as a whole.
+   - If a row is damaged, a call first gives the rows before it. The next call returns the fault.
+   - A call with room 0 gives no row, needs no steps and does not move the cursor. It returns a
+     fault if strict mode refuses the table as a whole.
    - A table that the image does not have has no rows. In permissive mode neither has a table that
      strict mode refuses as a whole. To tell the two apart, walk the strict copy with room 0.
 
@@ -116,21 +116,24 @@
    Entries of import and export tables may give no row: a damaged image can hold millions of them.
    So next_imports, next_exports and read_damage count steps. A step is one look at an import
    directory entry, at an entry of a lookup or address table, or at an export name pointer. The
-   calls subtract what they took from *steps. With no steps left, a call with room returns
-   GOBLIN_PE_STATUS_STEPS. To see the end of a table may need a step, too. Pass a null pointer
-   to have no limit.
+   calls subtract the steps that they used from *steps. If no steps are left, a call with room
+   returns GOBLIN_PE_STATUS_STEPS. To see the end of a table may need a step, too. Pass a null
+   pointer to have no limit.
 
-   If the image has more than 96 sections, each call also takes a step for each section above 96,
+   If the image has more than 96 sections, each call also uses a step for each section above 96,
    because it has to look at all of them first.
 
-   A look at one address table is not cut in two. So a call may look at more slots than it had
-   steps, at most as many as that table has. Then no steps are left.
+   A call looks at an address table as a whole. So it may look at more entries than it had steps,
+   at most at those of one table. Then no steps are left.
 
-   The other walks look only at what gives a row. So their room bounds them. But next_libraries may
-   look at a whole address table for each row: see "Hostile files". One number of steps can serve
-   next_imports, next_exports and read_damage, and so bound their sum. read_damage takes as many as
-   a permissive walk over all imports and one over all exports take together. It needs as many as a
-   strict walk over all imports, too, which may be more, but does not take these.
+   The other walks look only at entries that give a row, so the room of their calls limits them.
+   There is one exception: next_libraries may look at a whole address table for each row. See
+   "Hostile files".
+
+   One number of steps can serve next_imports, next_exports and read_damage, and so limit their sum.
+   read_damage uses as many steps as a permissive walk over all imports and a walk over all exports
+   together. If a strict walk over all imports needs more, as many have to be left, but read_damage
+   does not use them.
 
    What the caller must do
    -----------------------
@@ -138,8 +141,8 @@
    - The bytes are as many as the length says. No thread changes them during a call.
    - Records that a call reads were filled by a call, or all their fields are set. Bools are 0 or
      1.
-   - The memory that a call fills overlaps nothing else that it takes. (So &image.options can't
-     be the options of a call that fills image.)
+   - The memory that a call fills overlaps no other argument. (So &image.options can't be the
+     options of a call that fills image.)
    - Pointers are not null. Exceptions: options may be null and are then the defaults; steps may be
      null and are then no limit; bytes, rows and output may be null where their length or room is
      0.
@@ -147,22 +150,25 @@
    - malloc, realloc and free belong to one allocator. No call is made from a signal handler, nor
      in the forked child of a threaded process before exec.
 
-   Calls may run in any thread, several at once, if they share no cursor, steps or output. A call
-   that returns a fault, or false, changes none of its outputs. Exceptions: the batch, the memory
-   of section_data and memory_at, and what read_partial_image fills.
+   Calls may run in any thread, several at once, if they share no cursor, steps or output.
+
+   A call that returns a fault, or false, changes none of its outputs, with three exceptions: the
+   batch, the memory of section_data and memory_at, and what read_partial_image fills.
 
    Memory
    ------
-   Only two things take memory: goblin_pe_read_footprint (up to 8 n + n / 8 bytes for a file of n,
-   of which you free the ranges), and an index of the sections (300 bytes for each), which a walk
-   over a table makes when the image has more than 96 sections and frees before it returns. So only
-   these return GOBLIN_PE_STATUS_MEMORY. Give such images batches of thousands of rows:
-   65,535 sections take 25 milliseconds a call.
+   Only two things need memory, and only these return GOBLIN_PE_STATUS_MEMORY:
+
+   - goblin_pe_read_footprint needs up to 8 n + n / 8 bytes for a file of n bytes. Free its ranges
+     with goblin_pe_free_footprint.
+   - A walk over a table makes an index of the sections if the image has more than 96 sections, and
+     frees it before it returns. The index has 300 bytes for each section. With 65,535 sections this
+     costs 25 milliseconds a call, so walk such an image in batches of thousands of rows.
 
    Time
    ----
-   n is the file's length. "sections" is one look at each section header, "name" the length of one
-   name, at most n, and at most longest_name + 4 where the options set a limit. ASCII costs 0.15
+   n is the file's length. "sections" is one look at each section header. "name" is the length of
+   one name: at most n, and at most longest_name + 4 if the options set a limit. ASCII costs 0.15
    nanoseconds a byte, other text up to 3.
 
    call                       time at most
@@ -198,15 +204,19 @@
      million imports. Stop a walk when you have enough.
    - Names may overlap, so m names of a file of n bytes are up to m * n bytes to read. Set
      longest_name.
-   - Dead entries cost time and give no row: without a limit 1 MiB may take a minute. Set steps:
-     100,000 take 10 to 200 milliseconds, by the length of the names.
-   - next_libraries takes no steps, and libraries may share one long address table: 5,000 rows of
-     1 MB take a second, and 100,000 rows of 16 MB three minutes. Stop after some hundreds.
+   - Dead entries cost time and give no row: without a limit 1 MiB may cost a minute. Set steps:
+     100,000 need 10 to 200 milliseconds, depending on the length of the names.
+   - next_libraries counts no steps, and libraries may share one long address table: 5,000 rows of
+     a file of 1 MB cost a second, and 100,000 rows of a file of 16 MB three minutes. Stop after
+     some hundreds.
    - Each call costs up to 25 milliseconds more if the image has many sections: a million imports
-     take 7 minutes in batches of 64, 6 seconds in batches of 4,096.
-   - read_footprint can't be stopped, and reads names whole, also where longest_name cut them for
-     the walks. Call it when the walks came to their ends and cut no long names: if names overlap,
-     1 MB takes half a minute. */
+     cost 7 minutes in batches of 64, but 6 seconds in batches of 4,096.
+   - read_footprint can't be stopped, and reads names whole, also if longest_name cut them for the
+     walks. Call it when the walks came to their ends and cut no long names: if names overlap, 1 MB
+     costs half a minute.
+   - The damage of a partial image is that of the parts that could be read. Zeros in place of a DOS
+     header count as a damaged stub, and is_sound says nothing of a header that was refused: look at
+     the faults of read_partial_image first. */
 #ifndef GOBLIN_PE_H
 #define GOBLIN_PE_H
 

@@ -28,7 +28,7 @@ impl Header<'_> {
     /// The bytes of the header: the DOS header and stub, the PE signature, the COFF header and an
     /// optional header with sixteen directories.
     ///
-    /// The bytes of a header that strict mode read are those of the file, up to the last of its
+    /// If strict mode read the header, these bytes are those of the file, up to the last of its
     /// directories.
     ///
     /// # Errors
@@ -36,7 +36,7 @@ impl Header<'_> {
     /// header for 32 bits; [`ErrorKind::BadMagic`](crate::ErrorKind::BadMagic); and
     /// [`ErrorKind::Memory`](crate::ErrorKind::Memory).
     pub fn to_vec(&self) -> Result<Vec<u8>, Error> {
-        // (the library takes the stub from the bytes of an image)
+        // (the library reads the stub from the bytes of an image)
         let mut front = room(STUB + self.dos_stub.len())?;
         front.resize(STUB, 0);
         front.extend_from_slice(self.dos_stub);
@@ -77,7 +77,7 @@ pub(crate) fn default_stub(image: &ffi::Image) -> &'static [u8] {
 pub(crate) fn written(image: &ffi::Image) -> Result<Vec<u8>, Error> {
     let (mut size, mut bytes) = (0, Vec::new());
     loop {
-        // SAFETY: so many bytes are there.
+        // SAFETY: the vector has this length.
         let fault = unsafe {
             ffi::goblin_pe_write_header(image, bytes.as_mut_ptr(), bytes.len(), &mut size)
         };

@@ -27,8 +27,8 @@ use crate::walk::{Rows, Walk, Walked};
 
 /// A PE image, a COFF object or a Terse Executable.
 ///
-/// It is a header that was read, and the bytes of the file. It takes no memory of its own, and is
-/// cheap to copy (half a kilobyte). Its tables are read when you walk over them.
+/// It is a header that was read, and the bytes of the file. It has half a kilobyte, needs no other
+/// memory, and is cheap to copy. Its tables are read when you walk over them.
 ///
 /// ```no_run
 /// use goblin_pe::{Image, Options};
@@ -71,14 +71,14 @@ impl<'a> Image<'a> {
     /// Reads the header and the section table of an image. The other tables are not looked at.
     ///
     /// # Errors
-    /// What is wrong with the header, the section table or a section name. In permissive mode less
-    /// is wrong, but some is: a file without a whole header and section table, an optional header
-    /// of an unknown magic, more than sixteen data directories, a section name of a slash and no
-    /// number, and a Rich marker without `DanS`. [`read_partial`](Self::read_partial) reads such a
-    /// file.
+    /// The header, the section table or a section name is damaged. Permissive mode refuses less, but
+    /// it also refuses: a file without a whole header and section table, an optional header of an
+    /// unknown magic, more than sixteen data directories, a section name of a slash and no number, and
+    /// a Rich marker without `DanS`. [`read_partial`](Self::read_partial) reads such a file, and says
+    /// which part of the header is damaged.
     pub fn read(bytes: &'a [u8], options: Options) -> Result<Image<'a>, Error> {
         let (of, length) = (bytes.as_ptr(), bytes.len());
-        // SAFETY: so many bytes are there.
+        // SAFETY: the slice has this length.
         let record = filled(Some(Table::Header), |it| unsafe {
             ffi::goblin_pe_read_image(of, length, &options.record(), it)
         })?;
@@ -111,7 +111,7 @@ impl<'a> Image<'a> {
     pub fn read_partial(bytes: &'a [u8], options: Options) -> (Image<'a>, HeaderFaults) {
         let (of, length) = (bytes.as_ptr(), bytes.len());
         let (mut record, mut faults) = (ffi::Image::default(), ffi::HeaderFaults::default());
-        // SAFETY: so many bytes are there.
+        // SAFETY: the slice has this length.
         let refusal = unsafe {
             let options = options.record();
             ffi::goblin_pe_read_partial_image(of, length, &options, &mut record, &mut faults)
@@ -123,10 +123,10 @@ impl<'a> Image<'a> {
     /// directories and addresses. The machine is not tested: ask [`Kind::of`] first.
     ///
     /// # Errors
-    /// A file that is too short for its section headers, and a bad section name, as the mode says.
+    /// The file is too short for its section headers, or a section name is bad, as the mode says.
     pub fn read_object(bytes: &'a [u8], options: Options) -> Result<Image<'a>, Error> {
         let (of, length) = (bytes.as_ptr(), bytes.len());
-        // SAFETY: so many bytes are there.
+        // SAFETY: the slice has this length.
         let record = filled(Some(Table::Header), |it| unsafe {
             ffi::goblin_pe_read_object(of, length, &options.record(), it)
         })?;
@@ -137,20 +137,20 @@ impl<'a> Image<'a> {
     /// The addresses and pointers of sections are moved to where they are in this file.
     ///
     /// # Errors
-    /// A file that is too short for the header or its section headers, and a stripped size below
-    /// that of the header.
+    /// The file is too short for the header or its section headers, or the stripped size is below that
+    /// of the header.
     pub fn read_te(bytes: &'a [u8], options: Options) -> Result<(Image<'a>, TeHeader), Error> {
         let (of, length) = (bytes.as_ptr(), bytes.len());
         let mut header = TeHeader::default();
-        // SAFETY: so many bytes are there.
+        // SAFETY: the slice has this length.
         let record = filled(Some(Table::Header), |it| unsafe {
             ffi::goblin_pe_read_te(of, length, &options.record(), it, &mut header)
         })?;
         Ok((Image { record }, header))
     }
 
-    /// The same image, read by other options: in the other mode, with another mapping or with
-    /// another limit for names. The header itself is not read again.
+    /// The same image with other options: in the other mode, with another mapping or with another
+    /// limit for names. The header itself is not read again.
     ///
     /// ```no_run
     /// use goblin_pe::{Image, Mapping};
@@ -322,14 +322,14 @@ impl<'a> Image<'a> {
 
     /// A walk over the libraries: one for each entry of the import directory, also the skipped ones.
     ///
-    /// A row is one step of a budget. But libraries may share one long address table: then 5,000
-    /// rows of a megabyte take a second, and 100,000 rows of 16 megabytes three minutes. If you don't
-    /// trust the file, take some hundreds.
+    /// A row is one step of a budget. But libraries may share one long address table, which is read
+    /// for each of them. Then 5,000 rows of a file of a megabyte cost a second, and 100,000 rows of a
+    /// file of 16 megabytes three minutes. If you don't trust the file, stop after some hundreds.
     pub fn libraries(&self) -> Walk<'a, Library<'a>> {
         Walk::of(self)
     }
 
-    /// A walk over the exports that have a name pointer, in the order of these.
+    /// A walk over the exports that have a name pointer, in the order of the name pointers.
     ///
     /// A name pointer without an ordinal, with an ordinal past the address table, or with a forwarder
     /// that can't be read gives no export, in either mode. [`damage`](Self::damage) counts these.
@@ -342,8 +342,8 @@ impl<'a> Image<'a> {
         Walk::of(self)
     }
 
-    /// A walk over the blocks of base relocations. In both modes bytes that are no block are an
-    /// error, after the blocks before them.
+    /// A walk over the blocks of base relocations. If bytes are no block, the walk gives the blocks
+    /// before them, and then an error, in both modes.
     pub fn relocation_blocks(&self) -> Walk<'a, RelocationBlock<'a>> {
         Walk::of(self)
     }
@@ -392,7 +392,7 @@ impl<'a> Image<'a> {
 
 /// # Look-ups
 impl<'a> Image<'a> {
-    /// The first section of this name. `None` if there is none, and if the options cut this name.
+    /// The first section of this name. `None` if there is none, or if the options cut this name.
     #[must_use]
     pub fn section_by_name(&self, name: impl AsRef<[u8]>) -> Option<Section<'a>> {
         let name = name.as_ref();
@@ -415,7 +415,7 @@ impl<'a> Image<'a> {
     /// The export directory; `None` if the image has none, or permissive mode skips a damaged one.
     ///
     /// # Errors
-    /// In strict mode a damaged export directory.
+    /// In strict mode the export directory is damaged.
     pub fn export_directory(&self) -> Result<Option<ExportDirectory<'a>>, Error> {
         let read = |it: &mut _| ffi::goblin_pe_read_export_directory(&self.record, it);
         let it = filled(Some(Table::Exports), read)?;
@@ -488,7 +488,7 @@ impl<'a> Image<'a> {
     /// ends before.
     ///
     /// # Errors
-    /// A file that is too short for the symbol table or the string table.
+    /// The file is too short for the symbol table or the string table.
     pub fn symbol_at(&self, index: u32) -> Result<Option<Symbol<'a>>, Error> {
         let index = index as usize;
         self.first(ffi::SymbolCursor { index })
@@ -503,9 +503,9 @@ impl<'a> Image<'a> {
         is_there.then(|| Text(text.get()))
     }
 
-    /// The file offset of an RVA, as the mapping of the options says. It may lie past the end of the
-    /// file. `None` outside of sections and mapped headers, in the zeros after raw data, and if the
-    /// file alignment is no power of two.
+    /// The file offset of an RVA, as the mapping of the options says. The offset may lie past the end
+    /// of the file. `None` if no section and no mapped header is there, if zeros after raw data are
+    /// there, or if the file alignment is no power of two.
     #[must_use]
     pub fn find_offset(&self, rva: u32) -> Option<usize> {
         let mut offset = 0;
@@ -513,7 +513,8 @@ impl<'a> Image<'a> {
         is_there.then_some(offset)
     }
 
-    /// The RVA of a file offset: one that [`find_offset`](Self::find_offset) maps to it.
+    /// An RVA that [`find_offset`](Self::find_offset) maps to this file offset; `None` if there is
+    /// none.
     #[must_use]
     pub fn find_rva(&self, offset: usize) -> Option<u32> {
         let mut rva = 0;
@@ -547,7 +548,7 @@ impl<'a> Image<'a> {
     /// the section is not looked at.
     ///
     /// # Errors
-    /// An address without an offset, an offset past the end, and a text that is not UTF-8.
+    /// The address has no offset, the offset lies past the end, or the text is not UTF-8.
     pub fn text_at(&self, rva: u32) -> Result<Text<'a>, Error> {
         let read = |it: &mut _| ffi::goblin_pe_text_at(&self.record, rva as usize, it);
         let text: ffi::Slice = filled(None, read)?;
@@ -557,7 +558,7 @@ impl<'a> Image<'a> {
     /// The forwarder whose text is at an RVA, as an [`ExportAddress`] has it.
     ///
     /// # Errors
-    /// As [`text_at`](Self::text_at), and a text that is no forwarder.
+    /// As [`text_at`](Self::text_at), and if the text is no forwarder.
     pub fn forwarder_at(&self, rva: u32) -> Result<Forwarder<'a>, Error> {
         let read = |it: &mut _| ffi::goblin_pe_forwarder_at(&self.record, rva as usize, it);
         let it = filled(None, read)?;
@@ -568,13 +569,13 @@ impl<'a> Image<'a> {
 
 /// # Facts about the whole file
 impl<'a> Image<'a> {
-    /// What strict mode refuses of the image, part by part, and what the walks skip. Both modes give
-    /// the same. In a [partial](Self::read_partial) image this is the damage of the parts that were
-    /// read. Its [`HeaderFaults`] have the others.
+    /// Reports what strict mode refuses of the image, part by part, and what the walks skip. The mode
+    /// of the image makes no difference. For a [partial](Self::read_partial) image it reports the parts
+    /// that could be read; [`HeaderFaults`] reports the others.
     ///
     /// # Errors
     /// [`ErrorKind::Steps`](crate::ErrorKind::Steps), if the budget is too small for the whole
-    /// image: then nothing is known of its damage. And [`ErrorKind::Memory`](crate::ErrorKind::Memory).
+    /// image: then nothing is known of its damage. [`ErrorKind::Memory`](crate::ErrorKind::Memory).
     pub fn damage(&self, budget: &mut Budget) -> Result<Damage, Error> {
         let it = budget.take(|steps| {
             filled(None, |it| ffi::goblin_pe_read_damage(&self.record, it, steps))
@@ -589,20 +590,20 @@ impl<'a> Image<'a> {
     }
 
     /// The file offsets of the bytes on which these answers depend: the header, the section headers,
-    /// and all rows of the imports, exports and base relocations, by the options of the image.
-    /// Another file of the same length, with the same bytes there, gets the same answers by the same
-    /// options. It may differ in all else: in its symbols, the data of sections, what is at addresses,
-    /// the overlay, the checksum, and its [`damage`](Self::damage). The ranges come in order, with a
-    /// byte between each and the next.
+    /// and all rows of the imports, exports and base relocations, with the options of the image.
+    /// Another file of the same length, with the same bytes there, gets the same answers with the same
+    /// options. It may differ in everything else: in its symbols, the data of sections, what is at
+    /// addresses, the overlay, the checksum, and its [`damage`](Self::damage). The ranges are in
+    /// order, and at least a byte lies between two of them.
     ///
-    /// Names are read whole, whatever the options say. So the budget does not limit the time: with
-    /// long names that overlap, a file of a megabyte takes half a minute.
+    /// Names are read whole, whatever the options say. So the budget does not limit the time: if long
+    /// names overlap, a file of a megabyte needs half a minute.
     ///
     /// # Errors
     /// [`ErrorKind::Steps`](crate::ErrorKind::Steps) and
     /// [`ErrorKind::Memory`](crate::ErrorKind::Memory).
     pub fn footprint(&self, budget: &mut Budget) -> Result<Vec<Range<usize>>, Error> {
-        // (the library looks at all of the image: so the budget has to reach)
+        // (the library looks at the whole image, so the budget has to suffice for all of it)
         if budget.left() != usize::MAX {
             self.damage(budget)?;
         }
@@ -612,7 +613,7 @@ impl<'a> Image<'a> {
         };
         let fault = ffi::goblin_pe_read_footprint(&self.record, &mut footprint);
         Error::test(fault, None)?;
-        // SAFETY: the library has filled so many ranges.
+        // SAFETY: the library has filled this many ranges.
         let found = unsafe { std::slice::from_raw_parts(footprint.ranges, footprint.count) };
         let ranges = room(found.len()).map(|mut ranges| {
             ranges.extend(found.iter().map(|it| it.offset..it.offset + it.length));
@@ -639,7 +640,7 @@ impl<'a> Image<'a> {
     }
 
     /// The text whose MD5 is the imphash that analysts compare, as pefile's `get_imphash` hashes it.
-    /// `None` if there are no imports, or if the options cut a name: then the hash would be another.
+    /// `None` if there are no imports, or if the options cut a name: then the hash would differ.
     ///
     /// # Errors
     /// As a walk over the imports, and [`ErrorKind::Steps`](crate::ErrorKind::Steps).
@@ -648,8 +649,8 @@ impl<'a> Image<'a> {
         imphash::text(self.imports().within(budget), longest)
     }
 
-    /// The bytes after the data of all sections; empty if there are none. It begins at
-    /// `bytes().len() - overlay().len()`.
+    /// The overlay: the bytes after the data of all sections; empty if there are none. Its file offset
+    /// is `bytes().len() - overlay().len()`.
     ///
     /// A section with the raw pointer 0 has no data. If the end of the file cuts a section, there is
     /// no overlay.
@@ -661,8 +662,8 @@ impl<'a> Image<'a> {
         end.and_then(|end| self.bytes().get(end..)).unwrap_or_default()
     }
 
-    /// The checksum of the file, for `check_sum` of the optional header; `None` if there is no
-    /// optional header. Windows tests it in drivers. [`update_checksum`] stores it.
+    /// Computes the checksum of the file, for `check_sum` of the optional header; `None` if there is
+    /// no optional header. Windows tests it in drivers. [`update_checksum`] stores it.
     #[must_use]
     pub fn checksum(&self) -> Option<u32> {
         let mut sum = 0;
@@ -670,7 +671,7 @@ impl<'a> Image<'a> {
         is_there.then_some(sum)
     }
 
-    /// A copy of the file with this header, and with these headers of its first sections.
+    /// A copy of the file with this header, and with these section headers in place of the first ones.
     ///
     /// # Errors
     /// [`ErrorKind::Place`](crate::ErrorKind::Place), if the file has no place for them: the PE
@@ -728,7 +729,8 @@ pub fn update_checksum(file: &mut [u8]) -> Result<u32, Error> {
 // Where the checksum is, from the PE signature on.
 const CHECK_SUM: usize = 4 + 20 + 64;
 
-/// What a file is, by its first bytes. Nothing here reads archives, import objects and big objects.
+/// What a file is, by its first bytes. This crate does not read archives, import objects and big
+/// objects.
 ///
 /// ```no_run
 /// use goblin_pe::{Image, Kind, Options};
@@ -765,7 +767,7 @@ impl Kind {
     /// What a file is. Whether it can be read is another question.
     #[must_use]
     pub fn of(bytes: &[u8]) -> Kind {
-        // SAFETY: so many bytes are there.
+        // SAFETY: the slice has this length.
         Kind::numbered(unsafe { ffi::goblin_pe_kind_of(bytes.as_ptr(), bytes.len()) })
     }
 
@@ -782,7 +784,7 @@ impl Kind {
     }
 }
 
-/// A part of a file that an error is about. `{}` prints it in lower case.
+/// A part of a file that an error is about. `{}` prints its name, such as `imports`.
 #[derive(Clone, Copy, Debug, PartialEq, Eq, PartialOrd, Ord, Hash)]
 #[non_exhaustive]
 pub enum Table {
@@ -839,8 +841,8 @@ pub enum Region {
     Zeros = 3,
 }
 
-/// Bytes that a loader puts into memory: `bytes`, then `zeros` zeros. `missing` more were asked for,
-/// and are unknown: they lie past the section's memory, or the file ends before them.
+/// Bytes that a loader puts into memory: `bytes`, then `zeros` zeros. You asked for `missing` more,
+/// which are unknown: they lie past the section's memory, or the file ends before them.
 #[derive(Clone, Copy, Debug, Default, PartialEq, Eq, PartialOrd, Ord, Hash)]
 #[non_exhaustive]
 pub struct Memory<'a> {
@@ -873,7 +875,7 @@ impl<'a> Memory<'a> {
         }
     }
 
-    /// The bytes, if they are all that was asked for: no zeros follow, and nothing is missing.
+    /// The bytes, if they are all that you asked for: no zeros follow, and nothing is missing.
     #[must_use]
     pub const fn whole(&self) -> Option<&'a [u8]> {
         if self.zeros == 0 && self.missing == 0 {
@@ -897,8 +899,8 @@ impl<'a> Memory<'a> {
 }
 
 /// Which parts of a header [`Image::read_partial`] could not read, and why. A part that is there, or
-/// that the file does not have, is `None`. A part whose place only another part tells has that
-/// part's error.
+/// that the file does not have, is `None`. If another part that can't be read says where a part is,
+/// both have the same error.
 #[derive(Clone, Copy, Debug, Default, PartialEq, Eq, Hash)]
 #[non_exhaustive]
 pub struct HeaderFaults {
@@ -916,9 +918,9 @@ pub struct HeaderFaults {
     pub standard_fields: Option<Error>,
     /// The Windows fields of the optional header.
     pub windows_fields: Option<Error>,
-    /// The data directories. The first sixteen are given if there are more.
+    /// The data directories. If there are more than sixteen, the image has the first sixteen.
     pub directories: Option<Error>,
-    /// The section table. The complete section headers are given.
+    /// The section table. The image has the section headers that are complete.
     pub section_table: Option<Error>,
     /// The section names. A section whose name is bad has its eight bytes.
     pub section_names: Option<Error>,
@@ -958,28 +960,29 @@ impl HeaderFaults {
     }
 }
 
-/// The damage of an image: what strict mode refuses, part by part, and what the walks skip.
+/// The damage of an image: what strict mode refuses, part by part, and what the walks skip. A part
+/// that strict mode reads, or that the image does not have, is `None`.
 ///
-/// `{}` prints a line for each part that is damaged, and for each count that is not 0; nothing of an
-/// image without damage.
+/// `{}` prints a line for each part that is damaged, and for each count that is not 0. It prints
+/// nothing for an image without damage.
 #[derive(Clone, Copy, Debug, Default, PartialEq, Eq, Hash)]
 #[non_exhaustive]
 pub struct Damage {
-    /// Of the DOS stub.
+    /// Why strict mode refuses the DOS stub.
     pub dos_stub: Option<Error>,
-    /// Of the names of the sections.
+    /// Why strict mode refuses a section name.
     pub section_names: Option<Error>,
-    /// Of the imports.
+    /// Why strict mode refuses the imports.
     pub imports: Option<Error>,
-    /// Of the exports.
+    /// Why strict mode refuses the exports.
     pub exports: Option<Error>,
-    /// Of the base relocation directory, and not of its blocks.
+    /// Why strict mode refuses the base relocation directory. Its blocks are not looked at.
     pub relocations: Option<Error>,
-    /// How many libraries permissive mode skips: they have no address table.
+    /// How many libraries permissive mode skips, because they have no address table.
     pub skipped_libraries: usize,
-    /// How many imports permissive mode skips: their hint is cut.
+    /// How many imports permissive mode skips, because their hint is cut.
     pub skipped_entries: usize,
-    /// How many entries give no import, in either mode: they lead nowhere.
+    /// How many entries give no import in either mode, because they lead nowhere.
     pub unmapped_entries: usize,
     /// How many name pointers give no export, in either mode.
     pub skipped_exports: usize,

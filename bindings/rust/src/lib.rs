@@ -1,7 +1,7 @@
 //! Reads PE images, COFF objects and TE files that you can't trust.
 //!
-//! This program lists the imports of an untrusted image. It limits its work, its memory and the
-//! length of each name, and it says what it could not read:
+//! This program lists the imports and exports of an untrusted image. It limits its work, its memory
+//! and the length of each name, and it says what it could not read:
 //!
 //! ```no_run
 //! use goblin_pe::{Budget, Error, Image, Options};
@@ -32,26 +32,27 @@
 //! # One image
 //!
 //! [`Image::read`] reads the header of an image, and nothing else. The [`Image`] is a small value
-//! that borrows the bytes: copy it, keep it, send it to another thread. It takes no memory.
+//! that borrows the bytes: copy it, keep it, send it to another thread. It needs no other memory.
 //! [`Image::read_partial`] reads what is there of a damaged header, [`Image::read_object`] a COFF
-//! object, and [`Image::read_te`] a Terse Executable. All of them give the same type.
-//! [`Image::with_options`] reads the same image by other options.
+//! object, and [`Image::read_te`] a Terse Executable. All of them return the same type.
+//! [`Image::with_options`] returns the same image with other options.
 //!
 //! # Walks
 //!
 //! Each table has a method that walks over it, such as [`Image::imports`]. A [`Walk`] is an
-//! iterator over `Result<Row, Error>`. It reads the file as it goes on, some hundred rows at a time,
-//! and ends after its first error. Rows, names and texts borrow the bytes and not the image.
+//! iterator over `Result<Row, Error>`. It reads some hundred rows of the file at a time, and ends
+//! after its first error. Rows, names and texts borrow the bytes and not the image.
 //!
-//! [`Pe`] collects the walks: it is an image with a `Vec` for each table.
+//! [`Pe`] collects the rows: it has an image and a `Vec` for each table.
 //!
 //! # Limits
 //!
-//! A small file can list very much: 256 KiB can list 850 million imports. What a file can make long
-//! takes a [`Budget`] of steps. A step is one look at an entry of an import or export table, or one
-//! row of another walk. Several calls can share one budget, which then limits their sum. When it is
-//! used up, they return an error of the kind [`ErrorKind::Steps`]. They never return less than there
-//! is without that error.
+//! A small file can list very much: 256 KiB can list 850 million imports. So each call whose work
+//! the file decides has a [`Budget`] of steps as an argument, and each walk has the method
+//! [`within`](Walk::within). A step is one look at an entry of an import or export table, or one row
+//! of another walk. Several calls can share one budget, which then limits their sum. When the steps
+//! are used up, a call returns an error of the kind [`ErrorKind::Steps`]. It never leaves anything
+//! out without that error.
 //!
 //! [`Options::with_longest_name`] limits how much of a name is read. Without it a file of a megabyte
 //! can list a million names of a megabyte.
@@ -61,14 +62,14 @@
 //! Strict mode, the default, refuses a damaged table. Permissive mode skips the damaged parts, and
 //! [`Image::damage`] reports what it skipped.
 //!
-//! By default addresses are mapped as Windows maps them. [`Mapping`] has the rules of goblin and
-//! pefile, too: packers hide imports from readers that map otherwise.
+//! By default addresses are mapped as Windows maps them, because packers hide imports from readers
+//! that map otherwise. [`Mapping`] also has the rules of goblin and pefile.
 //!
 //! # Numbers
 //!
 //! - An address relative to the image base (an RVA) is a `u32`, as in every record of the format.
-//!   So you can hand that of a directory, a section or a row to any look-up, without a cast.
-//!   The same holds for the index of a symbol and the offset of a string.
+//!   So you can pass the RVA of a directory, a section or a row to any look-up, without a cast. The
+//!   index of a symbol and the offset of a string are a `u32`, too.
 //! - A file offset, a size and the index of a row are a `usize`, so that you can index bytes and
 //!   slices with them. An ordinal is a `usize`, too: it is an index plus a base.
 //! - Names are a [`Text`]: bytes that need not be UTF-8. `{}` prints them safely escaped.

@@ -2,7 +2,7 @@
 
 use crate::error::Error;
 
-/// An empty vector with room for so many values.
+/// An empty vector with room for this many values.
 pub fn room<T>(count: usize) -> Result<Vec<T>, Error> {
     let mut vector = Vec::new();
     match vector.try_reserve_exact(count) {

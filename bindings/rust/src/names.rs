@@ -20,13 +20,14 @@ use crate::tables::{
     SECTION_FLAGS, SOCKETS, STORAGE_CLASSES, SUBSYSTEMS, WEAK_EXTERNAL_SEARCHES,
 };
 
-/// The names of a number: an iterator over them, each with its bits. `{}` prints them, and what is
-/// left in hexadecimal; a width pads them.
+/// The names of a number: an iterator over them, each with its bits. `{}` prints the names, and the
+/// bits without a name in hexadecimal. A width pads the text.
 #[derive(Clone)]
 pub struct Names {
     known: &'static [(&'static str, u32)],
     left: u32,
-    // The bits of which a name has all or none, or `None` if a number has one name for all its bits.
+    // The bits that belong together, so that a name has all or none of them. `None` for a number, which
+    // has one name for all its bits.
     field: Option<u32>,
 }
 

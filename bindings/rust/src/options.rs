@@ -23,12 +23,12 @@ pub struct Options {
     /// holds for the names of DLLs, imports, exports, symbols and sections, for forwarders and for
     /// [`Image::text_at`](crate::Image::text_at).
     pub longest_name: u32,
-    /// Whether damaged parts are skipped, and not refused.
+    /// Whether damaged parts are skipped. If not, they are refused.
     pub is_permissive: bool,
 }
 
 impl Options {
-    /// The defaults, but permissive: damaged parts are skipped.
+    /// The defaults, except that damaged parts are skipped.
     #[must_use]
     pub const fn permissive() -> Options {
         Options {
@@ -52,7 +52,7 @@ impl Options {
         self
     }
 
-    // As the library takes them.
+    // The record of the library.
     pub(crate) const fn record(self) -> ffi::Options {
         ffi::Options {
             mapping: self.mapping as u32,
@@ -62,7 +62,7 @@ impl Options {
         }
     }
 
-    // Those of a record.
+    // The options of a record.
     pub(crate) const fn of(record: &ffi::Options) -> Options {
         Options {
             mapping: match record.mapping {
@@ -96,14 +96,16 @@ pub enum Mapping {
     Identity = 3,
 }
 
-/// How many steps calls may still take. Lend one budget to several walks and calls: it then limits
-/// their sum.
+/// The number of steps that are left for calls. Lend one budget to several walks and calls, and it
+/// limits their sum.
 ///
-/// A step is one look at an entry of an import or export table, whether or not it gives a row, or
-/// one row of another walk. To see the end of a table may need a step, too. A call that needs more
-/// steps than are left returns an error of the kind [`ErrorKind::Steps`](crate::ErrorKind::Steps).
+/// A step is one look at an entry of an import or export table, whether or not the entry gives a
+/// row, or one row of another walk. To see the end of a table may need a step, too. A call that needs
+/// more steps than are left returns an error of the kind
+/// [`ErrorKind::Steps`](crate::ErrorKind::Steps).
 ///
-/// A walk reads its rows in batches. So the budget may be ahead of the row that you hold.
+/// A walk reads its rows in batches. So the steps of rows that you have not seen yet may already be
+/// used.
 ///
 /// ```no_run
 /// use goblin_pe::{Budget, Image};
@@ -124,9 +126,10 @@ pub struct Budget {
 }
 
 impl Budget {
-    /// A budget of so many steps. 100,000 steps take 10 to 200 milliseconds, by the length of the
-    /// names, if the options limit it. [`Image::libraries`](crate::Image::libraries) and
-    /// [`Image::footprint`](crate::Image::footprint) can take longer.
+    /// A budget with this number of steps. If the options limit the length of names, 100,000 steps
+    /// need 10 to 200 milliseconds, depending on that length. Only
+    /// [`Image::libraries`](crate::Image::libraries) and
+    /// [`Image::footprint`](crate::Image::footprint) can need longer.
     pub const fn steps(steps: usize) -> Budget {
         Budget { steps }
     }

@@ -7,14 +7,14 @@ use crate::image::Image;
 use crate::memory::room;
 use crate::rows::Section;
 
-/// The file of an image with this header, and with these headers of its first sections.
+/// The file of an image with this header, and with these section headers in place of the first ones.
 ///
 /// - The optional header and the directories may overlap the section table only if both have the same
 ///   bytes.
 /// - Another `number_of_rva_and_sizes` has to count directories that end in the optional header.
 /// - More sections than the file has need zeros in their place, before the data of all sections.
-/// - Permissive mode has not replaced the DOS stub, and the PE signature stays where it is.
-/// - The size of the optional header stays, because another one would move the section table.
+/// - Permissive mode must not have replaced the DOS stub, and the PE signature has to stay where it is.
+/// - The size of the optional header has to stay, because another one would move the section table.
 pub fn patched(image: &Image, header: &Header, sections: &[Section]) -> Result<Vec<u8>, Error> {
     let present = image.header();
     test_header(image, &present, header)?;
@@ -37,7 +37,8 @@ pub fn patched(image: &Image, header: &Header, sections: &[Section]) -> Result<V
     Ok(file)
 }
 
-// Tests that so many section headers have room: past the file's own, zeros before all data.
+// Tests that there is room for this number of section headers. If the file has fewer, zeros have to
+// lie in their place, before the data of all sections.
 fn test_room(image: &Image, table: usize, count: usize) -> Result<(), Error> {
     let present = table + SIZEOF_SECTION_TABLE * image.sections().len();
     let end = table.saturating_add(count.saturating_mul(SIZEOF_SECTION_TABLE));

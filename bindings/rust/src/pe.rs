@@ -1,4 +1,4 @@
-//! Images with lists.
+//! An image with a list of the rows of each table.
 
 use crate::error::{Error, ErrorKind};
 use crate::image::{Image, Table};
@@ -9,10 +9,10 @@ use crate::rows::{
 use crate::text::Text;
 use crate::walk::Walk;
 
-/// An image and the rows of its tables: what the walks of an [`Image`] give, collected.
+/// An image and the rows of its tables, as the walks of an [`Image`] give them.
 ///
-/// If you don't trust the file, lend [`Pe::read`] a budget: it then lists at most so many rows, of 8
-/// to 128 bytes each.
+/// If you don't trust the file, call [`Pe::read`] with a limited budget. Then `Pe` has at most one row,
+/// of 8 to 128 bytes, for each step.
 ///
 /// ```no_run
 /// use goblin_pe::{Budget, Options, Pe};
@@ -44,9 +44,9 @@ pub struct Pe<'a> {
     pub export_addresses: Vec<ExportAddress>,
     /// The blocks of base relocations.
     pub relocation_blocks: Vec<RelocationBlock<'a>>,
-    /// Why lists end early, each error with its [`table`](Error::table). In both modes bytes that are
-    /// no entry of the Rich header, and bytes that are no block of base relocations; in permissive
-    /// mode every error at which a walk ended.
+    /// Why lists end early. Each error has its [`table`](Error::table). In both modes these are errors
+    /// for bytes that are no entry of the Rich header, and for bytes that are no block of base
+    /// relocations. In permissive mode these are all errors at which a walk ended.
     pub errors: Vec<Error>,
 }
 
@@ -54,8 +54,8 @@ impl<'a> Pe<'a> {
     /// Reads an image and lists its tables.
     ///
     /// # Errors
-    /// As [`Image::read`]; in strict mode the first table that is refused; and in both modes
-    /// [`ErrorKind::Steps`](crate::ErrorKind::Steps) and
+    /// As [`Image::read`]. In strict mode also the error of the first table that is refused, and in
+    /// both modes [`ErrorKind::Steps`](crate::ErrorKind::Steps) and
     /// [`ErrorKind::Memory`](crate::ErrorKind::Memory).
     pub fn read(bytes: &'a [u8], options: Options, budget: &mut Budget) -> Result<Pe<'a>, Error> {
         Pe::of(Image::read(bytes, options)?, budget)
@@ -105,8 +105,8 @@ impl<'a> Pe<'a> {
         Ok(pe)
     }
 
-    // Keeps why a list ended, or returns it: if steps or memory ran out, and in strict mode if the table
-    // is refused for it.
+    // Keeps the error at which a list ended. Returns it if steps or memory ran out, and in strict mode if
+    // the table is refused.
     fn keep(&mut self, ended: Result<(), Error>, ends: Ends) -> Result<(), Error> {
         let Err(error) = ended else {
             return Ok(());

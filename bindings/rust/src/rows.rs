@@ -27,7 +27,7 @@ macro_rules! walked {
                 _steps: &mut usize,
                 batch: &mut ffi::Batch,
             ) -> ffi::Fault {
-                // SAFETY: the caller has room for so many rows.
+                // SAFETY: the caller has room for this many rows.
                 unsafe { ffi::$next(image, cursor, rows, room, $(walked!(@ $steps _steps),)? batch) }
             }
 
@@ -128,8 +128,8 @@ impl<'a> Section<'a> {
         Memory::of(&memory, image)
     }
 
-    /// A walk over the relocations of a section of an object. Also if there are more than 65,535:
-    /// then it leaves out the first record, which is only their number.
+    /// A walk over the relocations of a section of an object. If there are more than 65,535, the first
+    /// record is only their number, and the walk leaves it out.
     pub fn relocations(&self, image: &Image<'a>) -> Walk<'a, CoffRelocation> {
         let mut cursor = self.record().relocations;
         cursor.index = cursor.is_extended.into();
@@ -152,7 +152,7 @@ impl<'a> Section<'a> {
     #[must_use]
     pub fn to_bytes(&self) -> [u8; 40] {
         let (mut bytes, mut written) = ([0; 40], 0);
-        // SAFETY: so many bytes are there.
+        // SAFETY: the array has this length.
         let fault = unsafe {
             ffi::goblin_pe_write_section(&self.record(), bytes.as_mut_ptr(), 40, &mut written)
         };
@@ -177,7 +177,7 @@ impl<'a> Section<'a> {
         }
     }
 
-    // As the library takes it.
+    // The record of the library.
     fn record(&self) -> ffi::Section<'a> {
         let is_extended = self.characteristics & IMAGE_SCN_LNK_NRELOC_OVFL != 0;
         ffi::Section {
@@ -220,13 +220,13 @@ impl<'a> Listed<'a> for Section<'a> {
     }
 }
 
-/// The Rich header: by which tools the image was made. Its entries are
-/// [`Image::rich_entries`].
+/// The Rich header, which says by which tools the image was made. [`Image::rich_entries`] walks over
+/// its entries.
 #[derive(Clone, Copy, Debug, PartialEq, Eq, PartialOrd, Ord, Hash)]
 #[non_exhaustive]
 pub struct RichHeader<'a> {
-    /// The bytes from the marker `DanS` up to the marker `Rich`, as stored: each word is
-    /// under the key, by exclusive or.
+    /// The bytes from the marker `DanS` up to the marker `Rich`, as stored. Each word is combined with
+    /// the key by exclusive or.
     pub stored: &'a [u8],
     /// The key.
     pub key: u32,
@@ -239,8 +239,8 @@ pub struct RichHeader<'a> {
 }
 
 impl RichHeader<'_> {
-    /// The bytes whose MD5 is the Rich hash that analysts compare: those of the header without the
-    /// key, as pefile's `get_rich_header_hash` hashes them.
+    /// The stored bytes without the key. Their MD5 is the Rich hash that analysts compare, as pefile's
+    /// `get_rich_header_hash` makes it.
     #[must_use]
     pub fn cleared(&self) -> Vec<u8> {
         let key = self.key.to_le_bytes();
@@ -350,8 +350,8 @@ pub struct Library<'a> {
     pub name_rva: u32,
     /// The RVA of the import address table.
     pub import_address_table_rva: u32,
-    /// Whether permissive mode skips it, since it has no address table. Strict mode refuses the
-    /// imports.
+    /// Whether permissive mode skips it, because it has no address table. Strict mode refuses the
+    /// imports then.
     pub is_skipped: bool,
     imports: ffi::ImportCursor,
 }
@@ -487,9 +487,9 @@ pub struct ExportDirectory<'a> {
     pub export_flags: u32,
     /// When the exports were made.
     pub time_date_stamp: u32,
-    /// The major version, as the linker was told.
+    /// The major version, which the user of the linker chose.
     pub major_version: u16,
-    /// The minor version, as the linker was told.
+    /// The minor version, which the user of the linker chose.
     pub minor_version: u16,
     /// The RVA of the image's own name.
     pub name_rva: u32,
@@ -535,7 +535,7 @@ pub struct ExportAddress {
     pub ordinal: usize,
     /// The RVA; of a forwarder, that of its text; 0 if the ordinal is unused.
     pub rva: u32,
-    /// Whether it is forwarded: [`Image::forwarder_at`] reads where to.
+    /// Whether it is forwarded. [`Image::forwarder_at`] reads where it leads.
     pub is_forwarder: bool,
 }
 
@@ -549,7 +549,7 @@ impl ExportAddress {
     }
 }
 
-/// A block of base relocations, for one page.
+/// A block of base relocations, which are those of one page.
 #[derive(Clone, Copy, Debug, PartialEq, Eq, PartialOrd, Ord, Hash)]
 #[non_exhaustive]
 pub struct RelocationBlock<'a> {
@@ -561,7 +561,7 @@ pub struct RelocationBlock<'a> {
 }
 
 impl<'a> RelocationBlock<'a> {
-    /// The base relocations of the block. A last odd byte is none.
+    /// The base relocations of the block. If a byte is left at the end, it is ignored.
     pub fn relocations(&self) -> Rows<'a, BaseRelocation> {
         Rows::of((self.rva, self.entries), self.entries.len() / 2)
     }
@@ -623,8 +623,8 @@ pub struct Symbol<'a> {
 }
 
 impl<'a> Symbol<'a> {
-    /// What the auxiliary records say; `None` if the symbol has none, or its class and type name no
-    /// kind of them.
+    /// What the auxiliary records say. `None` if the symbol has none, or if its class and type have no
+    /// kind of auxiliary record.
     ///
     /// ```no_run
     /// use goblin_pe::{Auxiliary, Image, Options};
@@ -660,7 +660,7 @@ impl<'a> Symbol<'a> {
         }
     }
 
-    // As the library takes it.
+    // The record of the library.
     fn record(&self) -> ffi::Symbol<'a> {
         ffi::Symbol {
             name: ffi::Slice::of(self.name.unwrap_or_default().0),
@@ -683,7 +683,7 @@ impl<'a> Symbol<'a> {
 #[derive(Clone, Copy, Debug, PartialEq, Eq, Hash)]
 #[non_exhaustive]
 pub enum Auxiliary<'a> {
-    /// Of a symbol that defines a function.
+    /// The symbol defines a function.
     #[non_exhaustive]
     FunctionDefinition {
         /// The index of the symbol `.bf` of the function.
@@ -695,7 +695,7 @@ pub enum Auxiliary<'a> {
         /// The index of the next function; 0 for the last.
         pointer_to_next_function: u32,
     },
-    /// Of the symbols `.bf` and `.ef`, at the beginning and the end of a function.
+    /// The symbol is `.bf` or `.ef`, at the beginning or the end of a function.
     #[non_exhaustive]
     BeginAndEndFunction {
         /// The line number in the source file.
@@ -703,10 +703,10 @@ pub enum Auxiliary<'a> {
         /// The index of the next `.bf`; 0 for the last.
         pointer_to_next_function: u32,
     },
-    /// Of a weak external symbol.
+    /// The symbol is a weak external one.
     #[non_exhaustive]
     WeakExternal {
-        /// The index of the symbol that stands in.
+        /// The index of the symbol that is used if no other is found.
         tag_index: u32,
         /// How the symbol is searched for, an `IMAGE_WEAK_EXTERN_SEARCH_*`.
         characteristics: u32,
@@ -716,7 +716,7 @@ pub enum Auxiliary<'a> {
     /// The name of a source file is in the string table, at this offset:
     /// [`Image::string_at`] reads it.
     FileAt(u32),
-    /// Of a symbol that stands for a section.
+    /// The symbol is the name of a section.
     #[non_exhaustive]
     SectionDefinition {
         /// The size of the section.
@@ -771,7 +771,7 @@ impl<'a> Auxiliary<'a> {
 #[derive(Clone, Copy, Debug, PartialEq, Eq, PartialOrd, Ord, Hash)]
 #[non_exhaustive]
 pub struct CoffRelocation {
-    /// Where, in the section.
+    /// Where the relocation is applied: an offset in the section, or an address.
     pub virtual_address: u32,
     /// The index of the symbol: [`Image::symbol_at`] reads it.
     pub symbol_table_index: u32,

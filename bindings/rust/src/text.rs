@@ -4,12 +4,12 @@ use std::borrow::{Borrow, Cow};
 use std::fmt::{self, Write};
 use std::ops::Deref;
 
-/// A text of the file: bytes that mostly, but not always, are UTF-8.
+/// A text of the file: bytes that are mostly, but not always, UTF-8.
 ///
-/// `{}` prints a text that can't do harm: each byte outside printable ASCII, and the backslash, is
-/// `\x` and two hexadecimal digits. So two texts that print alike are equal.
+/// `{}` prints the text so that it can't harm a terminal: each byte outside printable ASCII, and the
+/// backslash, is printed as `\x` and two hexadecimal digits. So two texts that print alike are equal.
 ///
-/// A text is `[u8]` for all else: it derefs to the bytes, and compares with `str` and `[u8]`.
+/// In all other uses a text is a `[u8]`: it derefs to the bytes, and compares with `str` and `[u8]`.
 ///
 /// ```no_run
 /// use goblin_pe::Text;
@@ -67,7 +67,7 @@ impl fmt::Display for Text<'_> {
     }
 }
 
-// Writes the fill character so many times.
+// Writes the fill character this many times.
 fn fill(f: &mut fmt::Formatter<'_>, count: usize) -> fmt::Result {
     (0..count).try_for_each(|_| f.write_char(f.fill()))
 }

@@ -12,9 +12,9 @@ use crate::options::Budget;
 
 /// A walk over a table: an iterator over its rows.
 ///
-/// It reads the file as it goes on, some hundred rows at a time, and keeps none. It gives the rows
-/// before a damaged one first, then one error, and then it is over. In permissive mode damage gives
-/// an error only where no row can follow.
+/// It reads some hundred rows at a time, and keeps none of the rows that it gave. If a row is damaged,
+/// it gives the rows before it, then one error, and then it ends. In permissive mode it gives an error
+/// only if no row can follow the damage.
 ///
 /// A walk has no limit of its own. If you don't trust the file, call [`within`](Self::within).
 ///
@@ -56,9 +56,8 @@ impl<'a, T: Row<'a>> Walk<'a, T> {
         Walk::at(image, T::Cursor::default())
     }
 
-    /// The same walk, which takes its steps from a budget. When this is used up, and the walk is
-    /// not over, it gives an error of the kind [`ErrorKind::Steps`](crate::ErrorKind::Steps), and
-    /// ends.
+    /// The same walk, which counts its steps down in a budget. If the budget is used up before the walk
+    /// is over, it gives an error of the kind [`ErrorKind::Steps`](crate::ErrorKind::Steps), and ends.
     pub fn within<'b>(self, budget: &'b mut Budget) -> Within<'a, 'b, T> {
         Within {
             walk: self,
@@ -67,13 +66,13 @@ impl<'a, T: Row<'a>> Walk<'a, T> {
         }
     }
 
-    // How many records to ask for: at most so many, and as many as the steps allow.
+    // How many records to ask for: as many as the steps allow, and at most `most`.
     fn room_within(most: usize, steps: usize) -> Result<usize, Error> {
         let room = if T::COUNTS_STEPS { most } else { most.min(steps) };
         if room == 0 { Err(Error::steps(Some(T::TABLE))) } else { Ok(room) }
     }
 
-    // Fills so many records with the next ones, and returns how many these are.
+    // Fills at most `room` records with the next ones, and returns how many it filled.
     //
     // SAFETY: the caller has room for them.
     unsafe fn fill(
@@ -100,7 +99,7 @@ impl<'a, T: Row<'a>> Walk<'a, T> {
         Ok(count)
     }
 
-    // Reads the next records, at most so many; `false` if there are none.
+    // Reads the next records, at most `most`. Returns `false` if there are none.
     #[inline(never)]
     fn refill(&mut self, most: usize, steps: &mut usize) -> Result<bool, Error> {
         while self.given == self.records.len() {
@@ -114,7 +113,7 @@ impl<'a, T: Row<'a>> Walk<'a, T> {
                 return Err(Error::memory(Some(T::TABLE)));
             }
             let rows = self.records.as_mut_ptr();
-            // SAFETY: there is room for so many records, and the library has filled so many.
+            // SAFETY: there is room for the records, and the library has filled `count` of them.
             unsafe {
                 let count = self.fill(rows, room, steps)?;
                 self.records.set_len(count);
@@ -146,7 +145,7 @@ impl<'a, T: Row<'a>> Walk<'a, T> {
             let mut first = [MaybeUninit::<T::Record>::uninit(); FIRST];
             let room = Self::room_within(FIRST, *steps)?;
             let records = first.as_mut_ptr().cast::<T::Record>();
-            // SAFETY: there is room for so many records, and the library has filled so many.
+            // SAFETY: there is room for the records, and the library has filled `count` of them.
             let records = unsafe {
                 let count = self.fill(records, room, steps)?;
                 slice::from_raw_parts(records, count)
@@ -195,7 +194,7 @@ impl<'a, T: Row<'a>> fmt::Debug for Walk<'a, T> {
     }
 }
 
-/// A walk that takes its steps from a budget, as [`Walk::within`] makes it.
+/// A walk that counts its steps down in a budget. [`Walk::within`] makes it.
 #[derive(Debug)]
 #[must_use = "walks do nothing unless they are consumed"]
 pub struct Within<'a, 'b, T: Row<'a>> {
@@ -205,7 +204,7 @@ pub struct Within<'a, 'b, T: Row<'a>> {
 }
 
 impl<'a, T: Row<'a>> Within<'a, '_, T> {
-    /// The walk itself, which goes on after the rows that were given. So you can go on with another
+    /// The walk itself, which goes on after the last row that it gave. So you can go on with another
     /// budget, also after an error of the kind [`ErrorKind::Steps`](crate::ErrorKind::Steps).
     ///
     /// ```no_run
@@ -243,8 +242,8 @@ impl<'a, T: Row<'a>> Iterator for Within<'a, '_, T> {
 
 impl<'a, T: Row<'a>> FusedIterator for Within<'a, '_, T> {}
 
-/// An iterator over rows that can always be read, and of which the number is known: the sections of
-/// an image, and the base relocations of a block.
+/// An iterator over rows whose number is known, and that can always be read: the sections of an image,
+/// and the base relocations of a block.
 #[derive(Clone)]
 #[must_use = "iterators do nothing unless they are consumed"]
 pub struct Rows<'a, T: Listed<'a>> {
@@ -330,7 +329,7 @@ mod sealed {
         /// Reads the next records.
         ///
         /// # Safety
-        /// There is room for so many records.
+        /// There is room for this many records.
         unsafe fn next(
             image: &ffi::Image<'a>,
             cursor: &mut Self::Cursor,
