@@ -97,7 +97,7 @@ class Changes(Case):
         printed = succeed([built("damage"), self.written("many.dll", images.large_image(libraries=70, functions=1024, exports=0, blocks=0))])
         self.assertEqual(printed.splitlines()[-3:], ["sound", "imports as Windows maps: 71680", "imports as goblin maps: 71680"])
         printed = succeed([built("damage"), self.written("more.dll", images.large_image(libraries=256, functions=1024, exports=0, blocks=0))])
-        self.assertEqual({it.partition(": ")[2] for it in printed.splitlines()}, {"not known, because it takes more than 500000 steps"})
+        self.assertEqual({it.partition(": ")[2] for it in printed.splitlines()}, {"not known, because it needs more than 500000 steps"})
 
     def test_damage_is_reported(self):
         sound = b"skipped: 0 libraries, 0 imports and 0 exports\nimports that lead nowhere: 0\nsound\nimports as Windows maps: 1\nimports as goblin maps: 1\n"

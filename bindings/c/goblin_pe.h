@@ -56,7 +56,7 @@
    between two calls, the rows that you have may no longer be what the file says; nothing else
    goes wrong.
 
-   All other calls on the image take a pointer to that record. They change nothing in it. To read
+   All other calls on the image get a pointer to that record. They change nothing in it. To read
    the same image with other options, copy the record and change the copy:
 
        struct goblin_pe_image strict = image;

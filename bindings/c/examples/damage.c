@@ -1,6 +1,6 @@
 /* damage FILE: says what is wrong with an image. First it lists the parts of the header that can't be read. Then it says what
    strict mode refuses, and what the walks skip. At last it counts the imports, also those that goblin would find. An image that
-   takes too many steps is not called damaged for that. */
+   needs too many steps is not called damaged for that. */
 #include "goblin_pe.h"
 
 #include <stdio.h>
@@ -14,7 +14,7 @@ static bool tell(const char *part, struct goblin_pe_fault fault)
 {
     char text[GOBLIN_PE_FAULT_ROOM];
     if (fault.status == GOBLIN_PE_STATUS_STEPS)
-        printf("%s: not known, because it takes more than %zu steps\n", part, most);
+        printf("%s: not known, because it needs more than %zu steps\n", part, most);
     else if (fault.status)
         printf("%s: %s\n", part, goblin_pe_fault_string(&fault, text));
     return fault.status;

@@ -1,7 +1,7 @@
 /* loader IMAGE LIBRARY..: loads an image up to the point where its code would run. As the Windows loader does, it maps the
    headers and the sections into memory, applies the base relocations for an address 64 KiB above the preferred one, and
-   resolves each import by the exports of the libraries, also through forwarders. A library stands for the imports whose DLL
-   has the name of its file. The status is 0 if all imports are resolved. */
+   resolves each import by the exports of the libraries, also through forwarders. A library serves the imports from the DLL
+   that has the name of its file. The status is 0 if all imports are resolved. */
 #include "goblin_pe.h"
 
 #include <ctype.h>
@@ -196,7 +196,7 @@ static bool is_found(const struct module *m, struct wanted *wanted, struct gobli
     return true;
 }
 
-/* Puts the address of an import into its slot, and tells the way there. */
+/* Puts the address of an import into its slot, and prints the way there. */
 static bool is_resolved(struct module *modules, size_t count, const struct goblin_pe_import *row)
 {
     struct wanted wanted = { row->dll, row->name, row->hint_or_ordinal, row->is_by_name };

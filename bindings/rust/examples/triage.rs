@@ -11,7 +11,7 @@ fn entropy(data: &[u8]) -> f64 {
 }
 
 // (a crate for MD5 makes the two hashes of these texts)
-fn told(image: &Image, budget: &mut Budget) -> Result<(), Error> {
+fn report(image: &Image, budget: &mut Budget) -> Result<(), Error> {
     println!("machine {}", names::machine(image.coff_header().machine));
     println!("exe {}, dll {}, driver {}", image.is_exe(), image.is_dll(), image.is_driver());
     let rich = image.rich_header().map_or(0, |it| it.cleared().len());
@@ -48,7 +48,7 @@ fn main() -> std::io::Result<()> {
         for (part, error) in faults.errors() {
             println!("{part}: {error}");
         }
-        if let Err(error) = told(&image, &mut Budget::steps(200_000)) {
+        if let Err(error) = report(&image, &mut Budget::steps(200_000)) {
             println!("cut off: {error}");
         }
     }

@@ -312,7 +312,7 @@ impl<'a> Import<'a> {
 pub enum Imported<'a> {
     /// A name.
     Name {
-        /// The name.
+        /// The name; empty if permissive mode could not read it.
         name: Text<'a>,
         /// Where the loader looks first among the names of the DLL.
         hint: u16,

@@ -135,7 +135,7 @@ fn exports_with_too_many_counted() -> Result<(), Error> {
     Ok(())
 }
 
-// The address table is empty. The last name pointer is known as the last, so the end takes no step.
+// The address table is empty. The last name pointer is known as the last, so the end needs no step.
 #[test]
 fn name_pointers_without_exports_are_steps_and_damage() -> Result<(), Error> {
     let mut bytes = sample("forwarders_x64.dll");

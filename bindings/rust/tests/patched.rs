@@ -7,7 +7,7 @@ fn sample(name: &str) -> Vec<u8> {
     std::fs::read(format!("{folder}/{name}")).expect("a sample")
 }
 
-// The file offset of the section table, which begins after an optional header of so many bytes.
+// The file offset of the section table, which begins after an optional header of this size.
 fn section_table(image: &Image, size: u16) -> usize {
     image.dos_header().pe_pointer as usize + 24 + usize::from(size)
 }
