@@ -1,7 +1,7 @@
 //! Links the library. It is looked for in the folder that the variable `GOBLIN_PE_LIB` names, then in the folder lib
-//! of the crate, then in that into which bindings/build puts it, and then where pkg-config finds it. Only the variable
-//! can name a library for another target than this machine. Without a library, programs can be checked and documented,
-//! but not linked.
+//! of the crate, then in the folder into which bindings/build puts it, and at last where pkg-config finds it. For another
+//! target than this machine only the variable can name a library. Without a library you can check and document a program,
+//! but not link it.
 use std::env;
 use std::path::{Path, PathBuf};
 use std::process::Command;
@@ -22,7 +22,7 @@ fn main() {
         println!("cargo::rustc-link-search=native={}", folder.display());
         println!("cargo::rerun-if-changed={}", folder.join(ARCHIVE).display());
     } else {
-        // (what has to be linked then is not found, and as no such file is there, the next build looks again)
+        // (linking fails then. This file does not exist, so the next build looks again.)
         println!("cargo::rerun-if-changed=lib/libgoblin_pe.a");
         println!(
             "cargo::warning=the library libgoblin_pe for {} is not there: run bindings/build of its repository, \
@@ -32,7 +32,7 @@ fn main() {
     }
 }
 
-// A folder that the variable names. A relative one is the caller's, from whose folder cargo calls this in another.
+// The folder that the variable names. A relative path is meant from the caller's folder, but cargo runs this in another.
 fn of_the_caller(named: PathBuf) -> PathBuf {
     env::var_os("PWD").map_or(named.clone(), |caller| Path::new(&caller).join(named))
 }
@@ -47,19 +47,19 @@ fn is_for_another() -> bool {
     of("TARGET") != of("HOST")
 }
 
-// Whether a folder has the library. (A shared library alone would be linked, and not be found when the program starts.)
+// Whether a folder has the archive. (A shared library alone could be linked, but the program would not find it when it starts.)
 fn has_library(folder: &Path) -> bool {
     folder.join(ARCHIVE).exists()
 }
 
-// The folder lib in that of this crate, or beside it in the repository.
+// The folder lib inside this crate, or beside it in the repository.
 fn beside() -> Option<PathBuf> {
     let here = PathBuf::from(env::var_os("CARGO_MANIFEST_DIR")?);
     let folders = [here.join("lib"), here.join("../lib")];
     folders.into_iter().find(|it| has_library(it))
 }
 
-// The folder that pkg-config answers.
+// The folder that pkg-config names.
 fn installed() -> Option<PathBuf> {
     let words = ["--variable=libdir", "goblin_pe"];
     let answer = Command::new("pkg-config").args(words).output().ok()?;
