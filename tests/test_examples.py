@@ -93,7 +93,7 @@ class Changes(Case):
         self.assertRegex(printed, r"(?m)^symbol \d+ in section 1 at 0x0: .text \(\d+ bytes\)$")
 
     def test_an_image_of_many_imports_is_not_called_damaged(self):
-        """Of more than 65,536; and one of more than all steps."""
+        """Of more than 65,536, nor one that needs more than all steps."""
         printed = succeed([built("damage"), self.written("many.dll", images.large_image(libraries=70, functions=1024, exports=0, blocks=0))])
         self.assertEqual(printed.splitlines()[-3:], ["sound", "imports as Windows maps: 71680", "imports as goblin maps: 71680"])
         printed = succeed([built("damage"), self.written("more.dll", images.large_image(libraries=256, functions=1024, exports=0, blocks=0))])

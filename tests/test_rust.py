@@ -35,7 +35,7 @@ fn main() {
 }
 """
 
-# What says of each file what pefile says of it: a line of JSON.
+# A program that prints a line of JSON for each file: what pefile says, too.
 COMPARED = """use goblin_pe::{Budget, Image, Options};
 
 fn hex(bytes: &[u8]) -> String {
@@ -117,7 +117,7 @@ class Rust(Case):
         return folder() / "rust/debug" / name
 
     def test_the_programs_of_the_page(self):
-        """They print what stands below them."""
+        """They print what the page shows below them."""
         text = (BINDINGS / "rust/README.md").read_text("utf-8")
         programs, wanted = (re.findall(r"(?s)```%s\n(.*?)```" % it, text) for it in ("rust", "text"))
         bodies = [re.sub(r"(?m)^# ?.*\n", "", it) for it in programs]
@@ -148,7 +148,7 @@ class Rust(Case):
             self.assertIn("(native)", succeed(["file", path]))
 
     def test_each_type_that_borrows_has_a_test_that_it_does(self):
-        """That a program does not compile in which the bytes are dropped first."""
+        """A program that drops the bytes before the last use must not compile."""
         texts = [it.read_text("utf-8") for it in (BINDINGS / "rust/src").glob("*.rs") if it.name not in ("ffi.rs", "borrowed.rs")]
         borrowing = {name for text in texts for name in re.findall(r"(?m)^pub (?:struct|enum) (\w+)<'a", text)}
         tested = set(re.findall(r"(?m)^    (\w+): \"", (BINDINGS / "rust/src/borrowed.rs").read_text("utf-8")))
