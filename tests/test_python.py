@@ -107,7 +107,56 @@ class Python(Case):
             status, out, said = self.lists("--json", "--permissive", "--steps", "10000", "--longest-name", "512", self.written("some.dll", data))
             with self.subTest(index=index):
                 self.assertEqual((status in (0, 1), out.count(b"\n"), said), (True, 1, b""))
+                self.assertEqual({*json.loads(out)} >= {"file", "refusal"}, True)
 
+    def test_json_has_all_that_the_walks_give(self):
+        package_, names = package(), ("imports", "exports", "export_addresses", "relocation_blocks", "rich_entries", "symbols")
+        for sample in IMAGES:
+            found, image = json.loads(self.lists("--json", sample)[1]), package_.Image(sample.read_bytes())
+            self.assertEqual((found["kind"], found["refusal"], found["ended_early"]), ("IMAGE", None, {}))
+            for name in names:
+                self.assertEqual(found[name], package_.plain([*getattr(image, name)()]), name)
+            self.assertEqual((found["sections"], found["damage"]), (package_.plain(image.sections), [package_.plain(image.damage())]))
+        for samples, read in (OBJECTS, package_.Image.object), (TERSE, package_.Image.te):
+            for sample in samples:
+                found, image = json.loads(self.lists("--json", sample)[1]), read(sample.read_bytes())
+                self.assertEqual(found["symbols"], package_.plain([*image.symbols()]))
+                self.assertEqual(found["relocations"], package_.plain([it for s in image.sections for it in s.relocations(image)]))
+                self.assertEqual((found["sections"], found["te_header"]), (package_.plain(image.sections), package_.plain(image.te_header)))
+
+    def test_json_says_where_it_stopped(self):
+        many = self.written("many.dll", bytes(images.shared_image(30, 100)))
+        status, out, said = self.lists("--json", "--steps", "500", many, BY_NAME)
+        first, second = map(json.loads, out.splitlines())
+        self.assertEqual((status, said, second["ended_early"]), (1, b"", {}))
+        self.assertEqual(first["ended_early"]["imports"], "imports: no steps are left")
+        self.assertTrue(0 < len(first["imports"]) <= 500)
+        # (a table that is refused ends no other)
+        status, out, _ = self.lists("--json", self.written("damaged.dll", bytes(images.with_directory(BY_NAME.read_bytes(), 1, 0x9000, 40))))
+        found = json.loads(out)
+        self.assertEqual((status, found["ended_early"]), (1, {"imports": "imports: the address 0x9000 has no offset in the file"}))
+        self.assertEqual(len(found["exports"]), 2)
+        # (names are limited)
+        long = self.written("long.dll", bytes(images.one_long_name(3, 10000)))
+        self.assertEqual([len(it["name"]) for it in json.loads(self.lists("--json", long)[1])["sections"]], [4097] * 3)
+
+    def test_several_files_are_listed_below_their_names(self):
+        status, out, said = self.lists(BY_NAME, self.folder / "none.dll", BY_NAME)
+        listing = self.lists(BY_NAME)[1]
+        name = f"file {BY_NAME}\n".encode()
+        self.assertEqual((status, out), (1, name + listing + f"file {self.folder}/none.dll\n".encode() + name + listing))
+        self.assertRegex(said, rb"\Aread failed: .*none.dll'\n\Z")
+
+    def test_the_program_is_written_by_what_the_package_offers(self):
+        program = (BINDINGS / "python/goblin_pe/__main__.py").read_text("utf-8")
+        imported = re.findall(r"(?m)^from (\..*) import (.*)$", program)
+        self.assertEqual([it for it, _ in imported], ["."])
+        self.assertLessEqual({*imported[0][1].split(", ")}, {*package().__all__})
+
+    def test_its_help_tells_all_mappings_apart(self):
+        status, out, _ = self.lists("--help")
+        lines = [re.search(rf"(?m)^  {it.name.lower().replace('_', '-')} +(.*)$", out.decode()) for it in package().Mapping]
+        self.assertEqual((status, len({it and it[1] for it in lines} - {None})), (0, len(package().Mapping)))
 
     def test_hostile_files_are_listed_or_refused_in_printable_characters(self):
         package()
@@ -135,7 +184,7 @@ class Python(Case):
         self.assertEqual(run([*words, self.folder / "large.dll"], env=self.env), (1, b"", b"read failed: out of memory\n"))
         status, out, said = run([*words, "--json", self.folder / "large.dll", BY_NAME], env=self.env)
         first, second = map(json.loads, out.splitlines())
-        self.assertEqual((status, said, first), (1, b"", {"file": str(self.folder / "large.dll"), "stopped": "out of memory"}))
+        self.assertEqual((status, said, first), (1, b"", {"file": str(self.folder / "large.dll"), "refusal": {"text": "out of memory"}}))
         self.assertEqual((second["file"], len(second["imports"])), (str(BY_NAME), 1))
 
     def test_a_terminal_shows_how_far_it_is(self):
@@ -143,7 +192,7 @@ class Python(Case):
         with os.fdopen(terminal, "rb", buffering=0) as printed, os.fdopen(end, "wb") as end:
             command = [sys.executable, "-m", "goblin_pe", "--json", BY_NAME, BY_NAME]
             subprocess.run(command, stdout=subprocess.DEVNULL, stderr=end, env=self.env, check=True)
-            self.assertEqual(printed.read(1000), b"\r1 of 2 files\r2 of 2 files\r\n")
+            self.assertEqual(printed.read(1000), b"\r[%s%s] 1 of 2 files\r[%s] 2 of 2 files\r\n" % (b"#" * 20, b"." * 20, b"#" * 40))
 
     def test_an_interrupt_ends_it_at_once(self):
         """The reads that it ends would take much longer."""
@@ -177,7 +226,7 @@ class Python(Case):
             with self.subTest(name):
                 found = {**printed[name], "sections": [{key: it[key] for key in ("name", "entropy", "md5")} for it in printed[name]["sections"]]}
                 del wanted["image_base"]
-                self.assertEqual({key: found[key] for key in wanted}, {**wanted, "imphash": wanted["imphash"] or None})
+                self.assertEqual({key: found[key] for key in wanted}, wanted)
 
     def test_its_own_tests_by_other_pythons(self):
         """The Pythons are the oldest that the package supports, one in the middle, and the newest of the machine."""

@@ -124,7 +124,8 @@ class Errors(unittest.TestCase):
 
     def assert_no_image(self, error):
         self.assertEqual((error.kind, error.cause, error.numbers, error.table), (ErrorKind.MALFORMED, Cause.DOS_MAGIC, (0x6F6E, 0), Table.HEADER))
-        self.assertEqual(str(error), "the file begins with 0x6f6e in place of the DOS signature")
+        self.assertEqual(str(error), "header: the file begins with 0x6f6e in place of the DOS signature")
+        self.assertEqual(error.args, ("the file begins with 0x6f6e in place of the DOS signature",))
 
     def raised(self):
         with self.assertRaises(PeError) as caught:
@@ -459,7 +460,7 @@ class Walks(unittest.TestCase):
                             found.append(row)
                         break
                     except OutOfSteps as error:
-                        self.assertEqual((str(error), error.kind, budget.left), ("no steps are left", ErrorKind.STEPS, 0))
+                        self.assertEqual((str(error), error.kind, budget.left), (error.table.value + ": no steps are left", ErrorKind.STEPS, 0))
                         budget.left, stops = steps, stops + 1
                 with self.subTest(walk=walk, steps=steps):
                     self.assertEqual(found, wanted)
@@ -687,7 +688,7 @@ class Headers(unittest.TestCase):
         image = Image(data, PERMISSIVE)
         damage = image.damage()
         self.assertEqual((str(damage.dos_stub), damage[1:]), (str(caught.exception), (None,) * 4 + (0,) * 4 + (False,)))
-        self.assertEqual((caught.exception.cause, str(damage)), (Cause.STUB_BEFORE_START, "dos_stub: %s\n" % damage.dos_stub))
+        self.assertEqual((caught.exception.cause, str(damage)), (Cause.STUB_BEFORE_START, "dos_stub: %s\n" % damage.dos_stub.args))
         with self.assertRaises(PeError) as caught:
             image.patched()
         self.assertEqual(caught.exception.kind, ErrorKind.PLACE)
@@ -707,6 +708,18 @@ class Headers(unittest.TestCase):
         with self.assertRaises(PeError) as caught:
             Image.object(OBJECT).damage()
         self.assertEqual(caught.exception.kind, ErrorKind.KIND)
+
+    def test_programs_libraries_and_drivers(self):
+        """By the characteristics and the subsystem, as the specification names them."""
+        for characteristics, subsystem, wanted in ((0x22, 3, "is_exe"), (0x22, 2, "is_exe"), (0x2022, 3, "is_dll"), (0x22, 1, "is_driver"),
+                                                   (0x2022, 1, "is_dll is_driver"), (0x2020, 3, "is_dll"), (0x20, 1, ""), (0x20, 3, "")):
+            data = bytearray(DATA)
+            struct.pack_into("<H", data, SIGNATURE + 22, characteristics)
+            struct.pack_into("<H", data, SIGNATURE + 24 + 68, subsystem)
+            image = Image(data)
+            self.assertEqual([it for it in ("is_exe", "is_dll", "is_driver") if getattr(image, it)], wanted.split())
+            self.assertEqual(image.is_lib, image.is_dll)
+        self.assertEqual([getattr(Image.object(OBJECT), it) for it in ("is_exe", "is_dll", "is_driver")], [False] * 3)
 
     def test_a_file_is_opened_by_its_path(self):
         for path in PATH, str(PATH):
@@ -1090,7 +1103,8 @@ class Names(unittest.TestCase):
         # (told by pefile 2023.2.7)
         self.assertEqual(Image(sample("imports_by_name_x86.dll")).imphash(), "5fd9bbcd68e633c2417c6dd0c112ae23")
         self.assertEqual(Image(DATA).imphash(Budget(100)), "27abfd9cfda7519d5efb3f08a2a4f3ce")
-        self.assertEqual((Image(FORWARDERS).imphash(), Image(DATA, Options(longest_name=4)).imphash()), (None, None))
+        # (pefile has an empty text if there are no imports; None is that the options cut a name)
+        self.assertEqual((Image(FORWARDERS).imphash(), Image(DATA, Options(longest_name=4)).imphash()), ("", None))
         self.assertRaises(OutOfSteps, Image(DATA).imphash, Budget(2))
         for dll, ordinal, wanted in [
             (b"KERNEL32.dll", 901, "149d2e96f294661822cac53bee31923e"),
@@ -1102,8 +1116,8 @@ class Names(unittest.TestCase):
             (b"a.b.OCX", 7, "f97b2ce4f275cbebbfc8005f20b35541"),
             (b"WINSPOOL.DRV", 7, "c527aa300d7842640afcc4bcdda0752e"),
             (b"x", 65535, "715966133c5213185739d6c03fd6a968"),
-            (b"a.dll", 0, None),
-            (b"", 5, None),
+            (b"a.dll", 0, ""),
+            (b"", 5, ""),
         ]:
             with self.subTest(dll=dll, ordinal=ordinal):
                 data = sample("imports_by_ordinal_x64.dll").replace(b"KERNEL32.dll", dll.ljust(12, b"\0"))
@@ -1140,6 +1154,8 @@ class Names(unittest.TestCase):
         for name in ("class Image", "class Pe", "class Budget", "class PeError", "class Options", "footprint(", "imports(", "symbols(", "patched("):
             self.assertIn(name, text)
         self.assertNotIn("ctypes", text)
+        self.assertNotIn("ForwardRef", text)
+        self.assertIn("dos_stub: 'PeError | None'", pydoc.plain(pydoc.render_doc(goblin_pe.Damage)))
 
 
 class Idioms(unittest.TestCase):

@@ -1,4 +1,4 @@
-"""Reads PE images, COFF objects and TE files that you can't trust.
+"""Reads PE images, COFF objects and Terse Executables that you can't trust.
 
 This program lists the imports of an untrusted image. It limits its work, its memory and the length
 of each name, and it says what it could not read:
@@ -11,28 +11,30 @@ of each name, and it says what it could not read:
             for it in image.imports(budget):
                 print(printable(it.dll), printable(it.name) if it.name else "#%d" % it.ordinal)
             for export in image.exports(budget):
-                print("exports", export.name)
+                print("exports", printable(export.name or b""))
             print("begins with", image.memory_at(image.entry, 16).data.hex())
-            print(image.damage(budget))
+            print(image.damage(budget), end="")
     except PeError as error:
         print("not read to its end:", error)
 
 An Image is the header of a file. It reads a table when you walk over it, and keeps no row. A Pe is
-an Image with a tuple for each table. `python -m goblin_pe FILE..` lists files.
+an Image with a tuple of rows for each table. `python -m goblin_pe FILE..` lists files.
 
-Rows are named tuples of Python's own: they stay when the file is closed. Names are bytes, as they
-need not be UTF-8; `printable` makes a text of them that can't do harm. An address relative to the
-image base is called rva; an offset is one in the file. All sizes are in bytes.
+Rows are named tuples, and stay when the file is closed. Names are bytes, because they need not be
+UTF-8. `printable` makes a text of a name that can't harm a terminal. A field or argument `rva` is
+an address relative to the image base, and an `offset` is a place in the file. Sizes are in bytes.
 
-A small file can list very much: 256 KiB can list 850 million imports. What a file can make long
-takes a Budget of steps, and raises OutOfSteps when it is used up. Several calls can share one
-budget, which then limits their sum. Options(longest_name=..) limits how much of a name is read.
+A small file can list very much: 256 KiB can list 850 million imports. So calls whose work depends
+on the tables have an argument `budget`, a Budget of steps, and raise OutOfSteps when it is used up.
+Several calls can share one budget, which then limits their sum. Options(longest_name=..) limits how
+much of a name is read.
 
 Strict mode, the default, refuses a damaged table. Permissive mode skips the damaged parts, and
-Image.damage reports what it skipped. By default addresses are mapped as Windows maps them; Mapping
+Image.damage reports what it skipped. By default addresses are mapped as Windows maps them. Mapping
 has the rules of goblin and pefile, too.
 
-`data` is bytes, a memoryview, an mmap or another buffer. A buffer that can be written is copied.
+An argument `data` is bytes, a memoryview, an mmap or another buffer. If the buffer can be written,
+its bytes are copied.
 """
 
 from . import constants
@@ -45,7 +47,7 @@ from ._imphash import ordinal_name
 from ._library import Data
 from ._names import names_of, printable, relocation_name
 from ._options import Budget, Mapping, Options
-from ._pe import Pe
+from ._pe import Pe, plain
 from ._rows import (
     Auxiliary, AuxiliaryKind, BaseRelocation, CoffRelocation, Damage, Export, ExportAddress, ExportDirectory, Forwarder, Import,
     Library, Memory, Region, RelocationBlock, RichEntry, RichHeader, Section, Symbol)
@@ -58,12 +60,14 @@ __all__ = [
     "Kind", "Library", "Mapping", "Memory", "OptionalHeader", "Options", "OutOfSteps", "Pe",
     "PeError", "Region", "RelocationBlock", "RichEntry", "RichHeader", "Section",
     "StandardFields", "Symbol", "Table", "TableState", "TeHeader", "Walk", "WindowsFields",
-    "constants", "names_of", "ordinal_name", "printable", "relocation_name",
+    "constants", "names_of", "ordinal_name", "plain", "printable", "relocation_name",
 ]
 __version__ = "0.5.0"
 
-# (where users find them)
+# (where users find them, and with types that help() shows as they are written)
 for _it in list(globals().values()):
     if getattr(_it, "__module__", "").startswith("goblin_pe._"):
         _it.__module__ = "goblin_pe"
+    if hasattr(_it, "_fields"):
+        _it.__annotations__.update({name: getattr(it, "__forward_arg__", it) for name, it in _it.__annotations__.items()})
 del _it

@@ -4,12 +4,13 @@ import json
 import os
 import signal
 import sys
-from collections.abc import Iterator
-from typing import Any, List
+from collections.abc import Iterable, Iterator
+from typing import Any, Dict, List, Tuple
 
-from . import Budget, Image, Kind, Mapping, Options, Pe, PeError, Table, TableState, printable
-from ._pe import plain
+from . import Budget, Image, Kind, Mapping, Options, Pe, PeError, Table, TableState, plain, printable
 
+# What is written of each file before its tables.
+HEADERS = ("refusal", "header_faults", "dos_header", "coff_header", "optional_header", "directories", "te_header", "rich_header", "sections")
 MAPPINGS = {it.name.lower().replace("_", "-"): it for it in Mapping}
 
 
@@ -83,70 +84,81 @@ def lines_of(data: bytes, asked: argparse.Namespace) -> Iterator[str]:
     return image_lines(Pe(data, asked.options, budget))
 
 
-def described(path: str, asked: argparse.Namespace) -> Any:
-    """All that is read of a file, as a value that JSON has: each table as far as the steps go, and why it ends early."""
-    found: Any = {"file": path}
+def tables(image: Image, budget: Budget) -> Iterator[Tuple[str, Iterable[Any]]]:
+    """The tables of a file, with a walk over each."""
+    if image.kind is Kind.IMAGE:
+        yield "rich_entries", image.rich_entries()
+        for name in ("imports", "exports", "export_addresses", "relocation_blocks"):
+            yield name, getattr(image, name)(budget)
+        yield "damage", (image.damage(budget) for _ in range(1))
+    yield "symbols", image.symbols(budget)
+    yield "relocations", (it for s in image.sections for it in s.relocations(image, budget))
+
+
+def opened(path: str, options: Options) -> Image:
+    """The image, the object or the Terse Executable in a file. An image is read as far as possible."""
+    with open(path, "rb") as file:
+        data = file.read()
+    return {Kind.OBJECT: Image.object, Kind.TE: Image.te}.get(Kind.of(data), Image.partial)(data, options)
+
+
+def write_json(path: str, asked: argparse.Namespace) -> int:
+    """Writes a line of JSON: all that is read of a file, and in `ended_early` which tables are not whole, and why. A row is written
+    as soon as it is read. Returns 1 if the file or a table can't be read to its end."""
+    write, budget = sys.stdout.write, Budget(asked.steps)
+    found: Dict[str, Any] = {"file": path}
+    early: Dict[str, str] = {}
     try:
-        with open(path, "rb") as file:
-            data = file.read()
-        with Image.partial(data, asked.options) as image:
-            budget = Budget(asked.steps)
-            found.update(plain({
-                "refusal": image.refusal, "header_faults": dict(image.header_faults), "dos_header": image.dos_header,
-                "coff_header": image.coff_header, "optional_header": image.optional_header, "directories": image.directories,
-                "rich_header": image.rich_header, "sections": image.sections}))
-            for name in ("rich_entries", "imports", "exports", "export_addresses", "relocation_blocks"):
-                found[name] = []
-                walk = image.rich_entries() if name == "rich_entries" else getattr(image, name)(budget)
-                found[name].extend(map(plain, walk))
-            found["damage"] = plain(image.damage(budget))
+        image = opened(path, asked.options)
+        found.update(kind=image.kind, **{name: getattr(image, name) for name in HEADERS})
     except (OSError, PeError, MemoryError) as error:
-        found["stopped"] = str(error) or "out of memory"
-    return found
+        write(json.dumps({"file": path, "refusal": {"text": str(error) or "out of memory"}}) + "\n")
+        return 1
+    write(json.dumps(plain(found))[:-1])
+    for name, rows in tables(image, budget):
+        write(', "%s": [' % name)
+        comma = ""
+        try:
+            for row in rows:
+                write(comma + json.dumps(plain(row)))
+                comma = ", "
+        except (PeError, MemoryError) as error:
+            early[name] = str(error) or "out of memory"
+        write("]")
+    write(', "ended_early": %s}\n' % json.dumps(early))
+    return int(bool(early or image.refusal))
 
 
 def asked_of(words: List[str]) -> argparse.Namespace:
     """What the words ask for."""
     parser = argparse.ArgumentParser(
-        prog="python -m goblin_pe", description="Lists PE images, COFF objects and Terse Executables.")
-    parser.add_argument("--json", action="store_true", help="write a line of JSON for each image")
-    parser.add_argument("--permissive", action="store_true", help="skip damaged parts")
-    parser.add_argument(
-        "--mapping", choices=sorted(MAPPINGS), default="as-loaded",
-        help="how addresses are mapped to file offsets: as-loaded, as Windows maps (the default); by-file-alignment, the same without the "
-             "headers, as pefile maps; as-stored, with raw pointers as stored, as goblin and pe_list map; identity, for a dump of memory")
-    parser.add_argument("--steps", type=int, default=10_000_000, help="how many steps are taken for a file (default: %(default)s)")
-    parser.add_argument("--longest-name", type=int, metavar="BYTES", help="how many bytes of a name are read")
+        prog="python -m goblin_pe", formatter_class=argparse.RawDescriptionHelpFormatter,
+        description="Lists PE images, COFF objects and Terse Executables.",
+        epilog="MAPPING is one of:\n  as-loaded          as Windows maps (the default)\n  by-file-alignment  as pefile maps: as-loaded without the "
+               "headers\n  as-stored          as goblin and pe_list map: raw pointers as stored, without the headers\n"
+               "  identity           an address is a file offset: for a dump of an image in memory")
+    parser.add_argument("--json", action="store_true", help="write a line of JSON for each file")
+    parser.add_argument("--permissive", action="store_true", help="skip damaged parts; without it, they are refused")
+    parser.add_argument("--mapping", choices=sorted(MAPPINGS), default="as-loaded", metavar="MAPPING",
+                        help="how addresses are mapped to file offsets (see below)")
+    parser.add_argument("--steps", type=int, default=1_000_000, help="how many steps a file may take (default: %(default)s)")
+    parser.add_argument("--longest-name", type=int, default=4096, metavar="BYTES",
+                        help="how many bytes of a name are read; longer names are cut (default: %(default)s)")
     parser.add_argument("files", metavar="FILE", nargs="+")
     asked = parser.parse_args(words)
     try:
         asked.options = Options(permissive=asked.permissive, mapping=MAPPINGS[asked.mapping], longest_name=asked.longest_name)
     except ValueError as error:
         parser.error(str(error))
-    if not asked.json and len(asked.files) > 1:
-        parser.error("only --json takes many files")
     return asked
 
 
-def list_all(asked: argparse.Namespace) -> int:
-    """Writes a line of JSON for each file, and the progress if standard error, and not the output, is a terminal."""
-    shows = len(asked.files) > 1 and sys.stderr.isatty() and not sys.stdout.isatty()
-    status = 0
-    for number, path in enumerate(asked.files, 1):
-        found = described(path, asked)
-        status |= "stopped" in found
-        print(json.dumps(found))
-        if shows:
-            print("\r%d of %d files" % (number, len(asked.files)), end="", file=sys.stderr, flush=True)
-    if shows:
-        print(file=sys.stderr)
-    return status
-
-
-def list_one(asked: argparse.Namespace) -> int:
-    """Writes the lines of a file."""
+def list_lines(path: str, asked: argparse.Namespace) -> int:
+    """Writes the lines of a file, below its name if there are several."""
+    if len(asked.files) > 1:
+        print("file " + printable(os.fsencode(path)))
     try:
-        with open(asked.files[0], "rb") as file:
+        with open(path, "rb") as file:
             data = file.read()
     except (OSError, MemoryError) as error:
         return complain("read failed", error)
@@ -155,6 +167,20 @@ def list_one(asked: argparse.Namespace) -> int:
     except (PeError, MemoryError) as error:
         return complain("refused", error)
     return 0
+
+
+def list_all(asked: argparse.Namespace) -> int:
+    """Lists each file. The progress is shown if standard error is a terminal and the output is not."""
+    shows = len(asked.files) > 1 and sys.stderr is not None and sys.stderr.isatty() and not sys.stdout.isatty()
+    status = 0
+    for number, path in enumerate(asked.files, 1):
+        status |= (write_json if asked.json else list_lines)(path, asked)
+        if shows:
+            done = 40 * number // len(asked.files)
+            print("\r[%s%s] %d of %d files" % ("#" * done, "." * (40 - done), number, len(asked.files)), end="", file=sys.stderr, flush=True)
+    if shows:
+        print(file=sys.stderr)
+    return status
 
 
 def complain(what: str, error: Exception) -> int:
@@ -170,7 +196,7 @@ def main(words: List[str]) -> int:
         return complain("write failed", OSError("standard output is closed"))
     asked = asked_of(words)
     try:
-        status = list_all(asked) if asked.json else list_one(asked)
+        status = list_all(asked)
         sys.stdout.flush()
     except OSError as error:
         os.dup2(os.open(os.devnull, os.O_WRONLY), sys.stdout.fileno())  # (Python writes what is left as it ends)

@@ -14,7 +14,7 @@ class ErrorKind(enum.Enum):
     """What kind of error a PeError is."""
 
     MALFORMED = 1
-    """The bytes violate the format: `cause` says how."""
+    """The bytes violate the format. `cause` says how."""
     BAD_MAGIC = 2
     """The magic of the optional header is neither PE32 nor PE32+."""
     TOO_SHORT = 3
@@ -32,7 +32,7 @@ class ErrorKind(enum.Enum):
     PLACE = 9
     """The file has no place for a changed header or section."""
     UNKNOWN = 10
-    """A kind that only a later version has a name for."""
+    """A kind that this version has no name for."""
 
 
 class Table(enum.Enum):
@@ -53,21 +53,25 @@ class Table(enum.Enum):
 
 
 class PeError(ValueError):
-    """A file, a table or a part of one can't be read. The text says what is wrong. Errors of the
-    same kind, cause and numbers are equal. If memory is refused, MemoryError is raised."""
+    """A file, a table or a part of one can't be read. `str(error)` is the table, a colon, and what
+    is wrong with it; `error.args[0]` is what is wrong alone. Errors of the same kind, cause and
+    numbers are equal. If memory is refused, MemoryError is raised in place of a PeError."""
 
     kind: ErrorKind
     cause: Cause | None
     """How the file is malformed; None for other kinds."""
     numbers: tuple[int, int]
-    """The numbers of the error, such as an offset and a size; 0 where the kind has none."""
+    """The numbers of the error, such as an offset and a size; 0 for each that the kind lacks."""
     table: Table | None
-    """The part of the file that could not be read; None for a look-up."""
+    """The part of the file that could not be read; None for a look-up and for damage()."""
 
     def __init__(self, text: str, kind: ErrorKind, cause: Cause | None = None, numbers: tuple[int, int] = (0, 0),
                  table: Table | None = None) -> None:
         super().__init__(text)
         self.kind, self.cause, self.numbers, self.table = kind, cause, numbers, table
+
+    def __str__(self) -> str:
+        return "%s: %s" % (self.table.value, self.args[0]) if self.table else str(self.args[0])
 
     def __eq__(self, other: object) -> bool:
         if not isinstance(other, PeError):
@@ -78,11 +82,11 @@ class PeError(ValueError):
         return hash((self.kind, self.cause, self.numbers))
 
     def __reduce__(self) -> tuple[Any, ...]:
-        return type(self), (str(self), self.kind, self.cause, self.numbers, self.table), self.__dict__
+        return type(self), (self.args[0], self.kind, self.cause, self.numbers, self.table), self.__dict__
 
 
 class OutOfSteps(PeError):
-    """The budget is used up, and the walk is not over. So nothing was said of what comes next."""
+    """The budget is used up, and the call is not done. What comes next in the file is unknown."""
 
 
 # The kinds by the statuses of the library, and those of a read by its causes.

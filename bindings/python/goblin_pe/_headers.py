@@ -1,4 +1,4 @@
-"""The headers of a file, as named tuples: as stored, and changed copies by _replace."""
+"""The headers of a file, as named tuples of what is stored. `_replace` makes a changed copy."""
 from __future__ import annotations
 
 import ctypes
@@ -33,7 +33,7 @@ class DosHeader(NamedTuple):
 
 
 class CoffHeader(NamedTuple):
-    """The COFF file header. `names_of(header.machine, "machine")` has the name of the machine."""
+    """The COFF file header. `names_of(header.machine, "machine")` returns the name of the machine."""
 
     machine: int
     number_of_sections: int
@@ -92,7 +92,8 @@ class OptionalHeader(NamedTuple):
 
 
 class DataDirectory(NamedTuple):
-    """A data directory: where a table is. Both are 0 if the image has no such table."""
+    """A data directory: the address and the size of a table. Both are 0 if the image has no such
+    table. For CERTIFICATE_TABLE, the address is a file offset."""
 
     virtual_address: int
     size: int
@@ -120,7 +121,7 @@ class DirectoryType(Number):
 
 class TeHeader(NamedTuple):
     """The header of a Terse Executable. The entry point, the base of the code and the address of the
-    base relocations are moved to where they are in the file."""
+    base relocations are already moved to where they are in the file."""
 
     signature: int
     machine: int

@@ -24,13 +24,13 @@ from ._rows import (
     ExportAddress, ExportDirectory, Forwarder, Import, Library, Memory, Region, RelocationBlock, RichEntry, RichHeader, Section, Symbol,
     damage, export_directory, forwarder, in_range, text)
 from ._walk import Kind as WalkKind, Walk
-from .constants import IMAGE_FILE_DLL, MAGIC_64
+from .constants import IMAGE_FILE_DLL, IMAGE_FILE_EXECUTABLE_IMAGE, IMAGE_SUBSYSTEM_NATIVE, MAGIC_64
 
 _Path = Union[str, "os.PathLike[str]"]
 
 
 class Kind(Number):
-    """What a file is, by its first bytes. Nothing here reads the last three."""
+    """What a file is, by its first bytes. No call reads the last three kinds."""
 
     UNKNOWN = 0
     IMAGE = 1
@@ -42,7 +42,7 @@ class Kind(Number):
 
     @classmethod
     def of(cls, data: Data) -> Kind:
-        """What a file is. Whether it can be read is another question."""
+        """The kind of a file. It does not say whether the file can be read."""
         with held(data) as (address, length):
             return cls(LIB.goblin_pe_kind_of(address, length))
 
@@ -53,32 +53,36 @@ class TableState(enum.Enum):
     ABSENT = "absent"
     """The image has no such table."""
     PRESENT = "present"
-    """A walk gives its rows, as far as they can be read."""
+    """The image has it, and a walk gives its rows as far as they can be read."""
     REFUSED = "refused"
-    """Strict mode refuses it as a whole. In permissive mode a walk over it has no rows."""
+    """Strict mode refuses it as a whole. In permissive mode a walk over it gives no row. One
+    exception: a walk over imports gives those that can be read."""
 
 
 class Image:
     """A PE image, a COFF object or a Terse Executable: its header, and the bytes of the file.
 
-    It keeps the bytes until close(), or the end of a `with`. Then its methods raise ValueError, and
-    its properties stay. Rows that it gave stay, too. An image can be pickled, with its bytes."""
+    Properties say what is in the header. Methods read the tables; they may raise PeError, and some
+    need a Budget. The image keeps the bytes until close(), or until the end of a `with`. After that,
+    methods and `data` raise ValueError; the other properties stay, and so do all rows. An image can
+    be pickled, with its bytes."""
 
     def __init__(self, data: Data, options: Options = Options()) -> None:
         """Reads the header and the section table of an image. PeError is raised if they can't be
-        read; `partial` reads such a file."""
+        read. Image.partial reads such a file."""
         self._read(kept(data), options, LIB.goblin_pe_read_image)
 
     @classmethod
     def open(cls, path: _Path, options: Options = Options()) -> Image:
-        """The image in a file, which is read whole. OSError is raised if it can't be read."""
+        """Reads a whole file, and its header. OSError is raised if the file can't be read."""
         with open(path, "rb") as file:
             return cls(file.read(), options)
 
     @classmethod
     def partial(cls, data: Data, options: Options = Options()) -> Image:
-        """The header as far as it goes, whatever the file holds. What can't be read is zeros, and
-        `header_faults` says why. All walks and look-ups work."""
+        """Reads the header as far as possible, whatever the file holds. What can't be read is zeros,
+        and `header_faults` says why. All walks and look-ups work on what is there. It reads every
+        file as an image: there is no partial read of an object or a Terse Executable."""
         faults = _records.HeaderFaults()
         image = cls._made(data, options, LIB.goblin_pe_read_partial_image, faults)
         tables = {"rich_header": Table.RICH_HEADER}
@@ -88,20 +92,22 @@ class Image:
 
     @classmethod
     def object(cls, data: Data, options: Options = Options()) -> Image:
-        """A COFF object: it has sections, symbols and relocations. The machine is not tested: ask
-        Kind.of first."""
+        """Reads a COFF object, which has sections, symbols and relocations. Ask Kind.of first,
+        because any machine is accepted. PeError is raised if the header or the section table is cut;
+        such an object can't be read in part."""
         return cls._made(data, options, LIB.goblin_pe_read_object)
 
     @classmethod
     def te(cls, data: Data, options: Options = Options()) -> Image:
-        """A Terse Executable: it has sections, and a `te_header`."""
+        """Reads a Terse Executable, which has a `te_header` and sections. PeError is raised if one of
+        them is cut; such a file can't be read in part."""
         header = _records.TeHeader()
         image = cls._made(data, options, LIB.goblin_pe_read_te, header)
         image._te_header = read(TeHeader, header)
         return image
 
     def with_options(self, options: Options) -> Image:
-        """The same image, read by other options. The header is not read again."""
+        """The same image with other options. The header is not read again."""
         image = type(self).__new__(type(self))
         image.__dict__.update(self.__dict__)
         image._record = _records.Image.from_buffer_copy(self._record)
@@ -110,7 +116,7 @@ class Image:
         return image
 
     def close(self) -> None:
-        """Lets go of the bytes."""
+        """Releases the bytes. Properties and rows stay."""
         if self._data is not None:
             self._stay = {"dos_stub": self.dos_stub, "rich_header": self.rich_header}
             self._sections = self.sections
@@ -205,19 +211,19 @@ class Image:
 
     @property
     def kind(self) -> Kind:
-        """What it is: an image, an object or a Terse Executable."""
+        """Whether it is an image, an object or a Terse Executable."""
         return Kind(self._record.kind)
 
     @property
     def header_faults(self) -> _Mapping[str, PeError]:
-        """The parts of the header that `partial` could not read, and why: dos_header, dos_stub,
-        rich_header, coff_header, standard_fields, windows_fields, directories, section_table and
-        section_names."""
+        """The parts of the header that `partial` could not read, each with its error. A part is one
+        of dos_header, dos_stub, rich_header, coff_header, standard_fields, windows_fields,
+        directories, section_table and section_names."""
         return self._faults
 
     @property
     def refusal(self) -> PeError | None:
-        """Why Image(data) refuses a file that `partial` read; None if it reads it."""
+        """Why Image(data) refuses a file that `partial` has read; None if it does not refuse it."""
         return self._refusal
 
     @property
@@ -230,6 +236,23 @@ class Image:
     def is_lib(self) -> bool:
         """Whether the COFF header has the flag of a dynamic-link library."""
         return bool(self._record.coff_header.characteristics & IMAGE_FILE_DLL)
+
+    is_dll = is_lib
+
+    @property
+    def is_driver(self) -> bool:
+        """Whether the COFF header has the flag of an executable image, and the subsystem is NATIVE.
+        Some programs of Windows have that subsystem, too. pefile's is_driver also looks at the names
+        of libraries and sections."""
+        native = self._record.optional_header.windows_fields.subsystem == IMAGE_SUBSYSTEM_NATIVE
+        return native and bool(self._record.coff_header.characteristics & IMAGE_FILE_EXECUTABLE_IMAGE)
+
+    @property
+    def is_exe(self) -> bool:
+        """Whether the COFF header has the flag of an executable image, and it is neither a
+        dynamic-link library nor a driver."""
+        characteristics: int = self._record.coff_header.characteristics
+        return bool(characteristics & IMAGE_FILE_EXECUTABLE_IMAGE) and not (self.is_lib or self.is_driver)
 
     @property
     def entry(self) -> int:
@@ -277,8 +300,8 @@ class Image:
 
     @property
     def optional_header(self) -> OptionalHeader | None:
-        """The optional header. If it is None, there are no directories, and no address has an
-        offset."""
+        """The optional header, or None if the file has none. Then it has no data directories, and no
+        address has a file offset."""
         if not self._record.has_optional_header:
             return None
         header: OptionalHeader = read(OptionalHeader, self._record.optional_header)
@@ -286,12 +309,13 @@ class Image:
 
     @property
     def directories(self) -> tuple[DataDirectory, ...]:
-        """The sixteen data directories, by DirectoryType; zeros where the file has fewer."""
+        """The sixteen data directories, in the order of DirectoryType. Those that the file lacks are
+        zeros."""
         return tuple(read(DataDirectory, it) for it in self._record.directories)
 
     @property
     def te_header(self) -> TeHeader | None:
-        """The header of a Terse Executable; None of another file."""
+        """The header of a Terse Executable; None in another file."""
         return self._te_header
 
     @property
@@ -307,26 +331,27 @@ class Image:
         return Walk(self, RICH_ENTRIES)
 
     def imports(self, budget: Budget | None = None) -> Walk[Import]:
-        """The imports, in the order of the import directory. `damage` counts the entries that give
-        none."""
+        """The imports, in the order of the import directory. `damage` counts the entries that lead to
+        no import."""
         return Walk(self, IMPORTS, None, budget)
 
     def libraries(self, budget: Budget | None = None) -> Walk[Library]:
-        """The DLLs: one for each entry of the import directory, also the skipped ones. Each row
-        looks at the whole address table of its DLL: 5,000 rows of a hostile file of a megabyte can
-        take a second."""
+        """The DLLs that the image imports from: a row for each import descriptor, also for one that is
+        skipped. Each row takes one step, but reads the whole address table of its DLL: 5,000 rows of
+        a hostile file of a megabyte can take a second."""
         return Walk(self, LIBRARIES, None, budget)
 
     def exports(self, budget: Budget | None = None) -> Walk[Export]:
-        """The exports that have a name pointer, in the order of these."""
+        """The exports that have a name pointer, in the order of the name pointers."""
         return Walk(self, EXPORTS, None, budget)
 
     def export_addresses(self, budget: Budget | None = None) -> Walk[ExportAddress]:
-        """The export address table: all ordinals, also those without a name."""
+        """The entries of the export address table: all ordinals, also those without a name."""
         return Walk(self, EXPORT_ADDRESSES, None, budget)
 
     def relocation_blocks(self, budget: Budget | None = None) -> Walk[RelocationBlock]:
-        """The blocks of base relocations. Bytes that are no block raise PeError in both modes."""
+        """The blocks of base relocations. In both modes, PeError is raised for bytes that are no
+        block."""
         return Walk(self, BLOCKS, None, budget)
 
     def symbols(self, budget: Budget | None = None) -> Walk[Symbol]:
@@ -334,7 +359,7 @@ class Image:
         return Walk(self, SYMBOLS, None, budget)
 
     def table_state(self, table: Table) -> TableState:
-        """Whether the image has a table, and whether it can be walked over."""
+        """Whether the image has a table, and whether strict mode refuses it."""
         kind, is_there = _TABLES[table]
         if not is_there(self._record):
             return TableState.ABSENT
@@ -365,7 +390,8 @@ class Image:
         return next((it for it, other in zip(self.sections, limited.sections) if it.name == wanted == other.name), None)
 
     def section_by_number(self, number: int) -> Section | None:
-        """The section of this number, from 1, as symbols have it."""
+        """The section of a number that a symbol has: the first section has the number 1. None if
+        there is no such section."""
         if -0x8000 <= number < -2:  # (symbols have numbers of 16 bits with a sign)
             number += 0x10000
         return self.sections[number - 1] if 0 < number <= len(self.sections) else None
@@ -379,7 +405,7 @@ class Image:
             return export_directory(found)
 
     def find_export(self, name: bytes | str, budget: Budget | None = None) -> Export | None:
-        """The first export of this name."""
+        """The first export of this name; None if there is none."""
         wanted = name.encode() if isinstance(name, str) else bytes(name)
         # (a name that is longer than the wanted one need not be read whole)
         image = self.with_options(dataclasses.replace(self.options, longest_name=max(len(wanted), 1)))
@@ -389,7 +415,7 @@ class Image:
         return found._replace(forwarder=self.forwarder_at(found.rva))
 
     def find_export_by_ordinal(self, ordinal: int) -> ExportAddress | None:
-        """The export of this ordinal, also one without a name."""
+        """The export of this ordinal, whether or not it has a name; None if there is none."""
         directory = self.export_directory()
         if directory is None or ordinal < directory.ordinal_base:
             return None
@@ -398,40 +424,43 @@ class Image:
         return found if found and found.rva else None
 
     def symbol_at(self, index: int) -> Symbol | None:
-        """The symbol whose record has this index, as relocations name it."""
+        """The symbol at this index of the symbol table, such as that of a relocation; None if there
+        is none."""
         found: Symbol | None = self._first(SYMBOLS, _records.SymbolCursor(in_range(index)))
         return found
 
     def string_at(self, offset: int) -> bytes | None:
-        """The text at an offset of the string table, if there is one."""
+        """The text at an offset of the string table; None if there is none."""
         found = _records.Slice()
         with self._held() as image:
             is_there = LIB.goblin_pe_string_at(image, in_range(offset), c.byref(found))
             return text(found) if is_there else None
 
     def find_offset(self, rva: int) -> int | None:
-        """The file offset of an address, as the mapping says. It may lie past the end."""
+        """The file offset of an address, by the mapping of the options. It may lie past the end of the
+        file. None if the address has none."""
         found = self._looked_up(LIB.goblin_pe_find_offset, c.c_size_t, in_range(rva))
         return None if found is None else int(found.value)
 
     def find_rva(self, offset: int) -> int | None:
-        """The address of a file offset: one that find_offset maps to it."""
+        """An address that find_offset maps to this file offset; None if there is none. It looks at
+        each section twice."""
         found = self._looked_up(LIB.goblin_pe_find_rva, c.c_size_t, in_range(offset))
         return None if found is None else int(found.value)
 
     def memory_at(self, rva: int, size: int) -> Memory:
-        """What a loader puts at an address: at most `size` bytes, as far as they are known."""
+        """What a loader puts at an address: at most `size` bytes, up to the end of the section."""
         return self._memory(LIB.goblin_pe_memory_at, in_range(rva), in_range(size))
 
     def text_at(self, rva: int) -> bytes:
-        """The text at an address, up to a NUL. PeError is raised if there is none."""
+        """The text from an address up to a NUL. PeError is raised if there is none."""
         found = _records.Slice()
         with self._held() as image:
             test(LIB.goblin_pe_text_at(image, in_range(rva), c.byref(found)), None)
             return text(found)
 
     def forwarder_at(self, rva: int) -> Forwarder:
-        """The forwarder whose text is at an address. PeError is raised if there is none."""
+        """The forwarder that is written at an address. PeError is raised if there is none."""
         found = _records.Forwarder()
         with self._held() as image:
             test(LIB.goblin_pe_forwarder_at(image, in_range(rva), c.byref(found)), None)
@@ -439,8 +468,9 @@ class Image:
 
     # Facts about the whole file.
     def damage(self, budget: Budget | None = None) -> Damage:
-        """What strict mode refuses, and what the walks skip. Both modes give the same. OutOfSteps is
-        raised if the budget is too small for the whole image: then nothing is known of it."""
+        """What strict mode refuses, and what the walks skip. The answer is the same in both modes.
+        OutOfSteps is raised if the budget is too small for the whole image, and then nothing is
+        known about its damage."""
         left = None if budget is None else budget.left
         steps, found = c.c_size_t(left or 0), _records.Damage()
         with self._held() as image:
@@ -450,8 +480,9 @@ class Image:
         return damage(found)
 
     def imphash(self, budget: Budget | None = None) -> str | None:
-        """The hash of the imports that analysts compare, in hexadecimal, as pefile's get_imphash.
-        None if there are no imports, or if the options cut a name: it would be another hash."""
+        """The hash of the imports that analysts compare, in hexadecimal, as pefile's get_imphash. It
+        is "" if no import counts. It is None if `longest_name` cuts a name, because the hash of a
+        name that is cut would be another hash."""
         digest, separator, longest = hashlib.md5(usedforsecurity=False), b"", self.options.longest_name
         for it in self.imports(budget):
             if longest and (len(it.dll) > longest or len(it.name or b"") > longest):
@@ -460,17 +491,19 @@ class Image:
             if line:
                 digest.update(separator + line)
                 separator = b","
-        return digest.hexdigest() if separator else None
+        return digest.hexdigest() if separator else ""
 
     def footprint(self, budget: Budget | None = None) -> list[range]:
         """The file offsets of the bytes on which these answers depend: the headers, the section
-        headers, and all rows of the imports, exports and base relocations, by the options of the
-        image. Another file of the same length with the same bytes there may differ in all else: in
-        its symbols, the data of sections, what is at addresses, the overlay, the checksum, and its
-        damage. Names are read whole, so the budget does not limit the time: with long names that
+        headers, and the rows of imports, exports and base relocations, with the options of the
+        image. Another file of the same length that has the same bytes there gives the same answers.
+        It may differ in everything else: symbols, the data of sections, what is at addresses, the
+        overlay, the checksum, and the damage.
+
+        The budget does not limit the time, because names are read whole: with long names that
         overlap, a file of a megabyte takes half a minute."""
         if budget is not None and budget.left is not None:
-            self.damage(budget)  # (the library looks at all of the image: so the budget has to reach)
+            self.damage(budget)  # (the library looks at the whole image, so the budget has to be enough for that)
         found = _records.Footprint()
         with self._held() as image:
             test(LIB.goblin_pe_read_footprint(image, c.byref(found)), None)
@@ -480,8 +513,9 @@ class Image:
             LIB.goblin_pe_free_footprint(c.byref(found))
 
     def fingerprint(self, budget: Budget | None = None) -> str:
-        """A key for a cache: the SHA-256 of the file's length and its footprint. The options are not
-        in it: keep them beside it. `footprint` says what the key covers, and how long it takes."""
+        """A key for a cache: the SHA-256 of the file's length and its footprint. The options are no
+        part of it, so keep them beside the key. `footprint` says which answers are the same for files
+        with the same key, and how long it takes."""
         digest = hashlib.sha256(b"%d" % len(self.data))
         for it in self.footprint(budget):
             digest.update(b" %d %d " % (it.start, it.stop))
@@ -489,12 +523,16 @@ class Image:
         return digest.hexdigest()
 
     def overlay(self) -> memoryview:
-        """The bytes after the data of all sections; empty if there are none."""
+        """The bytes after the raw data of all sections; empty if there are none. They begin at file
+        offset `len(image.data) - len(image.overlay())`. A section with the raw pointer 0 has no raw
+        data. If the end of the file cuts a section, there is no overlay. Certificates of a signed
+        file belong to the overlay."""
         ends = [it.pointer_to_raw_data + it.size_of_raw_data for it in self.sections if it.pointer_to_raw_data and it.size_of_raw_data]
         return self.data[max(ends, default=len(self.data)):]
 
     def checksum(self) -> int | None:
-        """The checksum of the file, for check_sum of the optional header."""
+        """The checksum that belongs into `check_sum` of the optional header; None if there is no
+        optional header."""
         found = self._looked_up(LIB.goblin_pe_checksum, c.c_uint32)
         return None if found is None else int(found.value)
 
@@ -508,9 +546,9 @@ class Image:
         sections: Iterable[Section] = (),
         checksum: bool = False,
     ) -> bytes:
-        """The file with these headers, and with these headers of its first sections. What is not
-        given stays as it is. With `checksum` the checksum is computed anew. PeError is raised if the
-        file has no place for them."""
+        """The bytes of the file with these headers. `sections` replace the headers of as many sections
+        from the first on. What you do not give stays as it is. With `checksum=True` the checksum is
+        computed again. PeError is raised if the file has no place for them."""
         return patched(self, Headers(
             dos_header or self.dos_header, coff_header or self.coff_header, optional_header or self.optional_header,
             self.directories if directories is None else tuple(directories)), tuple(sections), checksum)

@@ -1,13 +1,13 @@
-"""The hash of the imports of an image by which analysts find files that were made alike, as pefile makes it: the MD5 of all
-imports in their order, each as library.name in lower case, joined by commas. An import by ordinal has the name `ord` and the
-number; but for those libraries that programs import by ordinal everywhere, it has the name that the ordinal has there."""
+"""The hash of imports by which analysts find files that were made alike, as pefile computes it: the MD5 of all imports in their
+order, each as library.name in lower case, joined by commas. The name of an import by ordinal is `ord` and the number. Three
+libraries are imported by ordinal everywhere: from these, it is the name that the ordinal has there."""
 from typing import Dict, Optional, Union
 
 
 # The endings that a library's name loses.
 ENDINGS = (b".dll", b".ocx", b".sys")
 
-# The ordinals of WS2_32.dll, and of what is older, WSOCK32.dll, which the hash takes for the same.
+# The ordinals of WS2_32.dll. The hash uses the same names for the older WSOCK32.dll.
 SOCKETS = """
     1 accept 2 bind 3 closesocket 4 connect 5 getpeername 6 getsockname 7 getsockopt 8 htonl 9 htons 10 ioctlsocket
     11 inet_addr 12 inet_ntoa 13 listen 14 ntohl 15 ntohs 16 recv 17 recvfrom 18 select 19 send 20 sendto
@@ -113,17 +113,18 @@ def _by_ordinal(table: str) -> Dict[int, bytes]:
     return dict(zip(map(int, words[::2]), words[1::2]))
 
 
-# Of each library, whose name is in lower case, the names of its ordinals.
+# The names of the ordinals of each library, whose name is in lower case.
 NAMES = {b"ws2_32.dll": _by_ordinal(SOCKETS), b"wsock32.dll": _by_ordinal(SOCKETS), b"oleaut32.dll": _by_ordinal(AUTOMATION)}
 
 
 def ordinal_name(dll: Union[bytes, str], ordinal: int) -> Optional[bytes]:
-    """The name that an ordinal has in WS2_32.dll, WSOCK32.dll or OLEAUT32.dll."""
+    """The name that an ordinal has in WS2_32.dll, WSOCK32.dll or OLEAUT32.dll; None for another DLL
+    or an ordinal without a name."""
     return NAMES.get((dll.encode() if isinstance(dll, str) else bytes(dll)).lower(), {}).get(ordinal)
 
 
 def line(dll: bytes, name: Optional[bytes], ordinal: Optional[int]) -> bytes:
-    """The text of an import; empty if it is left out: without a name, of the ordinal 0, or of a DLL without a name."""
+    """The text of an import. It is empty if the import does not count: it has no name, or its ordinal is 0, or its DLL has no name."""
     dll = dll.lower()
     if not dll or not (ordinal if name is None else name):
         return b""

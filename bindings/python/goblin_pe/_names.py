@@ -1,9 +1,9 @@
-"""Numbers and flags of headers, symbols and relocations by the names of their constants."""
+"""The names of numbers and flags in headers, symbols and relocations."""
 from typing import Dict, List, Literal, Tuple
 
 from . import constants
 
-# The constants of each kind begin so; of those with a field the bits of it are one number.
+# What the names of the constants of each kind begin with. The bits of a field are one number.
 _BEGINNINGS = {"machine": "COFF_MACHINE_", "subsystem": "IMAGE_SUBSYSTEM_", "file": "IMAGE_FILE_", "dll": "IMAGE_DLLCHARACTERISTICS_",
                "section": "IMAGE_SCN_", "storage_class": "IMAGE_SYM_CLASS_", "comdat": "IMAGE_COMDAT_SELECT_",
                "weak_external": "IMAGE_WEAK_EXTERN_SEARCH_", "base_relocation": "IMAGE_REL_BASED_"}
@@ -17,7 +17,7 @@ Kind = Literal["machine", "subsystem", "file", "dll", "section", "storage_class"
 
 
 def _constants(beginning: str) -> Dict[str, int]:
-    # those whose names begin so, but for masks
+    # those whose names begin so, without masks
     return {name: number for name, number in vars(constants).items() if name.startswith(beginning) and not name.endswith("_MASK")}
 
 
@@ -36,7 +36,8 @@ def _flags(flags: int, kind: str) -> List[Tuple[str, int]]:
 
 
 def names_of(number: int, kind: Kind) -> List[str]:
-    """The names of a number or of flags in goblin_pe.constants, and what is left in hexadecimal."""
+    """The names that a number or its flags have in goblin_pe.constants. What has no name is in
+    hexadecimal."""
     if kind not in _FLAGS:
         return [name for name, named in _NAMES[kind].items() if named == number] or [hex(number)]
     found = _flags(number, kind)
@@ -45,12 +46,13 @@ def names_of(number: int, kind: Kind) -> List[str]:
 
 
 def relocation_name(machine: int, typ: int) -> str:
-    """The name of the type of a relocation of an object for this machine."""
+    """The name of a type of relocations in an object for this machine. A type without a name is in
+    hexadecimal."""
     names = _constants("IMAGE_REL_%s_" % _RELOCATIONS[machine]) if machine in _RELOCATIONS else {}
     return next((name for name, named in names.items() if named == typ), hex(typ))
 
 
 def printable(name: bytes) -> str:
-    r"""A text for a name that can be printed: each byte outside printable ASCII, and the backslash,
-    is \x and two digits. So two names that print alike are equal."""
+    r"""A text that you can print safely. Each byte outside printable ASCII, and each backslash,
+    becomes \x and two hexadecimal digits. So different names have different texts."""
     return "".join(chr(byte) if 32 <= byte < 127 and byte != 92 else "\\x%02x" % byte for byte in name)

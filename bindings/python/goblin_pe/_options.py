@@ -9,32 +9,33 @@ from ._number import Number
 
 
 class Mapping(Number):
-    """How addresses are mapped to file offsets, and where the data of a section begins. The first
-    three agree on sections whose raw pointer is a multiple of 512, as the specification asks for."""
+    """How addresses are mapped to file offsets, and where the raw data of a section begins. The first
+    three agree inside sections whose raw pointer is a multiple of 512, as the specification asks
+    for."""
 
     AS_LOADED = 0
-    """As Windows maps: the raw pointer is rounded down to 512 if the file alignment is at least
-    512, and the headers are mapped at address 0."""
+    """As Windows maps. The raw pointer is rounded down to a multiple of 512 if the file alignment is
+    at least 512. The headers are mapped at address 0."""
     BY_FILE_ALIGNMENT = 1
-    """As pefile maps: the same, without the headers."""
+    """As pefile maps. The raw pointer is rounded as by AS_LOADED. The headers are not mapped."""
     AS_STORED = 2
-    """As goblin maps: the raw pointer is taken as stored, and the headers are not mapped."""
+    """As goblin maps. The raw pointer is used as stored. The headers are not mapped."""
     IDENTITY = 3
-    """An address is a file offset: the bytes are a dump of the image in memory."""
+    """An address is a file offset. This is for a dump of an image in memory."""
 
 
 @dataclasses.dataclass(frozen=True)
 class Options:
-    """How a file is read. dataclasses.replace makes changed options. ValueError is raised for a limit
-    that is not from 1 to 2**32 - 1, and TypeError for one that is no int, or a bool."""
+    """How a file is read. dataclasses.replace makes changed options. ValueError is raised if
+    `longest_name` is not from 1 to 2**32 - 1, and TypeError if it is no int."""
 
     permissive: bool = False
-    """Whether damaged parts are skipped, and not refused."""
+    """Whether damaged parts are skipped. If not, they are refused."""
     mapping: Mapping = Mapping.AS_LOADED
     """How addresses are mapped to file offsets."""
     longest_name: int | None = None
-    """How many bytes of a name are read. A longer name is cut after the character that reaches past
-    the limit, so a name that is longer than the limit was cut."""
+    """How many bytes of a name are read; None reads all. A longer name is cut after the character
+    that passes the limit, so a name was cut if it is longer than the limit."""
 
     def __init__(self, *, permissive: bool = False, mapping: Mapping = Mapping.AS_LOADED, longest_name: int | None = None) -> None:
         if isinstance(longest_name, bool):
@@ -50,15 +51,16 @@ class Options:
 
 class Budget:
     """How many steps calls may still take. A step is one look at an entry of an import or export
-    table, or one row of another walk. A call that needs more raises OutOfSteps. 100,000 steps take
-    10 to 200 milliseconds in the library, by the length of the names, if the options limit it.
-    Image.libraries and Image.footprint can take longer.
+    table, or one row of another walk. A call that needs more steps raises OutOfSteps. If the options
+    limit names, 100,000 steps take 10 to 200 milliseconds in the library, depending on the length of
+    the names. Image.libraries and Image.footprint can take longer.
 
-    Walks read their rows in batches, so the budget may be ahead of the row that you hold."""
+    Walks read their rows in batches. So the budget may already have paid for rows that you do not
+    have yet."""
 
     left: int | None
-    """How many steps are left; None if there is no limit. You may set it: a walk that raised
-    OutOfSteps then goes on."""
+    """How many steps are left; None if there is no limit. If you set it after OutOfSteps, the walk
+    can go on."""
 
     def __init__(self, steps: int | None = None) -> None:
         self.left = steps if steps is None else max(operator.index(steps), 0)

@@ -1,11 +1,11 @@
-"""Images with lists."""
+"""Images with all their rows, and values for JSON."""
 from __future__ import annotations
 
 import enum
 import json
 import os
 import types
-from collections.abc import Iterable
+from collections.abc import Iterable, Mapping
 from typing import Any, Union
 
 from ._errors import OutOfSteps, PeError
@@ -20,14 +20,16 @@ _Path = Union[str, "os.PathLike[str]"]
 
 
 def plain(value: Any) -> Any:
-    """A value that JSON has: the fields of a row and of an error, the name of a number, and a printable text of bytes."""
+    """The same value for `json.dumps`. A row, a header or an error becomes a dictionary of its
+    fields, and a number with a name that name. Bytes become a text as by `printable`, so different
+    names stay different."""
     if isinstance(value, (bytes, memoryview)):
         return printable(bytes(value))
     if isinstance(value, enum.Enum):
         return value.name
     if isinstance(value, PeError):
-        return {"text": str(value), "kind": value.kind.name, "cause": plain(value.cause), "table": plain(value.table)}
-    if isinstance(value, dict):
+        return {"text": value.args[0], "kind": value.kind.name, "cause": plain(value.cause), "table": plain(value.table)}
+    if isinstance(value, Mapping):
         return {name: plain(it) for name, it in value.items()}
     if hasattr(value, "_fields"):
         return {name: plain(it) for name, it in zip(value._fields, value)}
@@ -35,12 +37,12 @@ def plain(value: Any) -> Any:
 
 
 class Pe:
-    """An image and the rows of its tables: what the walks of an Image give, as tuples. All of it is
-    read at once, so a budget limits the memory that it takes. The tuples stay when the file is
-    closed."""
+    """An image and the rows of all its tables, as tuples: what the walks of an Image give. It reads
+    everything at once, so a budget also limits the memory that it needs. The tuples stay when the
+    file is closed."""
 
     image: Image
-    """The headers, and look-ups."""
+    """The image itself, with the headers and the look-ups."""
     sections: tuple[Section, ...]
     rich_entries: tuple[RichEntry, ...]
     imports: tuple[Import, ...]
@@ -49,23 +51,25 @@ class Pe:
     export_addresses: tuple[ExportAddress, ...]
     relocation_blocks: tuple[RelocationBlock, ...]
     errors: tuple[PeError, ...]
-    """Why tuples end early, each error with its `table`. In both modes bytes that are no entry of the
-    Rich header, and bytes that are no block of base relocations; in permissive mode every error at
-    which a walk ended."""
+    """Why tuples end early: each error has its `table`. In permissive mode, these are all errors at
+    which a walk ended. In strict mode, only bytes that are no entry of the Rich header and bytes that
+    are no block of base relocations are here; other errors are raised."""
 
     def __init__(self, data: Data, options: Options = Options(), budget: Budget | None = None) -> None:
-        """Reads an image and lists its tables. PeError is raised as by Image, and in strict
-        mode for the first table that is refused; OutOfSteps in both modes."""
+        """Reads an image and all its tables. PeError is raised as by Image, and in strict mode for the
+        first table that is refused. OutOfSteps is raised in both modes; to keep the rows before it,
+        walk over an Image."""
         self._list(Image(data, options), budget)
 
     @classmethod
     def open(cls, path: _Path, options: Options = Options(), budget: Budget | None = None) -> Pe:
-        """The image in a file, which is read whole."""
+        """Reads a whole file, and all tables of the image. OSError is raised if the file can't be
+        read."""
         return cls.of(Image.open(path, options), budget)
 
     @classmethod
     def of(cls, image: Image, budget: Budget | None = None) -> Pe:
-        """Lists the tables of an image, such as a partial one."""
+        """Reads all tables of an image, such as one of Image.partial."""
         pe = cls.__new__(cls)
         pe._list(image, budget)
         return pe
@@ -74,7 +78,7 @@ class Pe:
         errors: list[PeError] = []
 
         def listed(rows: Iterable[Any], ends_early: bool = False) -> tuple[Any, ...]:
-            # all rows; an error that refuses no table ends them
+            # all rows, up to an error that does not refuse the table
             found: list[Any] = []
             try:
                 found.extend(rows)
@@ -99,16 +103,16 @@ class Pe:
 
     @property
     def name(self) -> bytes | None:
-        """The image's own name as a DLL."""
+        """The name of the image as a DLL, from its export directory; None if it has none."""
         return self.export_directory.name if self.export_directory else None
 
     @property
     def libraries(self) -> tuple[bytes, ...]:
-        """The names of the DLLs that it imports from, sorted, each once."""
+        """The names of the DLLs that it imports from, sorted, without repetition."""
         return tuple(sorted({it.dll for it in self.imports}))
 
     def to_json(self) -> str:
-        """All that was read, as JSON. Names are as by `printable`."""
+        """All headers and rows as JSON. `plain` says how each value is written."""
         image = self.image
         headers = ("dos_header", "coff_header", "optional_header", "rich_header", "directories")
         lists = ("sections", "rich_entries", "imports", "export_directory", "exports", "export_addresses", "relocation_blocks", "errors")

@@ -41,22 +41,22 @@ def _sorted_with_none(row: _Row) -> _Row:
 
 
 class Region(Number):
-    """Where memory of an image comes from."""
+    """Where a byte of an image in memory comes from."""
 
     UNMAPPED = 0
-    """The loader maps nothing there."""
+    """From nowhere: the loader maps nothing there."""
     HEADERS = 1
     """The headers."""
     RAW_DATA = 2
     """The raw data of a section."""
     ZEROS = 3
-    """The zeros that follow the raw data of a section."""
+    """The zeros after the raw data of a section."""
 
 
 class Memory(NamedTuple):
-    """Bytes that a loader puts into memory: `data`, then `zeros` zeros. `missing` more were asked
-    for, and are unknown. `section` is the index of the section, and `region` what is at the first
-    byte. `bytes(memory)` is the data and the zeros."""
+    """Bytes that a loader puts into memory: first `data`, then `zeros` zeros. You asked for `missing`
+    more, and nobody knows these. `section` is the index of the section, or None outside of all.
+    `region` says where the first byte comes from. `bytes(memory)` is the data and the zeros."""
 
     data: memoryview
     zeros: int
@@ -65,7 +65,7 @@ class Memory(NamedTuple):
     region: Region
 
     def whole(self) -> memoryview | None:
-        """`data`, if it is all that was asked for: no zeros follow, and nothing is missing."""
+        """`data` if it is all that you asked for; None if zeros follow, or if bytes are missing."""
         return None if self.zeros or self.missing else self.data
 
     def __bytes__(self) -> bytes:
@@ -73,9 +73,9 @@ class Memory(NamedTuple):
 
 
 class Section(NamedTuple):
-    """A section header. The name is from the string table if the stored name is a slash and a
-    number, else the stored bytes before the first NUL. In a TE file the address and the pointers
-    are moved to where they are in the file."""
+    """A section header. If the stored name is a slash and a number, the name comes from the string
+    table. Else it is the stored bytes before the first NUL. In a Terse Executable, the address and
+    the pointers are already moved to where they are in the file."""
 
     name: bytes
     stored_name: bytes
@@ -95,13 +95,14 @@ class Section(NamedTuple):
         return image._memory(LIB.goblin_pe_section_data, c.byref(_section_record(self)))
 
     def relocations(self, image: Image, budget: Budget | None = None) -> Walk[CoffRelocation]:
-        """All relocations of a section of an object, also if there are more than 65,535."""
+        """The relocations of a section of an object, also if there are more than 65,535."""
         cursor = _section_record(self).relocations
         cursor.index = int(cursor.is_extended)  # (the first record is then their number)
         return Walk(image, COFF_RELOCATIONS, cursor, budget)
 
     def with_name_offset(self, offset: int) -> Section:
-        """The same section, whose stored name leads to this offset of the string table."""
+        """The same section header with a stored name that leads to this offset of the string
+        table."""
         record = _section_record(self)
         test(LIB.goblin_pe_set_name_offset(c.byref(record), in_range(offset)), None)
         return self._replace(stored_name=bytes(record.stored_name))
@@ -114,8 +115,8 @@ class Section(NamedTuple):
 
 
 class RichHeader(NamedTuple):
-    """The Rich header: by which tools the image was made. `stored` are its bytes from the marker
-    DanS up to the marker Rich, under the key."""
+    """The Rich header, which names the tools that made the image. `stored` has its bytes from the
+    marker DanS to the marker Rich, encrypted with the key."""
 
     stored: bytes
     key: int
@@ -131,7 +132,7 @@ class RichHeader(NamedTuple):
 
 
 class RichEntry(NamedTuple):
-    """A tool, and how many files it made."""
+    """A tool, and how many object files of the image it made."""
 
     build: int
     product: int
@@ -140,10 +141,10 @@ class RichEntry(NamedTuple):
 
 @_sorted_with_none
 class Import(NamedTuple):
-    """An import, by `name`, with a `hint`, or by `ordinal`: what it has not is None. `library` and
-    `thunk_index` are the indexes of its entries in the import directory and in the lookup table.
-    The loader puts the address at `iat_rva`. The dll is empty if permissive mode could not read
-    it."""
+    """An import. An import by name has a `name` and a `hint`; an import by ordinal has an `ordinal`.
+    The other fields are None. The loader puts the address of the function at `iat_rva`. `library` is
+    the index of the import descriptor, and `thunk_index` that of the entry in its lookup table. In
+    permissive mode `dll` is empty if it can't be read."""
 
     dll: bytes
     name: bytes | None
@@ -157,8 +158,9 @@ class Import(NamedTuple):
 
 @_sorted_with_none
 class Library(NamedTuple):
-    """A DLL that the image imports from: an entry of the import directory. A DLL may have several.
-    Permissive mode skips one that has no address table."""
+    """An import descriptor: a DLL that the image imports from. Several descriptors may have the same
+    DLL. `is_skipped` says that permissive mode skips it, because it has no address table. If the
+    name can't be read, it is None, and `name_error` says why."""
 
     name: bytes | None
     name_error: PeError | None
@@ -173,7 +175,8 @@ class Library(NamedTuple):
     cursor: tuple[int, ...]
 
     def imports(self, image: Image, budget: Budget | None = None) -> Walk[Import]:
-        """The imports of this library alone. They begin at the `cursor`, which is opaque."""
+        """The imports of this library alone. `cursor` is where they begin; only the library knows
+        what its numbers mean."""
         cursor, fields = _records.ImportCursor(*self.cursor), len(_records.ImportCursor._fields_)
         if not fields - 1 <= len(self.cursor) <= fields:
             raise TypeError("the cursor of a library is wanted, not %r" % (self.cursor,))
@@ -182,7 +185,8 @@ class Library(NamedTuple):
 
 @_sorted_with_none
 class Forwarder(NamedTuple):
-    """Where an export is forwarded to: an export of another DLL, by `name` or by `ordinal`."""
+    """The export of another DLL to which an export leads, by `name` or by `ordinal`; the other one is
+    None. The `dll` has no ending, as in the file."""
 
     dll: bytes
     name: bytes | None
@@ -191,8 +195,9 @@ class Forwarder(NamedTuple):
 
 @_sorted_with_none
 class Export(NamedTuple):
-    """An export that has a name pointer. The name is None if it can't be read, and the offset if
-    the address has none."""
+    """An export that has a name pointer. `name` is None if it can't be read, `offset` if the address
+    has no file offset, and `forwarder` if the export is in this image. `hint` is the index of the
+    name pointer."""
 
     name: bytes | None
     ordinal: int
@@ -204,8 +209,8 @@ class Export(NamedTuple):
 
 
 class ExportAddress(NamedTuple):
-    """An entry of the export address table, with or without a name. The rva is 0 if the ordinal is
-    unused. Image.forwarder_at reads where it is forwarded to."""
+    """An entry of the export address table, whether or not it has a name. The rva is 0 if the ordinal
+    is unused. For a forwarder, Image.forwarder_at(rva) says where it leads."""
 
     ordinal: int
     rva: int
@@ -213,7 +218,7 @@ class ExportAddress(NamedTuple):
 
 
 class ExportDirectory(NamedTuple):
-    """The export directory: the image's own name, and the table as stored."""
+    """The export directory: the name of the image as a DLL, and the fields as stored."""
 
     name: bytes | None
     export_flags: int
@@ -230,14 +235,15 @@ class ExportDirectory(NamedTuple):
 
 
 class BaseRelocation(NamedTuple):
-    """What a loader changes if it loads the image elsewhere. The type is an IMAGE_REL_BASED_*."""
+    """An address that the loader changes if it puts the image elsewhere than at its base. `typ` is an
+    IMAGE_REL_BASED_*: `names_of(typ, "base_relocation")` has its name."""
 
     rva: int
     typ: int
 
 
 class RelocationBlock(NamedTuple):
-    """A block of base relocations, for one page: `entries` are two bytes each."""
+    """The base relocations of one page. `entries` has two bytes for each."""
 
     rva: int
     size: int
@@ -260,7 +266,8 @@ class AuxiliaryKind(Number):
 
 
 class Auxiliary(NamedTuple):
-    """What the auxiliary records of a symbol say: the fields of its kind. All others are 0 or None.
+    """What the auxiliary records of a symbol say. Each kind fills these fields, and leaves all others
+    at 0 or None:
 
     FUNCTION_DEFINITION: tag_index, total_size, pointer_to_line_number, pointer_to_next_function.
     BEGIN_AND_END_FUNCTION: line_number, pointer_to_next_function.
@@ -290,7 +297,8 @@ class Auxiliary(NamedTuple):
 
 @_sorted_with_none
 class Symbol(NamedTuple):
-    """A symbol of an image or an object. The name is None if it can't be read."""
+    """A symbol of an image or an object. The name is None if it can't be read. `index` counts
+    auxiliary records, too: relocations name symbols by it."""
 
     index: int
     name: bytes | None
@@ -303,7 +311,7 @@ class Symbol(NamedTuple):
     aux_bytes: bytes
 
     def auxiliary(self) -> Auxiliary | None:
-        """What the auxiliary records say; None if there are none, or of no known kind."""
+        """What the auxiliary records say; None if there are none, or if their kind is unknown."""
         auxiliary, found = c.create_string_buffer(self.aux_bytes, len(self.aux_bytes) or 1), _records.Auxiliary()
         stored = _records.SymbolRecord(
             (c.c_uint8 * 8)(*self.stored_name), self.value, self.section_number, self.typ, self.storage_class, self.number_of_aux_symbols)
@@ -313,7 +321,8 @@ class Symbol(NamedTuple):
 
 
 class CoffRelocation(NamedTuple):
-    """A relocation of an object. Image.symbol_at reads the symbol."""
+    """A relocation of an object. Image.symbol_at(symbol_table_index) reads the symbol, and
+    relocation_name(machine, typ) names the type."""
 
     virtual_address: int
     symbol_table_index: int
@@ -321,13 +330,14 @@ class CoffRelocation(NamedTuple):
 
 
 class Damage(NamedTuple):
-    """What strict mode refuses of an image, part by part, and what the walks skip. `str(damage)` is
-    a line for each part that is damaged and for each count that is not 0.
+    """The parts of an image that strict mode refuses, and what the walks skip. `str(damage)` has a
+    line for each damaged part and for each count that is not 0.
 
-    skipped_libraries, skipped_entries: what permissive mode skips: libraries without an address
-        table, and imports whose hint is cut.
-    unmapped_entries, skipped_exports: what both modes skip: entries that lead nowhere, and name
-        pointers that give no export.
+    dos_stub .. relocations: why strict mode refuses this part; None if it does not.
+    skipped_libraries: how many libraries permissive mode skips, because they have no address table.
+    skipped_entries: how many imports permissive mode skips, because their hint is cut.
+    unmapped_entries: how many import entries both modes skip, because they lead nowhere.
+    skipped_exports: how many name pointers both modes skip, because they lead to no export.
     is_sound: whether both modes read the image, and read it alike.
     """
 
@@ -347,7 +357,7 @@ class Damage(NamedTuple):
         return {name: error for name, error in zip(self._fields[:5], self[:5]) if error}  # type: ignore[misc]
 
     def __str__(self) -> str:
-        lines = ["%s: %s" % it for it in self.errors().items()]
+        lines = ["%s: %s" % (name, error.args[0]) for name, error in self.errors().items()]
         texts = ("libraries are skipped", "imports are skipped", "import entries lead nowhere", "name pointers give no export")
         lines += ["%d %s" % it for it in zip(self[5:9], texts) if it[0]]
         return "".join(line + "\n" for line in lines)
