@@ -1,23 +1,35 @@
-"""The examples that map, change and look further into a file: their answers on known images, and that they end on any file."""
+"""The examples that load, change, draw and look further into a file: their answers on known images, and that they end on any file."""
+import contextlib
 import importlib.util
+import io
 import itertools
+import json
 import os
+import pathlib
+import pty
 import re
 import shutil
 import struct
+import subprocess
 import sys
 import unittest
+import unittest.mock
+import xml.etree.ElementTree
 
 from tests import hostile, images
 from tests.bindings import BINDINGS, library, package
-from tests.programs import BY_NAME, CC, FLAGS, IMAGES, SAMPLES, TERSE, TOP, Case, environment, folder, need, run, succeed
+from tests.programs import BY_NAME, CC, FLAGS, IMAGES, OBJECTS, SAMPLES, TERSE, TOP, Case, environment, folder, need, run, succeed
 
-IN_PYTHON = ("delayed_imports", "pdb_path", "resources")
+IN_PYTHON = ("delayed_imports", "pdb_path", "resources", "recipes", "map", "corpus")
 
 
 def setUpModule():
     need(CC)
     library()
+
+
+# The names in an SVG begin so.
+SVG = "{http://www.w3.org/2000/svg}"
 
 
 def built(name):
@@ -110,8 +122,8 @@ class Changes(Case):
             self.assertIn((status, b"\nsound\n" in printed), ((1, False), (0, False), (0, True)))
 
 
-class InPython(Case):
-    """The examples that read what the library leaves to others."""
+class WithExamples(Case):
+    """The examples in Python, as modules."""
 
     def setUp(self):
         super().setUp()
@@ -123,6 +135,10 @@ class InPython(Case):
             self.examples[name] = importlib.util.module_from_spec(spec)
             spec.loader.exec_module(self.examples[name])
 
+
+class InPython(WithExamples):
+    """The examples that read what the library leaves to others."""
+
     def test_what_an_image_has(self):
         for is_wide in True, False:
             image = package().Image(images.with_others(is_wide))
@@ -132,6 +148,174 @@ class InPython(Case):
             found = list(self.examples["resources"].resources(image))
             self.assertEqual([(it.path, it.size) for it in found], [(("TEXT", "README", 0), 7), ((16, 1, 0x407), 6), ((16, 1, 0x409), 6)])
             self.assertEqual([image.memory_at(it.rva, it.size).whole() for it in found], [b"content", b"ontent", b"ontent"])
+
+
+class Recipes(WithExamples):
+    """What users of pefile look for."""
+
+    BESIDE = """if True:
+        import hashlib, sys, pefile, recipes
+        from goblin_pe import Image, Options
+        version = "VS_VERSION_INFO".encode("utf-16-le")
+        for path in sys.argv[1:]:
+            data = open(path, "rb").read()
+            image, pe = Image(data, Options(permissive=True)), pefile.PE(data=data)
+            overlay, rich, rva = image.overlay(), image.rich_header, image.find_rva(data.find(version)) if version in data else None
+            ours = (len(data) - len(overlay) if overlay else None, bytes(overlay), rich.hash() if rich else "", image.imphash(),
+                    recipes.export_hash(image), image.is_exe, image.is_dll, image.is_driver, [it for _, it in recipes.entropies(image)],
+                    rva and recipes.utf16_at(image, rva))
+            theirs = (pe.get_overlay_data_start_offset(), pe.get_overlay() or b"", pe.get_rich_header_hash(), pe.get_imphash(),
+                      pe.get_exphash(), pe.is_exe(), pe.is_dll(), pe.is_driver(), [round(s.get_entropy(), 3) for s in pe.sections],
+                      rva and pe.get_string_u_at_rva(rva).decode())
+            assert ours == theirs, (path, ours, theirs)
+            print(bool(overlay), bool(rich), bool(image.imphash()), bool(recipes.export_hash(image)), bool(rva))
+        """
+
+    def test_what_an_image_has(self):
+        recipes, image = self.examples["recipes"], package().Image(BY_NAME.read_bytes())
+        # (by pefile 2023.2.7)
+        self.assertEqual(recipes.export_hash(image), "da31b1be24dd5ba29073d1ba8f7f5ab8edf868a6d216ab4154fdc16df85c38fa")
+        self.assertEqual([recipes.entropy(memoryview(it)) for it in (bytes(8), bytes(range(256)), b"ab")], [0, 8, 1])
+        self.assertIsNone(recipes.export_hash(image.with_options(package().Options(longest_name=3))))
+        self.assertEqual(recipes.export_hash(package().Image((SAMPLES / "program_x64.exe").read_bytes())), "0db52f4076c082518412afd3dd3576e2cb0c63703fd7fed5e23ade60efef31d9")
+        others = package().Image(images.with_others())
+        place = others.find_rva(bytes(others.data).find("README".encode("utf-16-le")))
+        self.assertEqual((recipes.utf16_at(others, place, 6), recipes.utf16_at(others, place, 4)), ("README", "READ"))
+        self.assertEqual(recipes.utf16_at(others, 0x7FFFFFFF), "")
+
+    def test_real_files_beside_pefile(self):
+        """The launchers that installations of Python come with, and the samples, by a Python that has pefile."""
+        python = next((it for it in (sys.executable, "/usr/bin/python3") if not run([it, "-c", "import pefile"])[0]), None)
+        if not python:
+            self.skipTest("no pefile")
+        homes = pathlib.Path(sys.base_prefix), *pathlib.Path.home().glob(".pyenv/versions/*"), pathlib.Path("/usr/lib/python3")
+        real = {it.read_bytes(): it for home in homes for it in home.glob("**/*.exe")}
+        for data in [*real][:1]:
+            real[data + b"an overlay"] = self.written("overlay.exe", data + b"an overlay")
+        env = environment(GOBLIN_PE_SO=str(library() / "libgoblin_pe.so"), PYTHONDONTWRITEBYTECODE="1",
+                          PYTHONPATH=os.pathsep.join(map(str, (BINDINGS / "python", BINDINGS / "python/examples"))))
+        lines = succeed([python, "-c", self.BESIDE, *real.values(), *IMAGES], env=env).splitlines()
+        self.assertEqual(len(lines), len(real) + len(IMAGES))
+        print("%d real files beside pefile: %s" % (len(real), ", ".join(
+            "%s %d" % (what, sum(it.split()[index] == "True" for it in lines[:len(real)]))
+            for index, what in enumerate(("overlays", "Rich headers", "imphashes", "hashes of exports", "UTF-16 texts")))))
+
+
+class Map(WithExamples):
+    """The picture of an image."""
+
+    def drawn(self, name, data):
+        """The tree of the picture of a file."""
+        file = str(self.written(name, data))
+        with contextlib.redirect_stdout(io.StringIO()) as out:
+            self.examples["map"].main(file)
+        self.assertRegex(out.getvalue(), r"\A[ -~\n]*\Z")
+        return xml.etree.ElementTree.fromstring(out.getvalue())
+
+    def parts(self, tree):
+        """What each part is called, and its place and width."""
+        return [(it.find(SVG + "title").text, float(it.find(SVG + "rect").get("x")), float(it.find(SVG + "rect").get("width")))
+                for it in tree.iter(SVG + "g") if it.find(SVG + "rect") is not None]
+
+    def test_all_parts_of_samples_are_drawn(self):
+        least, width, left = (getattr(self.examples["map"], it) for it in ("LEAST", "WIDTH", "LEFT"))
+        for sample in IMAGES:
+            with self.subTest(sample.name):
+                image = package().Image(sample.read_bytes())
+                tree = self.drawn(sample.name, sample.read_bytes())
+                parts, words = self.parts(tree), tree.find(SVG + "desc").text
+                for s in image.sections:
+                    self.assertTrue(any(it.startswith(f"{s.name.decode()} (") for it, _, _ in parts))
+                    self.assertIn(f"at {s.virtual_address:#x}, {s.size_of_raw_data} bytes", words)
+                self.assertTrue(all(one >= least - 0.1 and left <= x <= left + width - one + 0.1 for _, x, one in parts), parts)
+                self.assertIn(f"The answers depend on {sum(map(len, image.footprint()))} bytes.", words)
+                self.assertEqual((tree.get("role"), tree.get("aria-labelledby")), ("img", "title desc"))
+                self.assertIn(sample.name, tree.find(SVG + "title").text)
+
+    def test_sizes_are_to_scale_with_a_least_width(self):
+        widths = self.examples["map"].widths
+        found = widths([1, 1000, 3000, 2], 1100)
+        self.assertEqual((found[0], found[3], round(sum(found), 6), round(found[2] / found[1], 6)), (14, 14, 1100, 3))
+        self.assertEqual((widths([5, 5], 100), widths([1] * 1100, 1100), widths([], 7)), ([50, 50], [1] * 1100, []))
+
+    def test_tables_and_what_is_behind_the_sections(self):
+        data = images.with_directory(BY_NAME.read_bytes() + b"overlay", 4, len(BY_NAME.read_bytes()), 7)
+        words = [it for it, _, _ in self.parts(self.drawn("signed.dll", bytes(data)))]
+        for wanted in ("imports (table) at 0x669, 40 bytes", "overlay (overlay) at 0xc00, 7 bytes", "certificates (table) at 0xc00, 7 bytes"):
+            self.assertIn(wanted, words)
+        cut = [it for it, _, _ in self.parts(self.drawn("cut.dll", BY_NAME.read_bytes()[:-0x116]))]
+        self.assertIn(".reloc (missing bytes) at 0x40ea, 278 bytes", cut)
+
+    def test_hostile_names_are_escaped(self):
+        data = BY_NAME.read_bytes().replace(b".text\0\0", b"<&\">\x1b\n\0").replace(b".rdata\0", b"</svg>\0")
+        words = [it for it, _, _ in self.parts(self.drawn("some & <other>.dll", data))]
+        for wanted in r'<&">\x1b\x0a', "</svg>":
+            self.assertEqual(sum(it.startswith(wanted + " (") for it in words), 2)
+
+    def test_a_footprint_that_takes_too_long_is_left_out(self):
+        tree = self.drawn("names.dll", bytes(images.one_long_name(3000, 300000)))
+        self.assertIn("The answers depend on unknown bytes.", tree.find(SVG + "desc").text)
+
+    def test_no_image(self):
+        self.assertRaisesRegex(SystemExit, "no image", self.drawn, "some.obj", OBJECTS[0].read_bytes())
+
+
+class Corpus(WithExamples):
+    """A row for each file."""
+
+    FACTS = {"kind": "image", "machine": "COFF_MACHINE_X86_64", "time_date_stamp": 0, "sections": 4, "overlay": 0, "rich_hash": None,
+             "imphash": "27abfd9cfda7519d5efb3f08a2a4f3ce", "imports": 1, "exports": 2, "is_sound": True, "state": "read"}
+
+    def folder_of_files(self):
+        """Paths, and the state of each."""
+        (self.folder / "below").mkdir()
+        many = images.shared_image(3000, 50000)
+        made = {"a.dll": (BY_NAME.read_bytes(), "read"), "b.txt": (b"no image", "refused"), "below/c.dll": (bytes(many), "cut off"),
+                "below/d.dll": (bytes(100), "refused"), "e.dll": (b"MZ" + bytes((64 << 20) - 1), "too large")}
+        for name, (data, _) in made.items():
+            self.written(name, data)
+        os.mkfifo(self.folder / "f")
+        return {str(self.folder / name): state for name, (_, state) in made.items()}
+
+    def test_a_file_is_a_row_whatever_it_holds(self):
+        row, wanted = self.examples["corpus"].row, self.folder_of_files()
+        self.assertEqual({it: row(it)["state"] for it in wanted}, wanted)
+        self.assertEqual(row(str(BY_NAME)), {"file": str(BY_NAME), **self.FACTS})
+        self.assertEqual([row(str(self.folder / it))["state"] for it in ("gone.dll", "below")], ["not read"] * 2)
+        with unittest.mock.patch.object(self.examples["corpus"], "Image", side_effect=MemoryError):
+            self.assertEqual(row(str(BY_NAME))["why"], "out of memory")
+        for data in hostile.files(1):
+            self.assertEqual({*row(str(self.written("some.dll", data)))} >= {"file", "state"}, True)
+
+    def lines(self, python, *words, **how):
+        """What the program says of each file of the folder, by another Python, too."""
+        env = environment(GOBLIN_PE_SO=str(library() / "libgoblin_pe.so"), PYTHONPATH=str(BINDINGS / "python"), PYTHONDONTWRITEBYTECODE="1")
+        out = succeed([python, BINDINGS / "python/examples/corpus.py", *words, self.folder], env=env, **how)
+        return {it["file"]: it["state"] for it in map(json.loads, out.splitlines())}
+
+    def test_processes_read_a_folder(self):
+        wanted = self.folder_of_files()
+        for number in "1", "3":
+            self.assertEqual(self.lines(sys.executable, "--processes", number), wanted)
+
+    def test_a_cluster_reads_a_folder(self):
+        need("/usr/bin/python3")
+        if run(["/usr/bin/python3", "-c", "import distributed"])[0]:
+            self.skipTest("no distributed")
+        wanted = self.folder_of_files()
+        self.assertEqual(self.lines("/usr/bin/python3", "--dask", "local", "--processes", "1"), wanted)
+
+    def test_a_terminal_shows_how_far_it_is(self):
+        need("/usr/bin/python3")
+        if run(["/usr/bin/python3", "-c", "import tqdm"])[0]:
+            self.skipTest("no tqdm")
+        wanted = self.folder_of_files()
+        terminal, end = pty.openpty()
+        with os.fdopen(terminal, "rb", buffering=0) as shown, os.fdopen(end, "wb") as end:
+            env = environment(GOBLIN_PE_SO=str(library() / "libgoblin_pe.so"), PYTHONPATH=str(BINDINGS / "python"), PYTHONDONTWRITEBYTECODE="1")
+            it = subprocess.run(["/usr/bin/python3", BINDINGS / "python/examples/corpus.py", self.folder], stdout=subprocess.PIPE, stderr=end, env=env, check=True)
+            self.assertRegex(shown.read(10000), rb"100%.* 5/5 ")
+        self.assertEqual(it.stdout.count(b"\n"), len(wanted))
 
 
 class Readme(Case):
@@ -193,22 +377,17 @@ class Ends(Case):
         entries = struct.pack("<2I2H4I", 0, 0, 0, 0, 2, 0xFFFFFFFF, 0, 0x10000) * 2000  # (that lead to one long path)
         shared = images.with_parts(wide, (0x150, struct.pack("<4I", 0x20000, 0x1000, 0x20000, 0x200)), (0x400, entries), (0x10000, b"RSDS" + b"x" * 0x20000))
         yield images.with_directory(shared, 6, 0x1200, len(entries))
+        yield from (images.shared_image(3000, 50000), images.own_tables(1609), images.hostile_image(1 << 22), images.large_image())
+        yield images.one_long_name(3000, 200000)
         yield from hostile.files(1)
 
     def test_each_example_in_c(self):
         file = self.folder / "some.dll"
         commands = [*([built(it), file] for it in ("damage", "libraries", "object")), [built("walk"), "1000", file], [built("loader"), file, file],
-                    [built("patch"), file, "7", ".text", ".code", self.folder / "to.dll"], [built("imports")]]
-        self.assert_end(commands, (*self.files(), *hostile.large()))
-
-    def test_each_example_in_python(self):
-        commands = [[sys.executable, BINDINGS / f"python/examples/{it}.py", self.folder / "some.dll"] for it in IN_PYTHON]
-        self.assert_end(commands, (*self.files(), *itertools.islice(hostile.large(), 4)))
-
-    def assert_end(self, commands, files):
-        env = environment(GOBLIN_PE_SO=str(library() / "libgoblin_pe.so"), PYTHONPATH=str(BINDINGS / "python"), PYTHONDONTWRITEBYTECODE="1")
-        file = self.folder / "some.dll"
-        for index, data in enumerate(files):
+                    [built("patch"), file, "7", ".text", ".code", to],
+                    *([sys.executable, BINDINGS / f"python/examples/{it}.py", file] for it in IN_PYTHON if it != "corpus"),
+                    [sys.executable, BINDINGS / "python/examples/corpus.py", "--processes", "1", self.folder]]
+        for index, data in enumerate(self.files()):
             file.write_bytes(data)
             for command in commands:
                 with self.subTest(index=index, command=os.path.basename(command[1] if command[0] == sys.executable else command[0])):

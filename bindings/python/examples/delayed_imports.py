@@ -64,7 +64,7 @@ def main(*paths: str) -> None:
     """Lists those of each file."""
     for path in paths:
         try:
-            with Image.open(path, Options(permissive=True)) as image:
+            with Image.open(path, Options(permissive=True, longest_name=512)) as image:
                 for it in delayed(image):
                     name = "#%d" % it.ordinal if it.name is None else printable(it.name)
                     print("%s: %s %s %#x" % (path, printable(it.dll), name, it.iat_rva))

@@ -44,7 +44,7 @@ def main(*paths: str) -> None:
     """Lists those of each file."""
     for path in paths:
         try:
-            with Image.open(path, Options(permissive=True)) as image:
+            with Image.open(path, Options(permissive=True, longest_name=512)) as image:
                 for pdb in pdbs(image):
                     print("%s: %s %s" % (path, printable(pdb.path), pdb.key))
         except (OSError, PeError) as error:

@@ -59,7 +59,7 @@ def main(*paths: str) -> None:
     """Lists those of each file."""
     for path in paths:
         try:
-            with Image.open(path, Options(permissive=True)) as image:
+            with Image.open(path, Options(permissive=True, longest_name=512)) as image:
                 for it in resources(image):
                     names = "/".join(str(x) if isinstance(x, int) else printable(x.encode("utf-8", "replace")) for x in it.path)
                     print("%s: %s %#x %d" % (path, names, it.rva, it.size))

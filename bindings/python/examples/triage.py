@@ -1,19 +1,21 @@
-"""What analysts compare of each file of a folder, a line of JSON each: triage.py FOLDER. All work on a
-file is limited by one budget, and by the number and the bytes of its sections: `cut_off` says what
-was not read to its end. What imports only Windows finds, and what only a reader that takes raw
-pointers as stored, has a finding of its own: packers hide imports so. A damaged file has a line, too."""
+"""Writes what analysts compare of each file of a folder, a line of JSON each: triage.py FOLDER. One
+budget limits all work on a file, and the number and the bytes of its sections are limited, too.
+`cut_off` says that a file was not read to its end. Windows rounds raw pointers and maps the headers,
+so packers can hide imports from other readers: `never_loaded` has the imports that Windows does not
+find and others do, and `in_headers` those that it finds in the headers. A damaged file has a line,
+too."""
 import concurrent.futures
 import dataclasses
 import hashlib
 import itertools
 import json
-import math
 import os
 import sys
 from collections import Counter
 from typing import Any, Dict, Iterator, List, Set, Tuple
 
 from goblin_pe import Budget, Image, Kind, Mapping, Options, OutOfSteps, PeError, names_of, printable
+from recipes import entropy
 
 OPTIONS = Options(permissive=True, longest_name=512)
 STEPS = 100_000
@@ -21,14 +23,8 @@ SECTIONS = 200
 Key = Tuple[bytes, Any]
 
 
-def entropy(data: memoryview) -> float:
-    """How random bytes are: 0, where all are alike, up to 8 bits each."""
-    shares = [count / len(data) for count in Counter(data).values()]
-    return round(sum(share * math.log2(1 / share) for share in shares), 3)
-
-
 def sections(image: Image) -> Iterator[Dict[str, Any]]:
-    """What each section is like. Sections may overlap: no more bytes are hashed than the file has."""
+    """What each section is like. Sections may overlap, so no more bytes are hashed than the file has."""
     left = len(image.data)
     for s in itertools.islice(image.sections, SECTIONS):
         data = s.data(image).data[:left]
@@ -64,10 +60,10 @@ def limited(image: Image, budget: Budget) -> Iterator[Tuple[str, Any]]:
     yield "in_headers", first(loaded - keys(image, Mapping.BY_FILE_ALIGNMENT, budget))
 
 
-def told_of(image: Image) -> Dict[str, Any]:
-    """What is told of an image, be it whole or not."""
+def facts(image: Image) -> Dict[str, Any]:
+    """What a line says of an image, whether or not it is whole."""
     optional, rich, overlay = image.optional_header, image.rich_header, image.overlay()
-    told: Dict[str, Any] = {
+    found: Dict[str, Any] = {
         "machine": names_of(image.coff_header.machine, "machine")[0],
         "time_date_stamp": image.coff_header.time_date_stamp, "is_64": image.is_64, "is_lib": image.is_lib,
         "entry": image.entry, "entry_region": image.memory_at(image.entry, 0).region.name,
@@ -75,32 +71,32 @@ def told_of(image: Image) -> Dict[str, Any]:
         "rich_hash": rich and rich.hash(), "overlay": len(image.data) - len(overlay) if overlay else None,
         "header_faults": {part: str(error) for part, error in image.header_faults.items()}}
     if len(image.sections) > SECTIONS:
-        told["cut_off"] = True
+        found["cut_off"] = True
     try:
         for what, value in limited(image, Budget(STEPS)):
-            told[what] = value
+            found[what] = value
     except OutOfSteps:
-        told["cut_off"] = True
+        found["cut_off"] = True
     except PeError as error:
-        told["refused"] = str(error)
-    return {**told, "sections": list(sections(image))}
+        found["refused"] = str(error)
+    return {**found, "sections": list(sections(image))}
 
 
 def triaged(path: str) -> Dict[str, Any]:
-    """What is told of a file."""
-    told: Dict[str, Any] = {"file": os.path.basename(path)}
+    """The line of a file."""
+    found: Dict[str, Any] = {"file": os.path.basename(path)}
     try:
         with open(path, "rb") as file:
             data = file.read()
     except OSError as error:
-        return {**told, "refused": str(error)}
+        return {**found, "refused": str(error)}
     kind = Kind.of(data)
     if kind != Kind.IMAGE:
-        return {**told, "kind": kind.name.lower()}
+        return {**found, "kind": kind.name.lower()}
     with Image.partial(data, OPTIONS) as image:
-        return {**told, "kind": "image", "refused": image.refusal and str(image.refusal), **told_of(image)}
+        return {**found, "kind": "image", "refused": image.refusal and str(image.refusal), **facts(image)}
 
 
 with concurrent.futures.ThreadPoolExecutor(4) as threads:
-    for told in threads.map(triaged, sorted(it.path for it in os.scandir(sys.argv[1]) if it.is_file())):
-        print(json.dumps(told))
+    for found in threads.map(triaged, sorted(it.path for it in os.scandir(sys.argv[1]) if it.is_file())):
+        print(json.dumps(found))
