@@ -1,8 +1,9 @@
 #!/usr/bin/env python3
 """Measures how many files a second the example corpus.py reads, and how many pefile reads in its place: corpus_beside_pefile.py
 FOLDER [PROCESSES..]. Both make the same rows, and the same function hands the files to processes. The files are read once before,
-so that they are in memory. The last line says how many rows are alike, without the damage, which pefile does not report."""
+so that they are in memory. If the machine is busy, compare the times of the processor. The last line says how many rows are alike, without the damage, which pefile does not report."""
 import hashlib
+import os
 import pathlib
 import sys
 import time
@@ -45,9 +46,11 @@ def main(folder: str, *processes: str) -> None:
     rows = []
     for number in map(int, processes or ("1", "4")):
         for name, function in ("goblin_pe", corpus.row), ("pefile", by_pefile):
-            begun = time.perf_counter()
+            begun, before = time.perf_counter(), os.times()
             rows.append(list(corpus.by_processes(function, paths, number)))
-            print("%s, %d processes: %.0f files a second" % (name, number, len(paths) / (time.perf_counter() - begun)), flush=True)
+            seconds, used = time.perf_counter() - begun, sum(os.times()[:4]) - sum(before[:4])
+            print("%s, %d processes: %.0f files a second, %.2f milliseconds of the processor for each" % (
+                name, number, len(paths) / seconds, 1000 * used / len(paths)), flush=True)
     alike = 0
     for ours, theirs in zip(rows[0], rows[1]):
         different = {it for it in theirs if it != "why" and theirs[it] != ours.get(it)} if "machine" in theirs and "machine" in ours else (

@@ -1,7 +1,6 @@
-"""Builds the wheel, as pip asks for it (PEP 517, PEP 660), and needs nothing but Python: the module, and beside it the
-shared library that bindings/build made. The wheel is for this processor, for a C library that is no older than the shared
-library needs, and for each CPython from 3.9 on, whose buffers it asks for by two calls. Its bytes depend on these files
-alone, and on SOURCE_DATE_EPOCH where that is set."""
+"""Builds the wheel when pip asks for it (PEP 517, PEP 660), and needs only Python. The wheel has the package, and in it the shared
+library that bindings/build made. It is for this processor, for a C library that is at least as new as the shared library needs, and
+for CPython from 3.9 on. Its bytes depend only on these files, and on SOURCE_DATE_EPOCH if that is set."""
 import base64
 import hashlib
 import os
@@ -16,7 +15,7 @@ LIBRARY = os.environ.get("GOBLIN_PE_SO", os.path.join(HERE, "../lib/libgoblin_pe
 
 
 class UnsupportedOperation(Exception):
-    """What pip takes for an answer where there is no such thing to build."""
+    """The error by which pip learns that something can't be built."""
 
 
 def read(*path):
@@ -26,7 +25,7 @@ def read(*path):
 
 
 def project():
-    """What pyproject.toml says of the project. Python has no reader of that before 3.11, so each value has a line."""
+    """The values of the project in pyproject.toml. Python has no reader for it before 3.11, so each value has a line of its own."""
     lines = read("pyproject.toml").decode().split("[project]")[1]
     return dict(re.findall(r'(?m)^([\w-]+) = "(.*)"$', lines)), re.findall(r'(?m)^ +"(.*)",$', lines)
 
@@ -43,21 +42,21 @@ def metadata():
 
 
 def needed(library):
-    """The version of the C library that a shared library needs, as its two numbers; manylinux knows none below 2.5."""
+    """The version of the C library that a shared library needs, as two numbers. The lowest that manylinux knows is 2.5."""
     found = re.findall(rb"GLIBC_(\d+)\.(\d+)", library)
     return max([(2, 5), *((int(major), int(minor)) for major, minor in found)])
 
 
 def tag(library):
-    """For which machines a wheel with this shared library is; one that leads to a folder is for this one, and names no
-    C library."""
+    """The machines for which a wheel with this shared library is. A wheel that leads to a folder is for this machine, and names no C
+    library."""
     system = "manylinux_%d_%d" % needed(library) if library and sys.platform == "linux" else sys.platform
-    # (each CPython since 3.9 has PyObject_GetBuffer, though its stable interface only from 3.11 on; other Pythons have it not)
+    # (CPython has PyObject_GetBuffer since 3.9, in its stable interface only from 3.11 on; other Pythons lack it)
     return "cp39-abi3-%s_%s" % (system, platform.machine())
 
 
 def information(library=b""):
-    """The folder that tells of the package, by the places of its files."""
+    """The files that describe the package, by their places."""
     values, _ = project()
     wheel = "Wheel-Version: 1.0\nGenerator: goblin_pe\nRoot-Is-Purelib: false\nTag: %s\n" % tag(library)
     files = {"METADATA": metadata(), "WHEEL": wheel.encode(), "licenses/LICENSE": read("LICENSE")}
@@ -67,13 +66,13 @@ def information(library=b""):
 def module():
     """The files of the module by their places in the wheel, the library among them."""
     if not os.path.exists(LIBRARY):
-        raise FileNotFoundError("there is no %s: run bindings/build first, or say by the variable GOBLIN_PE_SO where it is" % LIBRARY)
+        raise FileNotFoundError("there is no %s: run bindings/build first, or set the variable GOBLIN_PE_SO to its path" % LIBRARY)
     names = [it for it in os.listdir(os.path.join(HERE, "goblin_pe")) if it.endswith((".py", ".typed"))]
     return {**{"goblin_pe/" + it: read("goblin_pe", it) for it in names}, "goblin_pe/libgoblin_pe.so": read(os.path.abspath(LIBRARY))}
 
 
 def written(folder, files):
-    """Writes a wheel with these files, by their places, and answers its name."""
+    """Writes a wheel with these files, by their places, and returns its name."""
     values, _ = project()
     library = files.get("goblin_pe/libgoblin_pe.so", b"")
     stem = "%s-%s" % (values["name"], values["version"])
@@ -96,7 +95,7 @@ def build_wheel(wheel_directory, config_settings=None, metadata_directory=None):
 
 
 def build_editable(wheel_directory, config_settings=None, metadata_directory=None):
-    """A wheel that leads to this folder, whose module takes the library from bindings/lib."""
+    """A wheel that leads to this folder, where the package loads the library of bindings/lib."""
     return written(wheel_directory, {"goblin_pe.pth": HERE.encode() + b"\n"})
 
 

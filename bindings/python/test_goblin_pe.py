@@ -17,6 +17,7 @@ import pickle
 import pydoc
 import struct
 import tempfile
+import time
 import tracemalloc
 import unittest
 import unittest.mock
@@ -745,6 +746,19 @@ class Places(unittest.TestCase):
                              lambda it: image.memory_at(it, 1), lambda it: image.memory_at(0, it)):
                     self.assertRaises(OverflowError, call, rva)
         self.assertEqual([image.find_offset(it) for it in (2**32 - 1, 2**32, 2**64 - 1)], [2**32 - 1, None, None])
+
+    def test_a_look_up_in_many_sections_ends_soon(self):
+        """In 2.6 MB of section headers: find_rva looks at each twice, for offsets that are near, far and nowhere."""
+        count = 65000
+        data = bytearray(DATA[:SIGNATURE + 24 + 240])
+        for i in range(count):
+            data += struct.pack("<8s8I", b".data", 0x1000, 0x1000 * (i + 1), 0x200, 0x200 * (i + 6000), 0, 0, 0, 0)
+        struct.pack_into("<H", data, SIGNATURE + 6, count)
+        image, begun = Image.partial(data), time.process_time()
+        for index in 0, count // 2, count - 1:
+            self.assertEqual(image.find_rva(0x200 * (index + 6000) + 5), 0x1000 * (index + 1) + 5)
+        self.assertIsNone(image.find_rva(1 << 62))
+        self.assertLess(time.process_time() - begun, 0.2)
 
     def test_the_data_of_sections(self):
         data = sample("align16_x64.dll")

@@ -15,13 +15,13 @@ from goblin_pe import Budget, Image, Kind, Options, OutOfSteps, PeError, names_o
 
 OPTIONS = Options(permissive=True, longest_name=512)
 STEPS, LARGEST = 100_000, 64 << 20
-# How many files a worker is given at once.
+# How many files a worker gets at once.
 CHUNK = 16
 Row = Dict[str, Any]
 
 
 def facts(image: Image, budget: Budget) -> Iterator[Row]:
-    """What a row says of an image. Each part is independent of the later ones."""
+    """The facts of a row, in parts. If the budget is used up, the row has the parts before."""
     rich, overlay = image.rich_header, image.overlay()
     yield {"machine": names_of(image.coff_header.machine, "machine")[0], "time_date_stamp": image.coff_header.time_date_stamp,
            "sections": len(image.sections), "overlay": len(overlay), "rich_hash": rich and rich.hash()}
@@ -32,7 +32,7 @@ def facts(image: Image, budget: Budget) -> Iterator[Row]:
 
 
 def row(path: str) -> Row:
-    """The row of one file. Whatever the file holds, it raises nothing, and ends soon."""
+    """The row of one file. Whatever the file holds, this raises no error, and ends soon."""
     found: Row = {"file": path}
     try:
         with open(path, "rb") as file:

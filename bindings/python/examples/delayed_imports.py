@@ -1,5 +1,5 @@
-"""Lists the imports that are delayed until they are called, which the library leaves to others: delayed_imports.py FILE.. Libraries
-may share a table, so the number of look-ups in a file is limited."""
+"""Lists the delay-load imports of images: delayed_imports.py FILE.. The library does not read these, so this program reads them by
+memory_at. Libraries may share a table, so the number of look-ups in a file is limited."""
 import itertools
 import struct
 import sys
@@ -11,7 +11,8 @@ LOOK_UPS, LONGEST = 5_000, 512
 
 
 class Delayed(NamedTuple):
-    """A delayed import: its DLL, its name (None if it is by ordinal), its ordinal or hint, and the address of its slot."""
+    """A delayed import: its DLL, its name (None if it is by ordinal), its ordinal or hint, and the address of its entry in the import
+    address table."""
 
     dll: bytes
     name: Optional[bytes]
@@ -30,7 +31,7 @@ def text_at(image: Image, rva: int) -> bytes:
 
 
 def entries(image: Image, dll: bytes, names: int, slots: int, base: int) -> Iterator[Delayed]:
-    """The imports of a library, whose tables of names and of slots have these addresses."""
+    """The imports of a library, from the addresses of its lookup table and its import address table."""
     size = 8 if image.is_64 else 4
     for index in itertools.count():
         number = number_at(image, names + size * index, size)
@@ -42,9 +43,9 @@ def entries(image: Image, dll: bytes, names: int, slots: int, base: int) -> Iter
 
 
 def delayed(image: Image) -> Iterator[Delayed]:
-    """The delayed imports of an image, library by library. Records of old images for 32 bits have addresses with the base."""
+    """The delayed imports of an image, library by library. In old images for 32 bits, addresses include the image base."""
     directory = image.directories[DirectoryType.DELAY_IMPORT_DESCRIPTOR]
-    # (a look-up takes as long as there are sections)
+    # (the time of a look-up grows with the number of sections)
     most = LOOK_UPS * 96 // max(96, len(image.sections))
     table = bytes(image.memory_at(directory.virtual_address, 32 * most if any(directory) else 0).data)
     for (record,) in struct.iter_unpack("<32s", table[: len(table) // 32 * 32]):
@@ -61,7 +62,7 @@ def delayed(image: Image) -> Iterator[Delayed]:
 
 
 def main(*paths: str) -> None:
-    """Lists those of each file."""
+    """Lists the delayed imports of each file."""
     for path in paths:
         try:
             with Image.open(path, Options(permissive=True, longest_name=512)) as image:

@@ -10,7 +10,7 @@ Wanted = Union[bytes, int]
 
 
 def find(image: Image, wanted: Wanted) -> Tuple[int, Optional[Forwarder]]:
-    """The address of an export, and where it is forwarded to."""
+    """The address of an export, and its forwarder if it has one."""
     if isinstance(wanted, int):
         address = image.find_export_by_ordinal(wanted)
         if address:
@@ -23,7 +23,7 @@ def find(image: Image, wanted: Wanted) -> Tuple[int, Optional[Forwarder]]:
 
 
 def follow(folder: str, dll: str, wanted: Wanted) -> None:
-    """Follows an export to where it is."""
+    """Follows an export to the DLL that has it."""
     for _ in range(8):  # (a hostile folder may lead in a circle)
         with Image.open(os.path.join(folder, dll), Options(permissive=True, longest_name=512)) as image:
             rva, forwarder = find(image, wanted)

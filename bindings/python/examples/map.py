@@ -1,6 +1,6 @@
-"""Draws an image as a picture, one SVG on standard output: map.py FILE. A band shows the bytes of the file from front to end: headers,
-sections, tables, the overlay, and the bytes on which the answers of the library depend. A band below shows the memory that a loader
-makes of the file. Sizes are to scale, but nothing is narrower than its name. Only the first sections are drawn."""
+"""Draws an image as a picture, and writes it as SVG: map.py FILE. A band shows the bytes of the file from front to end: headers,
+sections, tables and the overlay. A strip shows the bytes on which the answers of the library depend. A band below shows the memory
+that a loader makes of the file. Sizes are to scale, but each part has a least width. Only the first sections are drawn."""
 import bisect
 import html
 import itertools
@@ -20,7 +20,7 @@ SECTIONS, LONGEST, SECONDS = 24, 14, 0.15
 WIDTH, LEFT, LEAST, HEIGHT, LETTER = 1100, 80, 14, 92, 6.6
 MIDDLE = ' text-anchor="middle"'
 
-# What each part is filled with. In print, darker is: run, written, read.
+# The fill of each kind of part. Printed in grey, executable sections are the darkest, and other sections the lightest.
 FILLS = {"headers": "#d0d0d0", "executable section": "#e59866", "writable section": "#aed6f1", "other section": "#eafaf1",
          "table": "#ffffff", "overlay": "url(#lines)", "zeros": "url(#dots)", "missing bytes": "url(#cross)"}
 PATTERNS = (("lines", "M0 6L6 0"), ("dots", "M1 1h1M4 4h1"), ("cross", "M0 0L6 6M0 6L6 0"))
@@ -51,8 +51,8 @@ def kind_of(section: Section) -> str:
 
 
 def place_of(image: Image, s: Section) -> Tuple[int, int]:
-    """Where the loader takes the data of a section from, and how many bytes."""
-    is_shown = image.memory_at(s.virtual_address, 0).section == s.index  # (else another section lies above it)
+    """The file offset of the data that the loader reads into a section, and their size."""
+    is_shown = image.memory_at(s.virtual_address, 0).section == s.index  # (if not, another section hides it)
     begin = image.find_offset(s.virtual_address) if is_shown else None
     return s.pointer_to_raw_data if begin is None else begin, len(s.data(image).data)
 
@@ -84,7 +84,7 @@ def tables_of(image: Image) -> Iterator[Part]:
 
 
 def parts_of_memory(image: Image, sections: List[Section]) -> Iterator[Part]:
-    """The headers, and each section: its data, the zeros after them, and what a cut file lacks."""
+    """The headers, and the data of each section, the zeros after them, and the bytes that a cut file lacks."""
     optional = image.optional_header
     yield Part(0, optional.windows_fields.size_of_headers if optional else 0, "headers", "headers")
     for s in sections:
@@ -105,8 +105,8 @@ def send_footprint(path: str, to: multiprocessing.connection.Connection) -> None
 
 
 def footprint(path: str) -> Optional[List[range]]:
-    """The footprint of a file; None if the file is refused, or if it takes too long. No budget limits its time, so it is made by a
-    process of its own."""
+    """The footprint of a file; None if the file is refused, or if it needs too much time. No budget limits that time, so a process of
+    its own computes the footprint."""
     come, go = multiprocessing.Pipe(duplex=False)
     process = multiprocessing.get_context("fork").Process(target=send_footprint, args=(path, go))
     process.start()
@@ -126,7 +126,7 @@ def cut(parts: Iterator[Part], end: int) -> List[Part]:
 
 
 def widths(sizes: List[int], total: float) -> List[float]:
-    """How wide parts of such sizes are: to scale, but not below the least width."""
+    """The widths of parts of these sizes: to scale, but not below the least width."""
     least, left, size, found = min(LEAST, total / max(len(sizes), 1)), total, sum(sizes), [0.0] * len(sizes)
     for index in sorted(range(len(sizes)), key=sizes.__getitem__):
         found[index] = max(least, sizes[index] * left / size)
@@ -135,7 +135,7 @@ def widths(sizes: List[int], total: float) -> List[float]:
 
 
 class Scale:
-    """Where offsets are on a band. Gaps in memory, where no part is, may be shortened."""
+    """The place of each offset on a band. Gaps between parts in memory may be shortened."""
 
     def __init__(self, parts: List[Part], end: int, shortens: bool) -> None:
         self.ends = sorted({0, end, *(it.begin for it in parts), *(it.end for it in parts)})
@@ -176,7 +176,7 @@ def said(part: Part) -> str:
 
 
 def lanes(parts: List[Part], most: int) -> Iterator[Tuple[int, Part]]:
-    """Each part with the row that it is drawn in, so that none hides another. What finds no row is left out."""
+    """Each part and its row, so that no part hides another. A part is left out if no row has room for it."""
     ends: List[int] = []
     for it in parts:
         lane = next((index for index, end in enumerate(ends) if end <= it.begin), len(ends))
@@ -186,7 +186,7 @@ def lanes(parts: List[Part], most: int) -> Iterator[Tuple[int, Part]]:
 
 
 def band(name: str, parts: List[Part], scale: Scale, y: float) -> Tuple[List[str], float]:
-    """A band of parts in at most three rows, with its name at the left: what draws it, and where it ends."""
+    """The drawing of a band of parts in at most three rows, with its name at the left, and the height at which it ends."""
     placed, at = list(lanes(parts, 3)), ' text-anchor="end"'
     drawing = [text(LEFT - 8, y + HEIGHT / 2 + 4, name, at)]
     if len(placed) < len(parts):
@@ -197,7 +197,7 @@ def band(name: str, parts: List[Part], scale: Scale, y: float) -> Tuple[List[str
 
 
 def ruler(scale: Scale, y: float) -> Iterator[str]:
-    """The offsets at the ends of parts, as far as there is room."""
+    """The offsets at the ends of parts, if there is room for them."""
     last = -100.0
     for offset, x in zip(scale.ends, scale.places):
         number = "%#x" % offset
@@ -209,7 +209,7 @@ def ruler(scale: Scale, y: float) -> Iterator[str]:
 def needed(ranges: Optional[List[range]], scale: Scale, y: float) -> Iterator[str]:
     """The bytes on which the answers depend."""
     if ranges is None:
-        yield text(LEFT, y + 12, "not drawn: it takes too long, or the file is refused")
+        yield text(LEFT, y + 12, "not drawn, because it needs too much time, or because the file is refused")
     begin = end = -1.0
     for it in itertools.chain(ranges or (), [None]):
         one, two = (scale(it.start), scale(it.stop)) if it else (1e9, 1e9)

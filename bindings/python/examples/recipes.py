@@ -26,7 +26,7 @@ def export_hash(image: Image, budget: Optional[Budget] = None) -> Optional[str]:
 
 
 def entropy(data: memoryview) -> float:
-    """How random bytes are, as pefile's get_entropy: from 0, if all are alike, to 8 bits for each."""
+    """How random bytes are, as pefile's get_entropy: from 0, if all are the same, to 8."""
     shares = [count / len(data) for count in Counter(data).values()]
     return round(sum(share * math.log2(1 / share) for share in shares), 3)
 
@@ -41,7 +41,7 @@ def entropies(image: Image) -> Iterator[Tuple[bytes, float]]:
 
 
 def utf16_at(image: Image, rva: int, longest: int = LONGEST) -> str:
-    """The UTF-16 text from an address up to a NUL, or up to so many characters, as pefile's get_string_u_at_rva."""
+    """The UTF-16 text from an address up to a NUL, as pefile's get_string_u_at_rva. It has at most `longest` characters."""
     data = bytes(image.memory_at(rva, 2 * longest))
     end = next((it for it in range(0, len(data) - 1, 2) if data[it: it + 2] == b"\0\0"), len(data) & ~1)
     return data[:end].decode("utf-16-le", "replace")

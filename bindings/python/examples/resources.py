@@ -1,21 +1,21 @@
-"""Lists the resources of images: the type of each, its name, its language, its address and its size: resources.py FILE.. The library
-leaves them to others. A hostile tree may lead in a circle, or share its branches: it is followed three steps down, as loaders do,
-and only so many of its entries are looked at."""
+"""Lists the resources of images: resources.py FILE.. Each line has the type, the name, the language, the address and the size. The
+library does not read resources, so this program does. A hostile tree may lead in a circle, or share its branches. So the program goes
+three levels down, as loaders do, and limits the number of entries that it reads."""
 import struct
 import sys
 from typing import Iterator, NamedTuple, Tuple, Union
 
 from goblin_pe import DirectoryType, Image, Options, PeError, printable
 
-# How many entries are looked at, and how many characters of a name. A number with the bit leads to a directory or a name.
+# How many entries are read, and how many characters of a name. A number with the high bit leads to a directory or a name.
 MOST, LONGEST, HIGH = 5_000, 64, 1 << 31
 
-# What a resource is named by.
+# The name of a directory or a resource.
 Name = Union[int, str]
 
 
 class Resource(NamedTuple):
-    """A resource: the names on the way to it, mostly its type, its name and its language; its address, and its size in bytes."""
+    """A resource: its path (mostly type, name and language), its address, and its size in bytes."""
 
     path: Tuple[Name, ...]
     rva: int
@@ -23,12 +23,12 @@ class Resource(NamedTuple):
 
 
 def part(tree: memoryview, offset: int, size: int) -> bytes:
-    """So many bytes of the tree; zeros if they are not there."""
+    """Bytes of the tree; zeros if they are not there."""
     return bytes(tree[offset: offset + size]).ljust(size, b"\0")
 
 
 def name_of(tree: memoryview, number: int) -> Name:
-    """The name that a number gives: itself, or a text of the tree."""
+    """The name for a number: the number itself, or a text in the tree."""
     if not number & HIGH:
         return number
     length, = struct.unpack("<H", part(tree, number & ~HIGH, 2))
@@ -36,7 +36,7 @@ def name_of(tree: memoryview, number: int) -> Name:
 
 
 def below(tree: memoryview, offset: int, path: Tuple[Name, ...], left: Iterator[int]) -> Iterator[Resource]:
-    """The resources below the directory at this offset of the tree, as long as steps are left."""
+    """The resources below the directory at this offset of the tree, as long as `left` has items."""
     named, numbered = struct.unpack_from("<2H", part(tree, offset, 16), 12)
     entries = tree[offset + 16: offset + 16 + 8 * (named + numbered)]
     for (name, to), _ in zip(struct.iter_unpack("<2I", entries[: len(entries) // 8 * 8]), left):
@@ -48,7 +48,7 @@ def below(tree: memoryview, offset: int, path: Tuple[Name, ...], left: Iterator[
 
 
 def resources(image: Image) -> Iterator[Resource]:
-    """The resources of an image, in the order of their tree. The data of one is at its address: see Image.memory_at."""
+    """The resources of an image, in the order of their tree. Image.memory_at(it.rva, it.size) has the data."""
     rva = image.directories[DirectoryType.RESOURCE_TABLE].virtual_address
     # (the whole section: sizes of directories are often wrong)
     tree = image.memory_at(rva, (1 << 32) - 1).data if rva else memoryview(b"")
@@ -56,7 +56,7 @@ def resources(image: Image) -> Iterator[Resource]:
 
 
 def main(*paths: str) -> None:
-    """Lists those of each file."""
+    """Lists the resources of each file."""
     for path in paths:
         try:
             with Image.open(path, Options(permissive=True, longest_name=512)) as image:

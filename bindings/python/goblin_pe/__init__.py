@@ -64,7 +64,7 @@ __all__ = [
 ]
 __version__ = "0.5.0"
 
-# (where users find them, and with types that help() shows as they are written)
+# (help() then names this package, and shows types as they are written)
 for _it in list(globals().values()):
     if getattr(_it, "__module__", "").startswith("goblin_pe._"):
         _it.__module__ = "goblin_pe"

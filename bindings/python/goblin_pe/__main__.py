@@ -9,13 +9,13 @@ from typing import Any, Dict, List, Tuple
 
 from . import Budget, Image, Kind, Mapping, Options, Pe, PeError, Table, TableState, plain, printable
 
-# What is written of each file before its tables.
+# What is written about each file before its tables.
 HEADERS = ("refusal", "header_faults", "dos_header", "coff_header", "optional_header", "directories", "te_header", "rich_header", "sections")
 MAPPINGS = {it.name.lower().replace("_", "-"): it for it in Mapping}
 
 
 def heading(image: Image, table: Table, count: int) -> str:
-    """Whether an image has a table, and how many rows it has. Permissive mode reads imports as far as it can."""
+    """The line above the rows of a table: whether the image has it, and how many rows. Permissive mode reads refused imports, too."""
     state = image.table_state(table)
     if state is TableState.REFUSED and table is Table.IMPORTS:
         state = TableState.PRESENT
@@ -23,7 +23,7 @@ def heading(image: Image, table: Table, count: int) -> str:
 
 
 def image_lines(pe: Pe) -> Iterator[str]:
-    """The lines of an image, as pe_list has them."""
+    """The lines of an image, as pe_list writes them."""
     image, optional = pe.image, pe.image.optional_header
     fields = optional and optional.standard_fields
     yield "header machine=%#x sections=%d" % (image.coff_header.machine, len(image.sections)) + (
@@ -103,8 +103,8 @@ def opened(path: str, options: Options) -> Image:
 
 
 def write_json(path: str, asked: argparse.Namespace) -> int:
-    """Writes a line of JSON: all that is read of a file, and in `ended_early` which tables are not whole, and why. A row is written
-    as soon as it is read. Returns 1 if the file or a table can't be read to its end."""
+    """Writes a line of JSON with everything in a file. `ended_early` says which tables are not whole, and why. Each row is written as
+    soon as it is read. Returns 1 if the file or a table can't be read to its end."""
     write, budget = sys.stdout.write, Budget(asked.steps)
     found: Dict[str, Any] = {"file": path}
     early: Dict[str, str] = {}
@@ -130,7 +130,7 @@ def write_json(path: str, asked: argparse.Namespace) -> int:
 
 
 def asked_of(words: List[str]) -> argparse.Namespace:
-    """What the words ask for."""
+    """The files and options that the words ask for."""
     parser = argparse.ArgumentParser(
         prog="python -m goblin_pe", formatter_class=argparse.RawDescriptionHelpFormatter,
         description="Lists PE images, COFF objects and Terse Executables.",

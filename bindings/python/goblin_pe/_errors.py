@@ -89,7 +89,7 @@ class OutOfSteps(PeError):
     """The budget is used up, and the call is not done. What comes next in the file is unknown."""
 
 
-# The kinds by the statuses of the library, and those of a read by its causes.
+# The kind for each status of the library, and for each cause of a failed read.
 _KINDS = {1: ErrorKind.MALFORMED, 2: ErrorKind.BAD_MAGIC, 3: ErrorKind.TOO_SHORT, 7: ErrorKind.STEPS, 8: ErrorKind.KIND}
 _READS = {1: ErrorKind.BAD_OFFSET, 2: ErrorKind.TOO_BIG, 3: ErrorKind.NOT_UTF8}
 _MEMORY = 5

@@ -242,8 +242,8 @@ class Image:
     @property
     def is_driver(self) -> bool:
         """Whether the COFF header has the flag of an executable image, and the subsystem is NATIVE.
-        Some programs of Windows have that subsystem, too. pefile's is_driver also looks at the names
-        of libraries and sections."""
+        A few programs of Windows have that subsystem, too. pefile's is_driver looks at the names of
+        libraries and sections instead, so its answer can differ."""
         native = self._record.optional_header.windows_fields.subsystem == IMAGE_SUBSYSTEM_NATIVE
         return native and bool(self._record.coff_header.characteristics & IMAGE_FILE_EXECUTABLE_IMAGE)
 
@@ -385,7 +385,7 @@ class Image:
         wanted, longest = name.encode() if isinstance(name, str) else name, self.options.longest_name
         if longest is None or len(wanted) <= longest:
             return next((it for it in self.sections if it.name == wanted), None)
-        # (a name that was cut is longer by this limit)
+        # (a name that is longer than this limit is cut to a longer text than the wanted one)
         limited = self.with_options(dataclasses.replace(self.options, longest_name=len(wanted)))
         return next((it for it, other in zip(self.sections, limited.sections) if it.name == wanted == other.name), None)
 
@@ -444,7 +444,7 @@ class Image:
 
     def find_rva(self, offset: int) -> int | None:
         """An address that find_offset maps to this file offset; None if there is none. It looks at
-        each section twice."""
+        each section at most twice: 65,520 sections take two milliseconds."""
         found = self._looked_up(LIB.goblin_pe_find_rva, c.c_size_t, in_range(offset))
         return None if found is None else int(found.value)
 
@@ -573,7 +573,7 @@ def _directory(which: DirectoryType) -> Any:
     return lambda record: record.directories[which].virtual_address or record.directories[which].size
 
 
-# Of each table what it is walked by, and whether an image has it.
+# For each table, the kind of its walk, and a test whether an image has it.
 _TABLES: dict[Table, tuple[Any, Any]] = {
     Table.HEADER: (None, lambda record: True),
     Table.RICH_HEADER: (None, lambda record: record.rich_header.is_present),

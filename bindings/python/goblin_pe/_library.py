@@ -1,4 +1,4 @@
-"""The shared library: where it is, its calls, and the bytes that are handed to it."""
+"""The shared library, its calls, and how they get the bytes of a file."""
 import contextlib
 import ctypes as c
 import mmap
@@ -16,7 +16,7 @@ else:
 
 
 def _path() -> str:
-    # where the variable says, else beside this module, else where bindings/build puts it
+    # the path in the variable; without it beside this module, or else in the folder of bindings/build
     here = os.path.dirname(os.path.abspath(__file__))
     name = "libgoblin_pe.so"
     named = os.environ.get("GOBLIN_PE_SO")
@@ -38,7 +38,7 @@ def _load() -> c.CDLL:
     return library
 
 
-# The calls; each lets other threads run meanwhile.
+# The calls. Other threads run during each.
 LIB = _load()
 
 
@@ -49,15 +49,15 @@ class _Buffer(c.Structure):
                 ("suboffsets", c.c_void_p), ("internal", c.c_void_p)]
 
 
-# (of its own: the types of a function of c.pythonapi would be others' types, too)
+# (not those of c.pythonapi, because all users of that share the types of its functions)
 _get_buffer = c.PYFUNCTYPE(c.c_int, c.py_object, c.POINTER(_Buffer), c.c_int)(("PyObject_GetBuffer", c.pythonapi))
 _release_buffer = c.PYFUNCTYPE(None, c.POINTER(_Buffer))(("PyBuffer_Release", c.pythonapi))
 
 
 def _is_writable(view: memoryview) -> bool:
-    # whether a thread could write into the bytes, be it past this view of them: the owner of the bytes tells. Only bytes
-    # and a file that is mapped for reading are known never to let it; a view that another library makes may be for
-    # reading, and its bytes not.
+    # Whether a thread could write into the bytes, also past this view of them. The owner of the bytes decides: only bytes and a
+    # file that is mapped for reading can never be written. The view of another library may be read-only although its bytes
+    # are not.
     owner = view.obj
     while isinstance(owner, memoryview):
         owner = owner.obj
@@ -82,22 +82,22 @@ def _view(data: Data) -> memoryview:
 
 
 def kept(data: Data) -> Kept:
-    """The bytes of a buffer: themselves where no thread can write into them, and else a copy. BufferError is raised where
-    they don't lie in one piece, and TypeError where it is no buffer."""
+    """The bytes of a buffer, or a copy of them if a thread could write into them. BufferError is raised if they don't lie in one
+    piece, and TypeError if it is no buffer."""
     with _view(data) as view:
         if _is_writable(view):
             return view.tobytes()
         return data if isinstance(data, (bytes, mmap.mmap)) else view.cast("B")
 
 
-# Where there are no bytes.
+# An address for a slice without bytes.
 _NOWHERE = c.create_string_buffer(8)
 NOWHERE = c.addressof(_NOWHERE)
 
 
 @contextlib.contextmanager
 def held(data: Kept) -> Iterator[Tuple[int, int]]:
-    """The address of the bytes and their length. They stay where they are meanwhile."""
+    """The address of the bytes and their length. The bytes stay there until the end of the `with`."""
     buffer = _Buffer()
     with memoryview(data) as view:
         _get_buffer(view, c.byref(buffer), 0)

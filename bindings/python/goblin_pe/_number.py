@@ -1,9 +1,9 @@
-"""What a number with a name is."""
+"""Numbers with names."""
 import enum
 
 
 class Number(enum.IntEnum):
-    """A number that has a name, which is its text; formats for numbers, such as %d and {:#x}, take the number."""
+    """A number with a name. Its text is the name. Formats for numbers, such as %d and {:#x}, write the number."""
 
     __str__ = enum.Enum.__str__
 

@@ -14,7 +14,7 @@ if TYPE_CHECKING:
     from ._image import Image
     from ._rows import Section
 
-# Where the DOS stub begins, and where the checksum is from the PE signature on.
+# The offset of the DOS stub, and the distance of the checksum from the PE signature.
 STUB = 0x40
 _CHECK_SUM = SIZEOF_PE_MAGIC + SIZEOF_COFF_HEADER + 64
 
@@ -29,7 +29,7 @@ class Headers(NamedTuple):
 
 
 def written(record: _records.Image) -> bytes:
-    """The bytes of the header that a record says."""
+    """The bytes of the header in a record."""
     size = c.c_size_t()
     test(LIB.goblin_pe_write_header(c.byref(record), None, 0, c.byref(size)), None)
     out = c.create_string_buffer(size.value)
@@ -38,7 +38,7 @@ def written(record: _records.Image) -> bytes:
 
 
 def _header(stub: bytes, headers: Headers) -> bytes:
-    # the bytes of these headers; the library takes the stub from the bytes of an image
+    # the bytes of these headers. The library copies the stub from the bytes of an image.
     front = c.create_string_buffer(bytes(STUB) + stub, STUB + len(stub))
     record = _records.Image(kind=1, dos_stub_size=len(stub))
     record.bytes = _records.Slice(c.addressof(front), len(front))
@@ -59,43 +59,43 @@ def _counted(headers: Headers) -> int:
 
 
 def _test_header(image: Image, present: Headers, given: Headers) -> None:
-    # the headers have to lie where the file's own do
+    # the headers must lie at the same offsets as those of the file
     signature, stub = present.dos_header.pe_pointer, image._record.dos_stub_size
     places = max(_counted(present), _counted(given))
     for is_wrong, why in (
             (image._record.is_dos_stub_replaced, "permissive mode replaced the DOS stub"),
-            (STUB + stub != signature or given.dos_header.pe_pointer != signature, "the PE signature is elsewhere"),
+            (STUB + stub != signature or given.dos_header.pe_pointer != signature, "the PE signature would move"),
             (present.coff_header.size_of_optional_header != given.coff_header.size_of_optional_header,
-             "the optional header has another size"),
-            ((present.optional_header is None) != (given.optional_header is None), "an optional header is added or left out"),
-            (any(map(any, given.directories[places:])), "there are fewer data directories")):
+             "the optional header would have another size"),
+            ((present.optional_header is None) != (given.optional_header is None), "an optional header can't be added or left out"),
+            (any(map(any, given.directories[places:])), "a data directory lies past those that the header counts")):
         if is_wrong:
             raise no_place(why)
 
 
 def _test_room(image: Image, count: int) -> None:
-    # past the file's own section headers zeros are wanted, before the data of all sections
+    # new section headers replace zeros, and lie before the data of all sections
     table = image._record.section_table
     present, end = table + SIZEOF_SECTION_TABLE * len(image.sections), table + SIZEOF_SECTION_TABLE * count
     more = image.data[present:end]
     is_before = all(end <= it.pointer_to_raw_data for it in image.sections if it.size_of_raw_data and it.pointer_to_raw_data)
     if present < end and (len(more) < end - present or any(more) or not is_before):
-        raise no_place("there is no room for so many sections")
+        raise no_place("there is no room for %d sections" % count)
 
 
 def _test_directories(present: Headers, given: Headers, end: int, table: int) -> None:
-    # directories that the header counts lie in it; those of the file's own may pass it
+    # directories that the header counts must lie in it, except those that the file has already
     old, new = present.optional_header, given.optional_header
     if old and new:
         same = (old.standard_fields.magic, old.windows_fields.number_of_rva_and_sizes) == (
             new.standard_fields.magic, new.windows_fields.number_of_rva_and_sizes)
         if not same and (end > table or new.windows_fields.number_of_rva_and_sizes > NUM_DATA_DIRECTORIES):
-            raise no_place("the optional header has no room for so many data directories")
+            raise no_place("the optional header has no room for %d data directories" % new.windows_fields.number_of_rva_and_sizes)
 
 
 def _put(file: bytearray, offset: int, data: bytes) -> None:
     if offset + len(data) > len(file):
-        raise no_place("the file ends before")
+        raise no_place("the file is too short")
     file[offset: offset + len(data)] = data
 
 
@@ -114,7 +114,7 @@ def patched(image: Image, given: Headers, sections: tuple[Section, ...], checksu
         _test_directories(present, given, end[1], table)
         header = header[: max(end)]
     if header[table:] != file[table: len(header)]:
-        raise no_place("the section table is where the optional header would go on")
+        raise no_place("the optional header would overlap the section table")
     _put(file, 0, header[:table])
     if checksum:
         found = type(image)(bytes(file), image.options).checksum()

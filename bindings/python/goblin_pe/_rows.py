@@ -1,4 +1,4 @@
-"""The rows of tables, as named tuples of Python's own: they stay when the file is closed."""
+"""The rows of tables, as named tuples, which stay when the file is closed."""
 from __future__ import annotations
 
 import ctypes as c
@@ -20,7 +20,7 @@ if TYPE_CHECKING:
 
 
 def in_range(number: int) -> int:
-    """A number that the library can take. OverflowError is raised for another one."""
+    """The number, if it fits 64 bits. If not, OverflowError is raised."""
     if not 0 <= number < 1 << 64:
         raise OverflowError("a number from 0 to 2**64 - 1 is wanted, not %d" % number)
     return number
@@ -30,7 +30,7 @@ _Row = TypeVar("_Row", bound=type)
 
 
 def _sorted_with_none(row: _Row) -> _Row:
-    # a row whose fields may be None is sorted, too: None comes first. An error is sorted by its text.
+    # A row whose fields may be None can be sorted: None comes first. Errors are sorted by their text.
     def key(it: Any) -> Any:
         return tuple((field is not None, str(field) if isinstance(field, PeError) else field) for field in it)
 
@@ -271,7 +271,7 @@ class Auxiliary(NamedTuple):
 
     FUNCTION_DEFINITION: tag_index, total_size, pointer_to_line_number, pointer_to_next_function.
     BEGIN_AND_END_FUNCTION: line_number, pointer_to_next_function.
-    WEAK_EXTERNAL: tag_index, the index of the symbol that stands in, and characteristics.
+    WEAK_EXTERNAL: tag_index, the index of the symbol that replaces it, and characteristics.
     FILE: file, the name of a source file; if that is None, it is in the string table at
         string_offset.
     SECTION_DEFINITION: length, number_of_relocations, number_of_line_numbers, checksum, number and
@@ -468,7 +468,7 @@ def damage(it: Any) -> Damage:
     return Damage(*errors, *(getattr(it, name) for name in Damage._fields[5:]))
 
 
-# What each table is walked by.
+# The kind of the walk over each table.
 SECTIONS = Kind(LIB.goblin_pe_next_sections, _records.Section, _records.SectionCursor, Table.HEADER, _section)
 RICH_ENTRIES = Kind(LIB.goblin_pe_next_rich_entries, _records.RichEntry, _records.RichCursor, Table.RICH_HEADER, _rich_entry)
 IMPORTS = Kind(LIB.goblin_pe_next_imports, _records.Import, _records.ImportCursor, Table.IMPORTS, _import, counts_steps=True)

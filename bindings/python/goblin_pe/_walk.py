@@ -13,13 +13,13 @@ if TYPE_CHECKING:
 
 _Row = TypeVar("_Row", covariant=True)
 
-# How many rows are read at once: first, and then.
+# How many rows are read at once: at first, and later.
 _FIRST, _ROOM = 32, 256
 
 
 class Kind(NamedTuple):
-    """What a table is walked by: the call, its record and cursor, the table for its errors, and how a row is made of a record.
-    A call that does not count steps takes one for each row."""
+    """A kind of walk: the call, its record and cursor, the table that its errors name, and what makes a row of a record. If the call
+    does not count steps, each row is a step."""
 
     call: Any
     record: Any
