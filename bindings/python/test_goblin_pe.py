@@ -1170,6 +1170,9 @@ class Names(unittest.TestCase):
         self.assertNotIn("ctypes", text)
         self.assertNotIn("ForwardRef", text)
         self.assertIn("dos_stub: 'PeError | None'", pydoc.plain(pydoc.render_doc(goblin_pe.Damage)))
+        for it in ErrorKind, Mapping, Region, Table, TableState, Options, Budget, PeError, Pe, goblin_pe.Damage:
+            for name in getattr(it, "__members__", None) or it.__annotations__:
+                self.assertRegex(it.__doc__, r"\b%s\b" % name)
 
 
 class Idioms(unittest.TestCase):

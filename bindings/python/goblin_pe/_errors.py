@@ -11,59 +11,67 @@ from ._records import Fault
 
 
 class ErrorKind(enum.Enum):
-    """What kind of error a PeError is."""
+    """What kind of error a PeError is.
+
+    MALFORMED: the bytes violate the format. `cause` says how.
+    BAD_MAGIC: the magic of the optional header is neither PE32 nor PE32+.
+    TOO_SHORT: the file is too short for the entries that it counts.
+    BAD_OFFSET: an offset is at or past the end of the file.
+    TOO_BIG: fewer bytes follow an offset than were needed.
+    NOT_UTF8: the bytes at an offset are not UTF-8.
+    STEPS: the budget is used up.
+    KIND: the call is for images, and this is an object or a Terse Executable.
+    PLACE: the file has no place for a changed header or section.
+    UNKNOWN: this version has no name for the kind.
+    """
 
     MALFORMED = 1
-    """The bytes violate the format. `cause` says how."""
     BAD_MAGIC = 2
-    """The magic of the optional header is neither PE32 nor PE32+."""
     TOO_SHORT = 3
-    """The file is too short for the entries that it counts."""
     BAD_OFFSET = 4
-    """An offset is at or past the end of the file."""
     TOO_BIG = 5
-    """Fewer bytes follow an offset than were needed."""
     NOT_UTF8 = 6
-    """The bytes at an offset are not UTF-8."""
     STEPS = 7
-    """The budget is used up."""
     KIND = 8
-    """The call is for images, and this is an object or a Terse Executable."""
     PLACE = 9
-    """The file has no place for a changed header or section."""
     UNKNOWN = 10
-    """A kind that this version has no name for."""
 
 
 class Table(enum.Enum):
-    """A part of a file that an error is about."""
+    """A part of a file that an error is about.
+
+    HEADER: the header, with the section table and the section names.
+    RICH_HEADER: the Rich header.
+    IMPORTS: the imports and the libraries.
+    EXPORTS: the exports, with names and without.
+    RELOCATIONS: the base relocations.
+    SYMBOLS: the symbols, or the relocations of an object.
+    """
 
     HEADER = "header"
-    """The header, with the section table and the section names."""
     RICH_HEADER = "Rich header"
-    """The Rich header."""
     IMPORTS = "imports"
-    """The imports and the libraries."""
     EXPORTS = "exports"
-    """The exports, with names and without."""
     RELOCATIONS = "relocations"
-    """The base relocations."""
     SYMBOLS = "symbols"
-    """The symbols, or the relocations of an object."""
 
 
 class PeError(ValueError):
     """A file, a table or a part of one can't be read. `str(error)` is the table, a colon, and what
-    is wrong with it; `error.args[0]` is what is wrong alone. Errors of the same kind, cause and
-    numbers are equal. If memory is refused, MemoryError is raised in place of a PeError."""
+    is wrong; `error.args[0]` is what is wrong alone. Errors of the same kind, cause and numbers are
+    equal. If memory is refused, MemoryError is raised in place of a PeError.
+
+    kind: what kind of error it is.
+    cause: how the file is malformed; None for other kinds.
+    numbers: the two numbers of the error, such as an offset and a size; 0 for each that the kind
+        lacks.
+    table: the part of the file that could not be read; None for a look-up and for damage().
+    """
 
     kind: ErrorKind
     cause: Cause | None
-    """How the file is malformed; None for other kinds."""
     numbers: tuple[int, int]
-    """The numbers of the error, such as an offset and a size; 0 for each that the kind lacks."""
     table: Table | None
-    """The part of the file that could not be read; None for a look-up and for damage()."""
 
     def __init__(self, text: str, kind: ErrorKind, cause: Cause | None = None, numbers: tuple[int, int] = (0, 0),
                  table: Table | None = None) -> None:

@@ -30,7 +30,8 @@ _Path = Union[str, "os.PathLike[str]"]
 
 
 class Kind(Number):
-    """What a file is, by its first bytes. No call reads the last three kinds."""
+    """What a file is, by its first bytes. Image reads images, Image.object objects, and Image.te Terse
+    Executables. No call reads archives, import objects and big objects."""
 
     UNKNOWN = 0
     IMAGE = 1
@@ -48,15 +49,17 @@ class Kind(Number):
 
 
 class TableState(enum.Enum):
-    """Whether an image has a table, and whether it can be walked over."""
+    """Whether an image has a table, and whether it can be walked over.
+
+    ABSENT: the image has no such table.
+    PRESENT: a walk gives its rows as far as they can be read.
+    REFUSED: strict mode refuses it as a whole. In permissive mode, a walk over imports gives those
+        that can be read, and a walk over another table gives none.
+    """
 
     ABSENT = "absent"
-    """The image has no such table."""
     PRESENT = "present"
-    """The image has it, and a walk gives its rows as far as they can be read."""
     REFUSED = "refused"
-    """Strict mode refuses it as a whole. In permissive mode a walk over it gives no row. One
-    exception: a walk over imports gives those that can be read."""
 
 
 class Image:
@@ -320,7 +323,7 @@ class Image:
 
     @property
     def sections(self) -> tuple[Section, ...]:
-        """The section headers."""
+        """The section headers. They are read at the first use, and kept."""
         if self._sections is None:
             self._sections = tuple(Walk(self, SECTIONS))
         return self._sections
@@ -449,7 +452,8 @@ class Image:
         return None if found is None else int(found.value)
 
     def memory_at(self, rva: int, size: int) -> Memory:
-        """What a loader puts at an address: at most `size` bytes, up to the end of the section."""
+        """What a loader puts at an address: at most `size` bytes, up to the end of the section. If the
+        loader maps nothing there, all bytes are missing."""
         return self._memory(LIB.goblin_pe_memory_at, in_range(rva), in_range(size))
 
     def text_at(self, rva: int) -> bytes:
@@ -531,7 +535,7 @@ class Image:
         return self.data[max(ends, default=len(self.data)):]
 
     def checksum(self) -> int | None:
-        """The checksum that belongs into `check_sum` of the optional header; None if there is no
+        """The checksum that belongs in `check_sum` of the optional header; None if there is no
         optional header."""
         found = self._looked_up(LIB.goblin_pe_checksum, c.c_uint32)
         return None if found is None else int(found.value)

@@ -11,31 +11,36 @@ from ._number import Number
 class Mapping(Number):
     """How addresses are mapped to file offsets, and where the raw data of a section begins. The first
     three agree inside sections whose raw pointer is a multiple of 512, as the specification asks
-    for."""
+    for.
+
+    AS_LOADED: as Windows maps. The raw pointer is rounded down to a multiple of 512 if the file
+        alignment is at least 512. The headers are mapped at address 0.
+    BY_FILE_ALIGNMENT: as pefile maps. The raw pointer is rounded as by AS_LOADED. The headers are not
+        mapped.
+    AS_STORED: as goblin maps. The raw pointer is used as stored. The headers are not mapped.
+    IDENTITY: an address is a file offset. This is for a dump of an image in memory.
+    """
 
     AS_LOADED = 0
-    """As Windows maps. The raw pointer is rounded down to a multiple of 512 if the file alignment is
-    at least 512. The headers are mapped at address 0."""
     BY_FILE_ALIGNMENT = 1
-    """As pefile maps. The raw pointer is rounded as by AS_LOADED. The headers are not mapped."""
     AS_STORED = 2
-    """As goblin maps. The raw pointer is used as stored. The headers are not mapped."""
     IDENTITY = 3
-    """An address is a file offset. This is for a dump of an image in memory."""
 
 
 @dataclasses.dataclass(frozen=True)
 class Options:
     """How a file is read. dataclasses.replace makes changed options. ValueError is raised if
-    `longest_name` is not from 1 to 2**32 - 1, and TypeError if it is no int."""
+    `longest_name` is not from 1 to 2**32 - 1, and TypeError if it is no int.
+
+    permissive: whether damaged parts are skipped. If not, they are refused.
+    mapping: how addresses are mapped to file offsets.
+    longest_name: how many bytes of a name are read; None reads all. A longer name is cut after the
+        character that passes the limit, so a name was cut if it is longer than the limit.
+    """
 
     permissive: bool = False
-    """Whether damaged parts are skipped. If not, they are refused."""
     mapping: Mapping = Mapping.AS_LOADED
-    """How addresses are mapped to file offsets."""
     longest_name: int | None = None
-    """How many bytes of a name are read; None reads all. A longer name is cut after the character
-    that passes the limit, so a name was cut if it is longer than the limit."""
 
     def __init__(self, *, permissive: bool = False, mapping: Mapping = Mapping.AS_LOADED, longest_name: int | None = None) -> None:
         if isinstance(longest_name, bool):
@@ -56,11 +61,13 @@ class Budget:
     the names. Image.libraries and Image.footprint can take longer.
 
     Walks read their rows in batches. So the budget may already have paid for rows that you do not
-    have yet."""
+    have yet.
+
+    left: how many steps are left; None if there is no limit. If you set it after OutOfSteps, the walk
+        can go on.
+    """
 
     left: int | None
-    """How many steps are left; None if there is no limit. If you set it after OutOfSteps, the walk
-    can go on."""
 
     def __init__(self, steps: int | None = None) -> None:
         self.left = steps if steps is None else max(operator.index(steps), 0)

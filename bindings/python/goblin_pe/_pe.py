@@ -39,10 +39,17 @@ def plain(value: Any) -> Any:
 class Pe:
     """An image and the rows of all its tables, as tuples: what the walks of an Image give. It reads
     everything at once, so a budget also limits the memory that it needs. The tuples stay when the
-    file is closed."""
+    file is closed.
+
+    image: the image itself, with the headers and the look-ups.
+    sections, rich_entries, imports, exports, export_addresses, relocation_blocks: the rows.
+    export_directory: the export directory, or None.
+    errors: why tuples end early. Each error has its `table`. In permissive mode, these are all errors
+        at which a walk ended. In strict mode, they are only bytes that are no entry of the Rich
+        header, and bytes that are no block of base relocations; other errors are raised.
+    """
 
     image: Image
-    """The image itself, with the headers and the look-ups."""
     sections: tuple[Section, ...]
     rich_entries: tuple[RichEntry, ...]
     imports: tuple[Import, ...]
@@ -51,9 +58,6 @@ class Pe:
     export_addresses: tuple[ExportAddress, ...]
     relocation_blocks: tuple[RelocationBlock, ...]
     errors: tuple[PeError, ...]
-    """Why tuples end early: each error has its `table`. In permissive mode, these are all errors at
-    which a walk ended. In strict mode, only bytes that are no entry of the Rich header and bytes that
-    are no block of base relocations are here; other errors are raised."""
 
     def __init__(self, data: Data, options: Options = Options(), budget: Budget | None = None) -> None:
         """Reads an image and all its tables. PeError is raised as by Image, and in strict mode for the

@@ -41,16 +41,18 @@ def _sorted_with_none(row: _Row) -> _Row:
 
 
 class Region(Number):
-    """Where a byte of an image in memory comes from."""
+    """Where a byte of an image in memory comes from.
+
+    UNMAPPED: from nowhere, because the loader maps nothing there.
+    HEADERS: from the headers.
+    RAW_DATA: from the raw data of a section.
+    ZEROS: it is one of the zeros after the raw data of a section.
+    """
 
     UNMAPPED = 0
-    """From nowhere: the loader maps nothing there."""
     HEADERS = 1
-    """The headers."""
     RAW_DATA = 2
-    """The raw data of a section."""
     ZEROS = 3
-    """The zeros after the raw data of a section."""
 
 
 class Memory(NamedTuple):
@@ -333,7 +335,8 @@ class Damage(NamedTuple):
     """The parts of an image that strict mode refuses, and what the walks skip. `str(damage)` has a
     line for each damaged part and for each count that is not 0.
 
-    dos_stub .. relocations: why strict mode refuses this part; None if it does not.
+    dos_stub, section_names, imports, exports, relocations: why strict mode refuses this part; None if
+        it does not.
     skipped_libraries: how many libraries permissive mode skips, because they have no address table.
     skipped_entries: how many imports permissive mode skips, because their hint is cut.
     unmapped_entries: how many import entries both modes skip, because they lead nowhere.

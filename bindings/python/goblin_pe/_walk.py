@@ -32,7 +32,7 @@ class Kind(NamedTuple):
 class Walk(Generic[_Row]):
     """An iterator over the rows of a table. It reads the file as it goes on, and keeps no row. If a
     row can't be read, it gives the rows before, raises PeError, and ends. After OutOfSteps it is not
-    over: it goes on as soon as its budget has more steps."""
+    over: it goes on as soon as its budget has more steps. Images, sections and libraries make walks."""
 
     def __init__(self, image: Image, kind: Kind, cursor: Any = None, budget: Budget | None = None) -> None:
         if not (budget is None or isinstance(budget, Budget)):
