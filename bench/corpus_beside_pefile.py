@@ -53,8 +53,8 @@ def main(folder: str, *processes: str) -> None:
                 name, number, len(paths) / seconds, 1000 * used / len(paths)), flush=True)
     alike = 0
     for ours, theirs in zip(rows[0], rows[1]):
-        different = {it for it in theirs if it != "why" and theirs[it] != ours.get(it)} if "machine" in theirs and "machine" in ours else (
-            set() if "machine" in theirs == "machine" in ours else {"whether it is refused"})
+        different = ["whether it is refused"] if ("machine" in theirs) != ("machine" in ours) else [
+            it for it in theirs if it != "why" and theirs[it] != ours[it]]
         alike += not different
         for it in different:
             print("%s: %s: %r and %r" % (ours["file"], it, ours.get(it), theirs.get(it)))

@@ -43,3 +43,6 @@ class Beside(Case):
         files = [self.written(name, data) for name, data in {**triaged_images(), "named.dll": named}.items()]
         printed = self.python("beside_pefile", *files, path=os.path.dirname(found.origin))
         self.assertEqual(printed, f"{len(files)} of {len(files)} files are alike\n")
+        (self.folder / "no_image.txt").write_bytes(b"MZ, and no image")
+        lines = self.python("corpus_beside_pefile", self.folder, "1", path=os.path.dirname(found.origin)).splitlines()
+        self.assertEqual((len(lines), lines[-1]), (3, f"{len(files) + 1} of {len(files) + 1} rows are alike"))
