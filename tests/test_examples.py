@@ -377,17 +377,25 @@ class Ends(Case):
         entries = struct.pack("<2I2H4I", 0, 0, 0, 0, 2, 0xFFFFFFFF, 0, 0x10000) * 2000  # (that lead to one long path)
         shared = images.with_parts(wide, (0x150, struct.pack("<4I", 0x20000, 0x1000, 0x20000, 0x200)), (0x400, entries), (0x10000, b"RSDS" + b"x" * 0x20000))
         yield images.with_directory(shared, 6, 0x1200, len(entries))
-        yield from (images.shared_image(3000, 50000), images.own_tables(1609), images.hostile_image(1 << 22), images.large_image())
         yield images.one_long_name(3000, 200000)
         yield from hostile.files(1)
 
     def test_each_example_in_c(self):
         file = self.folder / "some.dll"
         commands = [*([built(it), file] for it in ("damage", "libraries", "object")), [built("walk"), "1000", file], [built("loader"), file, file],
-                    [built("patch"), file, "7", ".text", ".code", to],
-                    *([sys.executable, BINDINGS / f"python/examples/{it}.py", file] for it in IN_PYTHON if it != "corpus"),
-                    [sys.executable, BINDINGS / "python/examples/corpus.py", "--processes", "1", self.folder]]
-        for index, data in enumerate(self.files()):
+                    [built("patch"), file, "7", ".text", ".code", self.folder / "to.dll"], [built("imports")]]
+        self.assert_end(commands, (*self.files(), *hostile.large()))
+
+    def test_each_example_in_python(self):
+        examples, file = BINDINGS / "python/examples", self.folder / "some.dll"
+        commands = [*([sys.executable, examples / f"{it}.py", file] for it in IN_PYTHON if it != "corpus"),
+                    [sys.executable, examples / "corpus.py", "--processes", "1", self.folder]]
+        self.assert_end(commands, (*self.files(), *itertools.islice(hostile.large(), 4)))
+
+    def assert_end(self, commands, files):
+        env = environment(GOBLIN_PE_SO=str(library() / "libgoblin_pe.so"), PYTHONPATH=str(BINDINGS / "python"), PYTHONDONTWRITEBYTECODE="1")
+        file = self.folder / "some.dll"
+        for index, data in enumerate(files):
             file.write_bytes(data)
             for command in commands:
                 with self.subTest(index=index, command=os.path.basename(command[1] if command[0] == sys.executable else command[0])):
