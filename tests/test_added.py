@@ -1,5 +1,5 @@
-"""What goblin has stands without what is added to it: no file outside the folders `added` names one of them, or calls a method
-from there. ARCHITECTURE.md says how many lines both have."""
+"""What goblin has does not depend on what is added to it: no file outside the folders `added` names one of them, or calls a method
+in one. ARCHITECTURE.md says how many lines both have."""
 import re
 import unittest
 
