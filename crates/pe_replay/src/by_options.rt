@@ -13,10 +13,9 @@ use goblin_pe::laws::footprint_imports;
 use goblin_pe::{Places, Whole};
 use goblin_pe_export::laws::read_exports;
 use goblin_pe_head::Header;
-use goblin_pe_sect::address_map::MappedRecords;
-use goblin_pe_sect::data_directories::NUM_DATA_DIRECTORIES;
+use goblin_pe_sect::address_map::{AddressMap, MappedRecords};
 use goblin_pe_sect::section_table::{SIZEOF_SECTION_TABLE, SectionRecords};
-use goblin_pe_sect::{DataDirectory, ParseOptions, SectionTable, WindowIndex};
+use goblin_pe_sect::{ParseOptions, SectionTable, WindowIndex};
 use std::alloc::Global;
 use std::io;
 
@@ -72,16 +71,24 @@ fn show_layout(rt: &HostRuntime, file: &[u8], opts: &ParseOptions) -> io::Result
 // The same of a file with many sections.
 fn show_layout_of_many(rt: &HostRuntime, opts: &ParseOptions) -> io::Result<()> {
     let records = [0; SIZEOF_SECTION_TABLE * MANY];
-    let places = Places {
-        magic: 0,
-        file_alignment: ALIGNMENT,
-        directories: [DataDirectory::default(); NUM_DATA_DIRECTORIES],
-    };
+    show_answer(
+        rt,
+        layout_by(rt.alloc(), SectionRecords::of(&records), opts),
+    )
+}
+
+// The layout of an empty file with these sections.
+fn layout_by<'a>(
+    alloc: Global,
+    records: SectionRecords<'a>,
+    opts: &ParseOptions,
+) -> goblin_base::Result<Layout<'a>> {
     let mapped = MappedRecords {
-        records: SectionRecords::of(&records),
+        records,
         front: None,
     };
-    show_answer(rt, Layout::by(rt.alloc(), &[], places, mapped, opts))
+    let address_map = AddressMap::of_records(alloc, mapped, ALIGNMENT, opts)?;
+    Ok(Layout::by(&[], Places::of(&None), records, address_map))
 }
 
 // What is kept of the file: something that the file itself fits.

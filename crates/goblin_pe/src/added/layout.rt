@@ -4,17 +4,17 @@ ghost use Rattle.std.specs.Prelude.{◌/◌, ◌<◌, ◌≡◌, IfErr, IfOk, Is
 ghost use Rattle.std.specs.Prelude.{Option, length, map};
 ghost use Rattle.std.specs.List.{flat_map};
 ghost use Rattle.goblin_base.specs.declared.error.ErrorOf.{ErrorOf};
-ghost use Rattle.goblin_base.specs.Answers.{GivesOrMemory, IsMemory};
+ghost use Rattle.goblin_base.specs.Answers.{IsMemory};
 ghost use Rattle.goblin_base.specs.Reading.{Reads, ReadsOrMemory};
 ghost use Rattle.readings.specs.Reads.{mapped};
 ghost use Rattle.readings.specs.Walks.{Walks};
 ghost use Rattle.goblin_pe_sect.specs.declared.options.ParseOptions.{ParseOptions};
 ghost use Rattle.goblin_pe_sect.specs.declared.options.View.TheVariants.{Loader, Sections};
-ghost use Rattle.goblin_pe_sect.specs.Addresses.{AreMany, map_in, map_of};
+ghost use Rattle.goblin_pe_sect.specs.Addresses.{map_of};
 ghost use Rattle.goblin_pe_sect.specs.Addresses.{reads_strictly, strict_map, with_longest};
 ghost use Rattle.goblin_pe_sect.specs.BaseRelocations.{relocation_bytes};
 ghost use Rattle.goblin_pe_sect.specs.Options.{is_strict, rule_by_alignment};
-ghost use Rattle.goblin_pe_sect.specs.SectionTable.{mapped_of, recorded_sections, unnamed};
+ghost use Rattle.goblin_pe_sect.specs.SectionTable.{recorded_sections, unnamed};
 ghost use Rattle.goblin_pe_head.specs.CoffHeader.{IsTooManySections};
 ghost use Rattle.goblin_pe_head.specs.PeHeader.{header_value};
 ghost use Rattle.goblin_pe_import.specs.added.ImportCursors.{first_import};
@@ -189,41 +189,31 @@ impl<'a> Layout<'a> {
         let records = section_records_of(bytes, header, opts)?;
         let front = view.front(size_of_headers(&header.optional_header));
         let places = Places::of(&header.optional_header);
-        let layout = Layout::by(alloc, bytes, places, MappedRecords { records, front }, opts)?;
-        Ok(layout)
+        let mapped = MappedRecords { records, front };
+        let address_map = AddressMap::of_records(alloc, mapped, places.file_alignment, opts)?;
+        Ok(Layout::by(bytes, places, records, address_map))
     }
 
-    /// The layout of a file whose tables lie at `places` and whose addresses `mapped` maps,
-    /// whatever its header says.
-    ///
-    /// # Errors
-    /// Only [`Error::Memory`](goblin_base::Error::Memory), and only if there are more than 96
-    /// sections.
+    /// The layout of a file whose tables lie at `places`, whose section headers are `records`, and
+    /// whose addresses `address_map` maps, whatever its header says.
     #[inline(always)]
-    pub fn by<'e>(
-        alloc: Global,
+    pub fn by(
         bytes: &'a [u8],
         places: Places,
-        mapped: MappedRecords<'a>,
-        opts: &ParseOptions,
-    ) -> ResultOf<'e, Layout<'a>>
-        ensures mapped { GivesOrMemory layout_map result
-            (map_in opts.now (mapped_of mapped.entry) places.file_alignment) }
-        ensures over { IfOk result (λ l. layout_bytes l ≡ bytes.now) }
-        ensures placed { IfOk result (λ l. layout_places l ≡ table_places places) }
-        ensures recorded { IfOk result
-            (λ l. layout_sections l ≡ recorded_sections mapped.entry.records) }
-        ensures grown { let count = length (recorded_sections mapped.entry.records) in
-            IfErr result (λ e. AreMany count) }
+        records: SectionRecords<'a>,
+        address_map: AddressMap<'a>,
+    ) -> Layout<'a>
+        ensures mapped { layout_map result ≡ map_of address_map.entry }
+        ensures over { layout_bytes result ≡ bytes.now }
+        ensures placed { layout_places result ≡ table_places places }
+        ensures recorded { layout_sections result ≡ recorded_sections records.entry }
     {
-        let records = mapped.records;
-        let address_map = AddressMap::of_records(alloc, mapped, places.file_alignment, opts)?;
-        Ok(Layout {
+        Layout {
             bytes,
             places,
             records,
             address_map,
-        })
+        }
     }
 
     // The same layout in strict mode: damaged tables are refused, and not passed over.
@@ -331,6 +321,7 @@ impl<'a> Layout<'a> {
 
     /// The walk over the imports from a cursor on. At a cursor that [`FileImports::cursor`]
     /// returned, it yields what that walk had yet to yield.
+    #[inline(always)]
     #[tactic(auto, unfolding(crate::specs::Whole::entry_format))]
     pub fn imports_at<'m, 'e>(&'m self, at: ImportCursor) -> FileImports<'a, 'm, 'e>
         ensures walk { let m = layout_map self.now in

@@ -5,8 +5,8 @@ use Rattle.goblin_pe_head.specs.PeHeader.{header_value}
 use Rattle.goblin_pe.proofs.added.SectionNames.{records_counted}
 use Rattle.goblin_pe.proofs.added.layout.Layout.in_view.Goals as goal
 
-pub returns-in_err-layout-clause-grown : goal.returns-in_err-layout-clause-grown
-returns-in_err-layout-clause-grown c =
-    let e = err_from_is_err_and c.from_residual-in_err-layout.result c.from_residual-in_err-layout.ensures.1 in
+pub returns-in_err-address_map-clause-grown : goal.returns-in_err-address_map-clause-grown
+returns-in_err-address_map-clause-grown c =
+    let e = err_from_is_err_and c.from_residual-in_err-address_map.result c.from_residual-in_err-address_map.ensures.1 in
     let counted = records_counted (is_strict c.args.opts.now.parse_mode) (header_value c.args.header.now) c.args.bytes.now _ c.in_ok-records.ensures.value in
-    rw (e.1, e.2) (λ _. omega (arith, c.in_err-layout.ensures.grown, counted))
+    rw (e.1, e.2) (λ _. omega (arith, c.in_err-address_map.ensures.grown, counted))
