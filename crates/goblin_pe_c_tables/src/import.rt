@@ -71,19 +71,17 @@ fn record_by<'a>(
     }
 }
 
-/// Puts the record of an import of these bytes into its place. (Each kind has a record of its own:
-/// one that is made for both would be put together by conditions for every import.)
+/// The record of an import of these bytes.
 #[inline(always)]
-pub fn put_import<'a>(place: &mut PeImport<'a>, bytes: &'a [u8], import: &WalkedImport<'a>)
-    ensures { import_view place.new ≡ import_for_c (walked_value import.now) }
+pub fn import_record<'a>(bytes: &'a [u8], import: &WalkedImport<'a>) -> PeImport<'a>
+    ensures { import_view result ≡ import_for_c (walked_value import.now) }
 {
     match &import.entry {
         SyntheticImportLookupTableEntry::OrdinalNumber(ordinal) => {
-            *place = record_by(import, &bytes[..0], 0, *ordinal, false);
+            record_by(import, &bytes[..0], 0, *ordinal, false)
         }
         SyntheticImportLookupTableEntry::HintNameTableRVA((rva, named)) => {
-            let name = named.name.as_bytes();
-            *place = record_by(import, name, *rva, named.hint, true);
+            record_by(import, named.name.as_bytes(), *rva, named.hint, true)
         }
     }
 }

@@ -19,7 +19,7 @@ ghost use Rattle.goblin_pe_c_headers.specs.Onward.{FillsFrom, IsRefusedNext, unr
 
 use crate::batch::{Batched, at_room};
 use crate::export::{PeExport, plain_record, put_export};
-use crate::import::{PeImport, put_import};
+use crate::import::{PeImport, import_record};
 use goblin_base::answer_for;
 use goblin_pe::added::{Exports, FileImports, ImportCursor, Imports, Layout};
 use goblin_pe::import::Bitfield;
@@ -158,7 +158,7 @@ fn fill_here<'a, 'm, 'e, T: Bitfield<'a>>(
         let Some(import) = plain.next_import() else {
             break 'plain;
         };
-        put_import(&mut records[count], bytes, &import);
+        records[count] = import_record(bytes, &import);
         count += 1;
     }
     imports.go_on(&plain);
@@ -219,7 +219,7 @@ fn fill_imports<'a, 'm, 'e>(
         let mut limit = Some(left);
         match imports.next_within(&mut limit) {
             Some(Ok(import)) => {
-                put_import(&mut records[count], layout.bytes(), &import);
+                records[count] = import_record(layout.bytes(), &import);
                 left = limit.unwrap_or(0);
                 count = fill_library(layout.bytes(), &mut imports, records, count + 1, &mut left);
                 *position = cursor_for_c(imports.cursor());

@@ -20,8 +20,8 @@ use std::alloc::Global;
 
 // Where the tables lie by a record.
 #[inline(always)]
-fn places_said(places: &PePlaces) -> Places
-    ensures { table_places result ≡ places_said places.now }
+fn places_from_c(places: &PePlaces) -> Places
+    ensures { table_places result ≡ places_from_c places.now }
 {
     Places {
         magic: places.magic,
@@ -56,7 +56,7 @@ pub fn layout_of<'a, 'e>(alloc: Global, image: &PeImage<'a>) -> ResultOf<'e, Lay
     let opts = options_at(&image.options, places.file_alignment);
     let mut address_map = AddressMap::of_records(alloc, mapped, places.file_alignment, &opts)?;
     address_map.set_longest_name(longest_of(&image.options));
-    Ok(Layout::by(image.bytes, places_said(&places), records, address_map))
+    Ok(Layout::by(image.bytes, places_from_c(&places), records, address_map))
 }
 
 /// The file offset of a data directory, if it has one.

@@ -21,10 +21,10 @@ pub plain-preserved : goal.plain-preserved
 plain-preserved g c =
     let further = c.plain.invariant.1 in
     let gives = c.in-Some-next_import.ensures in (
-      here-more g.T.Bitfield.format c.args.imports.now _ _ _ (Fills c.args.records.now (set c.plain.records c.plain.count c.put_import.new.place) c.args.first (c.plain.count + 1)) c.plain.invariant.0 c.in-Some-next_import.import gives.gives.0 gives.counted (filled-more c.args.records.now c.plain.records c.args.first c.plain.count c.in-Some-next_import.import c.put_import.new.place (omega (arith, c.plain-test.true, c.plain.invariant.3, c.requires)) c.put_import.ensures),
+      here-more g.T.Bitfield.format c.args.imports.now _ _ _ (Fills c.args.records.now (set c.plain.records c.plain.count c.import_record.result) c.args.first (c.plain.count + 1)) c.plain.invariant.0 c.in-Some-next_import.import gives.gives.0 gives.counted (filled-more c.args.records.now c.plain.records c.args.first c.plain.count c.in-Some-next_import.import c.import_record.result (omega (arith, c.plain-test.true, c.plain.invariant.3, c.requires)) c.import_record.ensures),
       omega (arith, further),
       gives.gives.1 ∙ c.plain.invariant.2,
-      length-set c.plain.records c.plain.count c.put_import.new.place ∙ c.plain.invariant.3,
+      length-set c.plain.records c.plain.count c.import_record.result ∙ c.plain.invariant.3,
       λ _. omega (arith, c.plain-test.true),
     )
 
