@@ -34,11 +34,6 @@ def is_out_of_memory(error: PeError) -> bool:
 """
 
 
-# Phrases that make a sentence hard to read. None is in a text that users read.
-HARD = (r"^\W*(Refused (is|are)|Of (a|which)|By which)\b", r"\b(is|are) told\b", r"\btells of\b", r"\bstands\b", r"\bgo(es)? by\b",
-        r"\bbut for\b", r"\bof which\b", r"\bnone of it\b", r"\bso many\b", r"\bas of\b")
-
-
 def setUpModule():
     need(CC)
     library()
@@ -96,14 +91,6 @@ class Python(Case):
                     self.assertRegex(out, rb"\A[ -~\n]*\Z")
                     self.assertLess(len(out), 10 << 20)
                     self.assertLess(after.children_user + after.children_system - before.children_user - before.children_system, 1)
-
-    def test_no_text_has_a_hard_phrase(self):
-        """The first page, the package and the examples, without the files that the generator makes of the crates."""
-        made = {f"{it}.py" for it in ("_causes", "_records", "constants")}
-        for file in (*BINDINGS.glob("python/*.md"), BINDINGS / "python/backend.py", *BINDINGS.glob("python/[eg]*/*.py")):
-            if file.name not in made:
-                found = [it[0] for hard in HARD for it in re.finditer("(?m)" + hard, file.read_text("utf-8"))]
-                self.assertEqual(found, [], file)
 
     def test_the_samples_are_listed(self):
         for sample in IMAGES:

@@ -194,7 +194,7 @@
    memory_at, section_data    sections
    text_at, forwarder_at      sections, and a name
    read_damage                four times as next_imports and next_exports with these steps
-   read_footprint             unbounded, as walks over all tables without limits
+   read_footprint             ten times the walks over all tables, without limits
    checksum                   n
    write_*, set_name_offset   the bytes written
 
@@ -212,8 +212,8 @@
    - Each call costs up to 25 milliseconds more if the image has many sections: a million imports
      cost 7 minutes in batches of 64, but 6 seconds in batches of 4,096.
    - read_footprint can't be stopped, and reads names whole, also if longest_name cut them for the
-     walks. Call it when the walks came to their ends and cut no long names: if names overlap, 1 MB
-     costs half a minute.
+     walks. So it costs up to ten times what walks without limits cost: if names overlap, 1 MB costs
+     half a minute. Call it when the walks came to their ends and cut no long names.
    - The damage of a partial image is that of the parts that could be read. Zeros in place of a DOS
      header count as a damaged stub, and is_sound says nothing of a header that was refused: look at
      the faults of read_partial_image first. */
