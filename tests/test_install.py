@@ -39,7 +39,7 @@ class Library(Case):
         self.assert_runs([self.folder / "imports"], (0, b"KERNEL32.dll 0 GetTickCount\n", b""), BY_NAME,
                          env=environment(LD_LIBRARY_PATH=f"{self.folder}/lib"))
 
-    def test_a_static_program_is_told_what_the_archive_needs(self):
+    def test_pkg_config_names_what_a_static_program_needs(self):
         install(self.folder)
         env = environment(PKG_CONFIG_PATH=f"{self.folder}/lib/pkgconfig")
         words = [succeed(["pkg-config", *static, "--libs-only-l", "goblin_pe"], env=env).split() for static in ([], ["--static"])]
