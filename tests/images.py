@@ -245,6 +245,31 @@ def with_others(is_wide=True):
     return bytes(headers + data + bytes(-len(data) % 0x200))
 
 
+def long_names(count):
+    """An image for 64 bits that has so many libraries, delayed imports and resources, whose names are long and have no character that
+    can be printed. The names of libraries differ: each begins at another character of one long text."""
+    place, tree = 0x1000, 24 * 3 + 8 * count
+    text = struct.pack("<H", 0x7FFF) + "\xff".encode() * (count + 300) + b"\0\0"
+    data = bytearray(tree + 16)
+    # (resources: a directory in a directory in a directory; all names are one text behind them, all leaves one entry)
+    high, name = 1 << 31, place + len(data)
+    for level in range(3):
+        entries = count if level == 2 else 1
+        struct.pack_into("<2I4H", data, 24 * level, 0, 0, 0, 0, min(entries, 0xFFFF), 0)
+        row = struct.pack("<2I", high | len(data), high | 24 * (level + 1) if level < 2 else tree)
+        data[24 * level + 16: 24 * level + 16 + 8 * entries] = row * entries
+    data += text
+    table = place + len(data)
+    data += struct.pack("<2Q", name, 0)
+    records = place + len(data)
+    data += b"".join(struct.pack("<5I", table, 0, 0, name + 2 + 2 * i, table) for i in range(count)) + bytes(20)
+    delayed = place + len(data)
+    data += struct.pack("<8I", 1, name + 2, 0, delayed + 64, delayed + 64, 0, 0, 0) + bytes(32) + struct.pack("<Q", name) * count + bytes(8)
+    headers = image_headers(0x200, 1, 0x7FFFF000, ((1, records, 20 * (count + 1)), (2, place, len(data)), (13, delayed, 64)))
+    put_section(headers, 0x148, b".names", data, place, 0x200)
+    return bytes(headers + data + bytes(-len(data) % 0x200))
+
+
 def narrow_headers(base, directories):
     """The headers of an image for 32 bits, with room for the records of a few sections."""
     headers = bytearray(0x200)

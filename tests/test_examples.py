@@ -12,6 +12,7 @@ import shutil
 import struct
 import subprocess
 import sys
+import time
 import unittest
 import unittest.mock
 import xml.etree.ElementTree
@@ -38,6 +39,20 @@ def built(name):
     if not made.exists():
         succeed([CC, "-std=c99", *FLAGS, "-I", library(), "-o", made, BINDINGS / f"c/examples/{name}.c", library() / "libgoblin_pe.a"])
     return made
+
+
+def hard_files():
+    """Files that take long if a program sets no limits, and hostile ones."""
+    wide = images.with_others()
+    yield wide
+    yield images.with_parts(wide, (0x200 + 12, struct.pack("<2H4I", 0, 2, 1, 1 << 31, 2, 1 << 31)))  # (a tree that leads in a circle)
+    yield images.with_parts(wide, (0x200 + 12, struct.pack("<2H", 0xFFFF, 0xFFFF)), (0x210, struct.pack("<2I", 1, 1 << 31) * 20000))
+    entries = struct.pack("<2I2H4I", 0, 0, 0, 0, 2, 0xFFFFFFFF, 0, 0x10000) * 2000  # (that lead to one long path)
+    shared = images.with_parts(wide, (0x150, struct.pack("<4I", 0x20000, 0x1000, 0x20000, 0x200)), (0x400, entries), (0x10000, b"RSDS" + b"x" * 0x20000))
+    yield images.with_directory(shared, 6, 0x1200, len(entries))
+    yield from (images.shared_image(3000, 50000), images.own_tables(1609), images.hostile_image(1 << 22), images.large_image())
+    yield from (images.one_long_name(3000, 200000), images.long_names(8000))
+    yield from hostile.files(1)
 
 
 class Loader(Case):
@@ -284,8 +299,17 @@ class Corpus(WithExamples):
         self.assertEqual([row(str(self.folder / it))["state"] for it in ("gone.dll", "below")], ["not read"] * 2)
         with unittest.mock.patch.object(self.examples["corpus"], "Image", side_effect=MemoryError):
             self.assertEqual(row(str(BY_NAME))["why"], "out of memory")
-        for data in hostile.files(1):
-            self.assertEqual({*row(str(self.written("some.dll", data)))} >= {"file", "state"}, True)
+
+    def test_a_row_ends_within_a_second(self):
+        """Of the processor, on each hostile file."""
+        for index, data in enumerate(hard_files()):
+            path = str(self.written("some.dll", data))
+            before = time.process_time()
+            found = self.examples["corpus"].row(path)
+            with self.subTest(index=index):
+                self.assertLess(time.process_time() - before, 1)
+                self.assertLess(len(json.dumps(found)), 10000)
+                self.assertIn(found["state"], ("read", "refused", "cut off"))
 
     def lines(self, python, *words, **how):
         """What the program says of each file of the folder, by another Python, too."""
@@ -369,28 +393,18 @@ int main(void)
 class Ends(Case):
     """Each example ends within a second of processor time and ten megabytes of output, on each hostile file."""
 
-    def files(self):
-        wide = images.with_others()
-        yield wide
-        yield images.with_parts(wide, (0x200 + 12, struct.pack("<2H4I", 0, 2, 1, 1 << 31, 2, 1 << 31)))  # (a tree that leads in a circle)
-        yield images.with_parts(wide, (0x200 + 12, struct.pack("<2H", 0xFFFF, 0xFFFF)), (0x210, struct.pack("<2I", 1, 1 << 31) * 20000))
-        entries = struct.pack("<2I2H4I", 0, 0, 0, 0, 2, 0xFFFFFFFF, 0, 0x10000) * 2000  # (that lead to one long path)
-        shared = images.with_parts(wide, (0x150, struct.pack("<4I", 0x20000, 0x1000, 0x20000, 0x200)), (0x400, entries), (0x10000, b"RSDS" + b"x" * 0x20000))
-        yield images.with_directory(shared, 6, 0x1200, len(entries))
-        yield images.one_long_name(3000, 200000)
-        yield from hostile.files(1)
-
     def test_each_example_in_c(self):
         file = self.folder / "some.dll"
         commands = [*([built(it), file] for it in ("damage", "libraries", "object")), [built("walk"), "1000", file], [built("loader"), file, file],
                     [built("patch"), file, "7", ".text", ".code", self.folder / "to.dll"], [built("imports")]]
-        self.assert_end(commands, (*self.files(), *hostile.large()))
+        self.assert_end(commands, (*hard_files(), *hostile.large()))
 
     def test_each_example_in_python(self):
-        examples, file = BINDINGS / "python/examples", self.folder / "some.dll"
-        commands = [*([sys.executable, examples / f"{it}.py", file] for it in IN_PYTHON if it != "corpus"),
-                    [sys.executable, examples / "corpus.py", "--processes", "1", self.folder]]
-        self.assert_end(commands, (*self.files(), *itertools.islice(hostile.large(), 4)))
+        file = self.folder / "some.dll"
+        commands = [[sys.executable, BINDINGS / f"python/examples/{it}.py", *words] for it, *words in (
+            *((it, file) for it in (*IN_PYTHON, "imports") if it != "corpus"), ("triage", self.folder),
+            ("export", self.folder, "some.dll", "answer"), ("export", self.folder, "some.dll", "#1"))]
+        self.assert_end(commands, hard_files())
 
     def assert_end(self, commands, files):
         env = environment(GOBLIN_PE_SO=str(library() / "libgoblin_pe.so"), PYTHONPATH=str(BINDINGS / "python"), PYTHONDONTWRITEBYTECODE="1")

@@ -75,22 +75,6 @@ class Python(Case):
                 if not index:
                     self.assertEqual(out.decode(), wanted)
 
-    def test_examples_end_within_a_second_and_ten_megabytes(self):
-        """This holds on each hostile file, in processor time. Each error is a line."""
-        examples, file = BINDINGS / "python/examples", self.folder / "some.dll"
-        large = images.shared_image(3000, 50000), images.own_tables(1609)
-        for index, data in enumerate((*large, *hostile.files(1))):
-            self.written("some.dll", data)
-            for name, *words in (("imports", file), ("triage", self.folder), ("export", self.folder, "some.dll", "answer"),
-                                 ("export", self.folder, "some.dll", "#1")):
-                before = os.times()
-                status, out, said = run([sys.executable, examples / f"{name}.py", *words], env=self.env)
-                after = os.times()
-                with self.subTest(index=index, example=name):
-                    self.assertIn((status, said.count(b"\n")), ((0, 0), (1, 1)) if name == "export" else ((0, 0),))
-                    self.assertRegex(out, rb"\A[ -~\n]*\Z")
-                    self.assertLess(len(out), 10 << 20)
-                    self.assertLess(after.children_user + after.children_system - before.children_user - before.children_system, 1)
 
     def test_the_samples_are_listed(self):
         for sample in IMAGES:

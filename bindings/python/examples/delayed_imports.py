@@ -7,7 +7,7 @@ from typing import Iterator, NamedTuple, Optional
 
 from goblin_pe import DirectoryType, Image, Options, PeError, printable
 
-LOOK_UPS, LONGEST = 5_000, 512
+LOOK_UPS, LONGEST = 3_000, 200
 
 
 class Delayed(NamedTuple):

@@ -8,14 +8,16 @@ import multiprocessing
 import multiprocessing.connection
 import os
 import signal
+import struct
 import sys
-from typing import Callable, Dict, Iterator, List, NamedTuple, Optional, Tuple
+from typing import Callable, Dict, Iterator, List, NamedTuple, Optional, Tuple, Union
 
 from goblin_pe import DirectoryType, Image, Kind, Options, PeError, Section, constants, printable
 
 OPTIONS = Options(permissive=True, longest_name=64)
-# How many sections are drawn, how long a name may be, and how many seconds the footprint may take.
-SECTIONS, LONGEST, SECONDS = 24, 14, 0.15
+# How many sections are drawn, from how many on the others are not even read, how long a name may be, and how many seconds the
+# footprint may take.
+SECTIONS, MANY, LONGEST, SECONDS = 24, 2_000, 14, 0.15
 # The width of a band, where it begins, the least width of a part, the height of a row, and the width of a letter.
 WIDTH, LEFT, LEAST, HEIGHT, LETTER = 1100, 80, 14, 92, 6.6
 MIDDLE = ' text-anchor="middle"'
@@ -57,7 +59,7 @@ def place_of(image: Image, s: Section) -> Tuple[int, int]:
     return s.pointer_to_raw_data if begin is None else begin, len(s.data(image).data)
 
 
-def parts_of_file(image: Image, sections: List[Section]) -> Iterator[Part]:
+def parts_of_file(image: Image, sections: List[Section], count: int) -> Iterator[Part]:
     """The headers, the raw data of sections, and the overlay."""
     rich, optional = image.rich_header, image.dos_header.pe_pointer
     table = optional + constants.SIZEOF_PE_MAGIC + constants.SIZEOF_COFF_HEADER + image.coff_header.size_of_optional_header
@@ -66,11 +68,12 @@ def parts_of_file(image: Image, sections: List[Section]) -> Iterator[Part]:
     if rich:
         yield Part(rich.start_offset, rich.end_offset + 8, "Rich header", "headers")
     yield Part(optional, table, "PE header", "headers")
-    yield Part(table, table + constants.SIZEOF_SECTION_TABLE * len(image.sections), "section table", "headers")
+    yield Part(table, table + constants.SIZEOF_SECTION_TABLE * count, "section table", "headers")
     for s in sections:
         begin, size = place_of(image, s)
         yield Part(begin, begin + size, printable(s.name), kind_of(s))
-    yield Part(len(image.data) - len(image.overlay()), len(image.data), "overlay", "overlay")
+    if count <= MANY:
+        yield Part(len(image.data) - len(image.overlay()), len(image.data), "overlay", "overlay")
 
 
 def tables_of(image: Image) -> Iterator[Part]:
@@ -231,10 +234,10 @@ def legend(y: float) -> Iterator[str]:
             yield text(x + 12, row + 9, "...", MIDDLE)
 
 
-def picture(image: Image, name: str, ranges: Optional[List[range]]) -> Iterator[str]:
-    """The lines of the SVG."""
+def picture(image: Image, name: str, count: int, ranges: Optional[List[range]]) -> Iterator[str]:
+    """The lines of the SVG. The header counts `count` sections."""
     sections, length = list(image.sections[:SECTIONS]), len(image.data)
-    parts, tables = cut(parts_of_file(image, sections), length), cut(tables_of(image), length)
+    parts, tables = cut(parts_of_file(image, sections, count), length), cut(tables_of(image), length)
     memory = cut(parts_of_memory(image, sections), 1 << 33)
     in_file = Scale([*parts, *tables], max(length, 1), False)
     in_memory = Scale(memory, max((it.end for it in memory), default=1), True)
@@ -254,8 +257,7 @@ def picture(image: Image, name: str, ranges: Optional[List[range]]) -> Iterator[
     lines += [text((in_memory.places[it] + in_memory.places[it + 1]) / 2, top + HEIGHT / 2, "...", MIDDLE) for it in in_memory.short]
     if image.entry:
         lines.append('<g><title>entry point at %#x</title><path d="M%.1f %.1fl-5 -10h10z"/></g>' % (image.entry, in_memory(image.entry), top))
-    title = "%s: %d bytes, sections: %d" % (name, length, len(image.sections))
-    title += " (%d are drawn)" % len(sections) if len(sections) < len(image.sections) else ""
+    title = "%s: %d bytes, sections: %d" % (name, length, count) + (" (%d are drawn)" % len(sections) if len(sections) < count else "")
     height = y + 110
     yield '<svg xmlns="http://www.w3.org/2000/svg" role="img" aria-labelledby="title desc" viewBox="0 0 %d %d" width="%d" height="%d">' % (
         WIDTH + LEFT + 60, height, WIDTH + LEFT + 60, height)
@@ -278,11 +280,16 @@ def main(path: str) -> None:
     """Draws a file."""
     try:
         with open(path, "rb") as file:
-            data = file.read()
+            data: Union[bytes, bytearray] = file.read()
         if Kind.of(data) is not Kind.IMAGE:
             raise SystemExit("%s: no image" % path)
-        with Image.partial(data, OPTIONS) as image:
-            print("\n".join(picture(image, printable(os.fsencode(os.path.basename(path))), footprint(path))))
+        image = Image.partial(data, OPTIONS)
+        count = image.coff_header.number_of_sections
+        if count > MANY:  # (the rows of 65,535 sections take half a second, and no honest image has them)
+            data = bytearray(data)
+            struct.pack_into("<H", data, image.dos_header.pe_pointer + 6, SECTIONS)
+            image = Image.partial(data, OPTIONS)
+        print("\n".join(picture(image, printable(os.fsencode(os.path.basename(path))), count, footprint(path))))
     except (OSError, MemoryError, PeError) as error:
         raise SystemExit("%s: %s" % (path, error)) from None
 

@@ -8,7 +8,7 @@ from typing import Iterator, NamedTuple, Tuple, Union
 from goblin_pe import DirectoryType, Image, Options, PeError, printable
 
 # How many entries are read, and how many characters of a name. A number with the high bit leads to a directory or a name.
-MOST, LONGEST, HIGH = 5_000, 64, 1 << 31
+MOST, LONGEST, HIGH = 5_000, 48, 1 << 31
 
 # The name of a directory or a resource.
 Name = Union[int, str]

@@ -17,21 +17,24 @@ from typing import Any, Dict, Iterator, List, Set, Tuple
 from goblin_pe import Budget, Image, Kind, Mapping, Options, OutOfSteps, PeError, names_of, printable
 from recipes import entropy
 
-OPTIONS = Options(permissive=True, longest_name=512)
+OPTIONS = Options(permissive=True, longest_name=256)
 STEPS = 100_000
 SECTIONS = 200
+MEASURED = 1 << 20  # bytes whose entropy is computed
 Key = Tuple[bytes, Any]
 
 
 def sections(image: Image) -> Iterator[Dict[str, Any]]:
-    """What each section is like. Sections may overlap, so no more bytes are hashed than the file has."""
-    left = len(image.data)
+    """What each section is like. Sections may overlap, so no more bytes are hashed than the file has. The
+    entropy is that of the first `measured` bytes."""
+    left, rest = len(image.data), MEASURED
     for s in itertools.islice(image.sections, SECTIONS):
         data = s.data(image).data[:left]
-        left -= len(data)
+        left, part = left - len(data), data[:rest]
+        rest -= len(part)
         yield {
             "name": printable(s.name), "flags": names_of(s.characteristics, "section"), "hashed": len(data),
-            "entropy": entropy(data), "md5": hashlib.md5(data, usedforsecurity=False).hexdigest()}
+            "measured": len(part), "entropy": entropy(part), "md5": hashlib.md5(data, usedforsecurity=False).hexdigest()}
 
 
 def keys(image: Image, mapping: Mapping, budget: Budget) -> Set[Key]:
@@ -49,8 +52,8 @@ def first(found: Set[Key]) -> List[str]:
 def limited(image: Image, budget: Budget) -> Iterator[Tuple[str, Any]]:
     """What takes steps, as pairs (what, value), the most interesting first."""
     yield "imphash", image.imphash(budget)
-    libraries = Counter(printable(it.dll.lower()) for it in image.imports(budget))
-    yield "libraries", dict(sorted(libraries.items()))
+    libraries = Counter(it.dll.lower() for it in image.imports(budget))
+    yield "libraries", {printable(dll): count for dll, count in sorted(libraries.most_common(100))}
     yield "exports", sum(1 for _ in image.exports(budget))
     damage = image.damage(budget)
     yield "damage", {part: str(error) for part, error in damage.errors().items()}

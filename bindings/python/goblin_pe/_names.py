@@ -52,7 +52,11 @@ def relocation_name(machine: int, typ: int) -> str:
     return next((name for name, named in names.items() if named == typ), hex(typ))
 
 
+# What is printed for each byte.
+_PRINTABLE = [chr(it) if 32 <= it < 127 and it != 92 else "\\x%02x" % it for it in range(256)]
+
+
 def printable(name: bytes) -> str:
     r"""A text that you can print safely. Each byte outside printable ASCII, and each backslash,
     becomes \x and two hexadecimal digits. So different names have different texts."""
-    return "".join(chr(byte) if 32 <= byte < 127 and byte != 92 else "\\x%02x" % byte for byte in name)
+    return "".join(map(_PRINTABLE.__getitem__, name))
