@@ -26,10 +26,10 @@ def names(data: bytes) -> Optional[List[bytes]]:
     pe = Pe(data, Options(permissive=True), Budget(1000))
     if pe.image.table_state(Table.EXPORTS) == TableState.REFUSED or pe.image.optional_header is None:
         return None
-    return [x.dll + b"." + (x.name or b"%d" % x.ordinal) for x in pe.imports]
+    return [x.dll + b"." + (x.name or b"%d" % (x.ordinal or 0)) for x in pe.imports]
 
-def is_out_of_memory(error: PeError) -> bool:
-    return error.kind == ErrorKind.OPTIONS
+def is_out_of_steps(error: PeError) -> bool:
+    return error.kind == ErrorKind.STEPS
 
 """
 
@@ -182,10 +182,12 @@ class Python(Case):
         """The reads that it ends would take much longer."""
         image = self.written("hostile.dll", images.shared_image(libraries=60000, functions=50000))
         words = [sys.executable, "-m", "goblin_pe", "--json", "--steps", "1000000000", image]
-        with subprocess.Popen(with_memory(8000000, words), stdout=subprocess.PIPE, stderr=subprocess.PIPE, env=self.env) as it:
-            self.assertRaises(subprocess.TimeoutExpired, it.wait, 1)
+        with open(self.folder / "out", "wb") as out, subprocess.Popen(
+                with_memory(8000000, words), stdout=out, stderr=subprocess.PIPE, env=self.env) as it:
+            while not os.fstat(out.fileno()).st_size:
+                self.assertRaises(subprocess.TimeoutExpired, it.wait, 0.1)
             it.send_signal(signal.SIGINT)
-            self.assertEqual((it.wait(1), *it.communicate()), (-signal.SIGINT, b"", b""))
+            self.assertEqual((it.wait(1), it.communicate()[1]), (-signal.SIGINT, b""))
 
     def triaged(self, files):
         """The answers of the example, by the names of the files."""

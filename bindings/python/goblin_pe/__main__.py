@@ -36,13 +36,13 @@ def image_lines(pe: Pe) -> Iterator[str]:
         number = it.hint if it.ordinal is None else it.ordinal
         yield "import offset=%#x ordinal=%d rva=%#x size=%d slot=%d dll=%s name=%s" % (
             it.iat_rva, number or 0, it.hint_name_rva, 8 if image.is_64 else 4, it.thunk_index, printable(it.dll),
-            "ORDINAL %d" % it.ordinal if it.name is None else printable(it.name))
+            "ORDINAL %s" % it.ordinal if it.name is None else printable(it.name))
     yield heading(image, Table.EXPORTS, len(pe.exports))
     for export in pe.exports:
         to = export.forwarder
         yield "".join((
             "export rva=%#x" % export.rva, "" if export.offset is None else " offset=%#x" % export.offset,
-            " forward=%s.%s" % (printable(to.dll), "#%d" % to.ordinal if to.name is None else printable(to.name)) if to else "",
+            " forward=%s.%s" % (printable(to.dll), "#%s" % to.ordinal if to.name is None else printable(to.name)) if to else "",
             "" if export.name is None else " name=" + printable(export.name)))
     yield heading(image, Table.RELOCATIONS, len(pe.relocation_blocks))
     for block in pe.relocation_blocks:

@@ -145,6 +145,9 @@ class Image:
 
     # How the library is called.
 
+    _data: Any
+    _options: Options
+    _record: Any
     _te_header: TeHeader | None = None
     _faults: _Mapping[str, PeError] = types.MappingProxyType({})
     _refusal: PeError | None = None
@@ -153,14 +156,14 @@ class Image:
     _stay: _Mapping[str, Any] = types.MappingProxyType({})
 
     @classmethod
-    def _made(cls, data: Data, options: Options, call: Any, *also: Any) -> Any:
+    def _made(cls, data: Data, options: Options, call: Any, *also: Any) -> Image:
         # an image that another call than the usual one fills
         image = cls.__new__(cls)
         image._read(kept(data), options, call, *also)
         return image
 
     def _read(self, data: Any, options: Options, call: Any, *also: Any) -> None:
-        self._data: Any = data
+        self._data = data
         self._options, self._record = _tested(options), _records.Image()
         with held(data) as (address, length):
             fault = call(address, length, c.byref(options._record()), c.byref(self._record), *map(c.byref, also))

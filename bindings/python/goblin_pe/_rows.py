@@ -81,7 +81,7 @@ class Section(NamedTuple):
 
     name: bytes
     stored_name: bytes
-    index: int
+    index: int  # type: ignore[assignment]
     virtual_size: int
     virtual_address: int
     size_of_raw_data: int
@@ -166,7 +166,7 @@ class Library(NamedTuple):
 
     name: bytes | None
     name_error: PeError | None
-    index: int
+    index: int  # type: ignore[assignment]
     offset: int
     import_lookup_table_rva: int
     time_date_stamp: int
@@ -302,7 +302,7 @@ class Symbol(NamedTuple):
     """A symbol of an image or an object. The name is None if it can't be read. `index` counts
     auxiliary records, too: relocations name symbols by it."""
 
-    index: int
+    index: int  # type: ignore[assignment]
     name: bytes | None
     stored_name: bytes
     value: int
@@ -357,7 +357,7 @@ class Damage(NamedTuple):
 
     def errors(self) -> dict[str, PeError]:
         """The damaged parts, by the names of the fields."""
-        return {name: error for name, error in zip(self._fields[:5], self[:5]) if error}  # type: ignore[misc]
+        return {name: error for name, error in zip(self._fields[:5], self[:5]) if error}
 
     def __str__(self) -> str:
         lines = ["%s: %s" % (name, error.args[0]) for name, error in self.errors().items()]
@@ -467,7 +467,7 @@ def _coff_relocation(it: Any, image: Image) -> CoffRelocation:
 def damage(it: Any) -> Damage:
     """The damage of a record."""
     tables = (Table.HEADER, Table.HEADER, Table.IMPORTS, Table.EXPORTS, Table.RELOCATIONS)
-    errors = (error_of(getattr(it, name), table) for name, table in zip(Damage._fields, tables))
+    errors: Any = (error_of(getattr(it, name), table) for name, table in zip(Damage._fields, tables))
     return Damage(*errors, *(getattr(it, name) for name in Damage._fields[5:]))
 
 
