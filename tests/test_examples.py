@@ -2,7 +2,6 @@
 import contextlib
 import importlib.util
 import io
-import itertools
 import json
 import os
 import pathlib
