@@ -1,4 +1,5 @@
 """The examples that load, change, draw and look further into a file: their answers on known images, and that they end on any file."""
+import concurrent.futures
 import contextlib
 import importlib.util
 import io
@@ -406,20 +407,29 @@ class Ends(Case):
         self.assert_end(commands, hard_files())
 
     def assert_end(self, commands, files):
+        """The commands run side by side. What takes too long on a busy machine has a second try."""
         env = environment(GOBLIN_PE_SO=str(library() / "libgoblin_pe.so"), PYTHONPATH=str(BINDINGS / "python"), PYTHONDONTWRITEBYTECODE="1")
         file = self.folder / "some.dll"
-        for index, data in enumerate(files):
-            file.write_bytes(data)
-            for command in commands:
-                with self.subTest(index=index, command=os.path.basename(command[1] if command[0] == sys.executable else command[0])):
-                    before = os.times()
-                    status, out, said = run(command, file, env=env)
-                    after = os.times()
-                    self.assertIn(status, (0, 1, 2), said)
-                    self.assertNotIn(b"Traceback", said)
-                    self.assertRegex(out, rb"\A[ -~\n]*\Z")
-                    self.assertLess(len(out), 10 << 20)
-                    self.assertLess(sum(after[2:4]) - sum(before[2:4]), 1)
+
+        def ended(command):
+            for _ in range(2):
+                status, out, said = run(["sh", "-c", '"$@"; it=$?; times >&2; exit $it', "sh", *command], file, env=env)
+                *said, _, times = said.splitlines()
+                seconds = sum(60 * int(minutes) + float(rest) for minutes, rest in re.findall(rb"(\d+)m([\d.]+)s", times))
+                if seconds < 1:
+                    break
+            return status, out, b"".join(said), seconds
+
+        with concurrent.futures.ThreadPoolExecutor(os.cpu_count()) as pool:
+            for index, data in enumerate(files):
+                file.write_bytes(data)
+                for command, (status, out, said, seconds) in zip(commands, pool.map(ended, commands)):
+                    with self.subTest(index=index, command=os.path.basename(command[1] if command[0] == sys.executable else command[0])):
+                        self.assertIn(status, (0, 1, 2), said)
+                        self.assertNotIn(b"Traceback", said)
+                        self.assertRegex(out, rb"\A[ -~\n]*\Z")
+                        self.assertLess(len(out), 10 << 20)
+                        self.assertLess(seconds, 1)
 
 
 if __name__ == "__main__":
