@@ -351,7 +351,7 @@ class Headers(unittest.TestCase):
         for reader, file, sentence in SENTENCES:
             with self.subTest(reader), self.assertRaises(package().PeError) as caught:
                 {"te": package().Image.te, "object": lambda it: next(package().Image.object(it).symbols())}.get(reader, package().Image)(file)
-            self.assertEqual(str(caught.exception), "header: " + sentence)
+            self.assertEqual(caught.exception.args[0], sentence)
 
     def test_the_fields_of_an_optional_header_are_in_their_order(self):
         for name, standard_widths, windows_widths, standard, windows in FIELDS:
