@@ -632,8 +632,10 @@ impl<'a> Symbol<'a> {
     /// # let bytes = [];
     /// let object = Image::read_object(&bytes, Options::default())?;
     /// for symbol in object.symbols() {
-    ///     if let Some(Auxiliary::File(name)) = symbol?.auxiliary() {
-    ///         println!("made of {name}");
+    ///     match symbol?.auxiliary() {
+    ///         Some(Auxiliary::File(name)) => println!("made of {name}"),
+    ///         Some(Auxiliary::FileAt(offset)) => println!("made of {:?}", object.string_at(offset)),
+    ///         _ => {}
     ///     }
     /// }
     /// # Ok::<(), goblin_pe::Error>(())
