@@ -209,18 +209,23 @@ impl<'a> Image<'a> {
         self.is_dll()
     }
 
-    /// Whether the subsystem is the native one, as that of a driver of Windows. The imports are not
-    /// looked at.
+    /// Whether the COFF header has the flag of an executable image, and the subsystem is the native one.
+    /// A few programs of Windows have that subsystem, too. The imports are not looked at.
     #[must_use]
     pub fn is_driver(&self) -> bool {
-        self.record.optional_header.windows_fields.subsystem == IMAGE_SUBSYSTEM_NATIVE
+        let native = self.record.optional_header.windows_fields.subsystem == IMAGE_SUBSYSTEM_NATIVE;
+        native && self.is_executable()
+    }
+
+    // Whether the COFF header has the flag of an executable image.
+    fn is_executable(&self) -> bool {
+        self.record.coff_header.characteristics & IMAGE_FILE_EXECUTABLE_IMAGE != 0
     }
 
     /// Whether the COFF header has the flag of an executable image, and it is no DLL and no driver.
     #[must_use]
     pub fn is_exe(&self) -> bool {
-        let is_executable = self.record.coff_header.characteristics & IMAGE_FILE_EXECUTABLE_IMAGE != 0;
-        is_executable && !self.is_dll() && !self.is_driver()
+        self.is_executable() && !self.is_dll() && !self.is_driver()
     }
 
     /// The RVA of the entry point; 0 if there is none.
