@@ -46,7 +46,8 @@
             Strict mode refuses a damaged table. Permissive mode skips the damaged parts.
 
    Names such as IMAGE_SCN_CNT_CODE are those of the PE/COFF specification. They are in
-   goblin_pe_constants.h, with the prefix GOBLIN_PE_.
+   goblin_pe_constants.h, with the prefix GOBLIN_PE_. Machines have goblin's names there:
+   COFF_MACHINE_X86_64 is IMAGE_FILE_MACHINE_AMD64.
 
    One image record
    ----------------
