@@ -142,7 +142,7 @@ class Rust(Case):
                 it = wanted[name]
                 self.assertEqual((overlay, rich or None, imports or ""), (it["overlay"] or len(data), it["rich_hash"], it["imphash"]))
                 self.assertEqual(kinds, [not it["is_lib"], it["is_lib"], False, it["is_lib"], it["is_64"]])
-        self.assertEqual([it[3][:3] for it in lines[len(files):]], [[False, True, True], [False, False, True], [False, False, True]])
+        self.assertEqual([it[3][:3] for it in lines[len(files):]], [[False, True, True], [False, False, True], [False, False, False]])
         need("file")
         for path in paths[len(files):]:
             self.assertIn("(native)", succeed(["file", path]))

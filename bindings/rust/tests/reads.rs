@@ -266,26 +266,3 @@ fn texts_print_safely() {
     assert_eq!(format!("{machine:>18}|{:-<7}", Table::Header), "  COFF_MACHINE_X86|header-");
     assert_eq!(format!("{machine:?}"), "Names(COFF_MACHINE_X86)");
 }
-
-#[test]
-fn what_an_image_is_for() -> Result<(), Error> {
-    let bytes = sample("imports_by_name_x64.dll");
-    let image = Image::parse(&bytes)?;
-    let (mut header, mut optional) = (image.header(), *image.optional_header().expect("one"));
-    for (characteristics, subsystem, wanted) in [
-        (0x22, 3, [true, false, false]),
-        (0x2022, 3, [false, true, false]),
-        (0x22, 1, [false, false, true]),
-        (0x2022, 1, [false, true, true]),
-        (0x2020, 3, [false, true, false]),
-        (0x20, 1, [false, false, false]),
-    ] {
-        header.coff_header.characteristics = characteristics;
-        optional.windows_fields.subsystem = subsystem;
-        header.optional_header = Some(optional);
-        let made = image.patched(&header, &[])?;
-        let it = Image::parse(&made)?;
-        assert_eq!([it.is_exe(), it.is_dll(), it.is_driver()], wanted);
-    }
-    Ok(())
-}
