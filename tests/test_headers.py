@@ -378,6 +378,13 @@ class RefusedTables(unittest.TestCase):
                     self.assertEqual(caught.exception.table.name, table)
 
 
+def fields(record):
+    """The fields of a record. (What lies between them has no meaning.)"""
+    if isinstance(record, (ctypes.Structure, ctypes.Array)):
+        return [fields(it) for it in (record if isinstance(record, ctypes.Array) else (getattr(record, it[0]) for it in record._fields_))]
+    return record
+
+
 class Partial(unittest.TestCase):
     def test_each_part_is_given_or_refused_by_itself(self):
         for name, file, refused, faults, wanted in PARTS:
@@ -421,7 +428,7 @@ class Partial(unittest.TestCase):
     def assert_same(self, one, two):
         for part in ("dos_header", "dos_stub", "rich_header", "coff_header", "optional_header", "directories", "sections"):
             self.assertEqual(getattr(one, part), getattr(two, part))
-        self.assertEqual((dict(one.header_faults), bytes(one._record)[16:]), ({}, bytes(two._record)[16:]))
+        self.assertEqual((dict(one.header_faults), fields(one._record)[1:]), ({}, fields(two._record)[1:]))
 
 
 class Written(unittest.TestCase):
