@@ -64,7 +64,8 @@
        strict.options.is_permissive = false;
 
    You may change any number in the record. It then leads to other tables, which harms nothing. A
-   pointer that you change has to point at as many bytes as its length says.
+   pointer that you change has to point at as many bytes as its length says. Compare records field by
+   field: what lies between their fields has no meaning.
 
    goblin_pe_read_partial_image fills the record with what is there of a damaged header.
    goblin_pe_read_object and goblin_pe_read_te fill the same record from a COFF object and from a
