@@ -133,7 +133,10 @@ impl<'a> Section<'a> {
     pub fn relocations(&self, image: &Image<'a>) -> Walk<'a, CoffRelocation> {
         let mut cursor = self.record().relocations;
         cursor.index = cursor.is_extended.into();
-        Walk::at(image, cursor)
+        let mut walk = Walk::at(image, cursor);
+        // (most sections have none, and need no call)
+        walk.is_over = cursor.count == 0;
+        walk
     }
 
     /// Sets the stored name to a slash and an offset of the string table. The field `name` stays as

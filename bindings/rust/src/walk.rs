@@ -34,7 +34,7 @@ pub struct Walk<'a, T: Row<'a>> {
     // What the last call gave, and how many of these were handed out.
     records: Vec<T::Record>,
     given: usize,
-    is_over: bool,
+    pub(crate) is_over: bool,
 }
 
 // How many records a call is asked for: the first one, and each one after it.
