@@ -40,8 +40,8 @@ Section: libdevel
 Priority: optional
 Description: reader of PE files that can't be trusted, by a proved library
  Executables, libraries and objects of Windows and UEFI, read from C, Python and
- Rust. What was proved, and of which sources, is in
- /usr/share/doc/goblin-pe/PROVED.
+ Rust. /usr/share/doc/goblin-pe/PROVED says what was proved, and from which
+ sources.
  .
  It needs a processor of the level x86-64-v2, which most have had since 2011.
 """

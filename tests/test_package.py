@@ -198,7 +198,7 @@ GATE = ["rt: goblin_base proved", "rt: goblin_base: its tests are proved", "rt: 
 
 
 class Releases(Case):
-    """bindings/package in a small repository of its own. A short gate and a short build stand in for the real ones."""
+    """bindings/package in a small repository of its own. A short gate and a short build replace the real ones."""
 
     def setUp(self):
         need("git", "cargo")

@@ -243,7 +243,7 @@ class Kept(unittest.TestCase):
         self.assertLess(most_memory(lambda: [self.assert_refused(call) for _ in range(20) for call in self.refusals(many)]), 4 * len(many))
 
     def test_what_is_handed_out_is_nobodys_to_change(self):
-        """All that lists rows is a tuple of rows, each of which can be a key. No header, field or view is assigned."""
+        """Lists of rows are tuples, and each row can be a key. No header, field or view can be assigned."""
         pe, image, te = Pe(DATA), Image.object(OBJECT), Image.te(sample("firmware_x64.te"))
         for rows in (*tables_of(pe), pe.libraries, image.sections, te.sections, pe.image.directories):
             self.assertIsInstance(rows, tuple)
