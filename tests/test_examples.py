@@ -407,12 +407,12 @@ class Ends(Case):
         self.assert_end(commands, hard_files())
 
     def assert_end(self, commands, files):
-        """The commands run side by side. What takes too long on a busy machine has a second try."""
+        """The commands run side by side. What takes too long on a busy machine is tried again."""
         env = environment(GOBLIN_PE_SO=str(library() / "libgoblin_pe.so"), PYTHONPATH=str(BINDINGS / "python"), PYTHONDONTWRITEBYTECODE="1")
         file = self.folder / "some.dll"
 
         def ended(command):
-            for _ in range(2):
+            for _ in range(4):
                 status, out, said = run(["sh", "-c", '"$@"; it=$?; times >&2; exit $it', "sh", *command], file, env=env)
                 *said, _, times = said.splitlines()
                 seconds = sum(60 * int(minutes) + float(rest) for minutes, rest in re.findall(rb"(\d+)m([\d.]+)s", times))

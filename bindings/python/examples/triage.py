@@ -18,7 +18,7 @@ from goblin_pe import Budget, Image, Kind, Mapping, Options, OutOfSteps, PeError
 from recipes import entropy
 
 OPTIONS = Options(permissive=True, longest_name=256)
-STEPS = 100_000
+STEPS = 50_000
 SECTIONS = 200
 MEASURED = 1 << 20  # bytes whose entropy is computed
 Key = Tuple[bytes, Any]
