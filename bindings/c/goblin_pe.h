@@ -200,12 +200,6 @@
    checksum                   n
    write_*, set_name_offset   the bytes written
 
-   Known fault
-   -----------
-   If the file alignment is below 512, as in some UEFI images, a section is taken to reach up to 511
-   bytes too far. So an RVA at the start of the next section can get a wrong offset, and tables there
-   may be refused.
-
    Hostile files
    -------------
    - Libraries may share one lookup table, so a small file can list very much: 256 KiB list 850

@@ -119,16 +119,17 @@ section_data o alignment bytes index s =
 -- ---- a section's memory
 
 -- how many bytes a section's window has; there is none if the alignment is not a power of two
-abbrev pub window_size : ℕ → Section → ℕ
-window_size alignment s = if is_power_of_two alignment then read_size s alignment else 0
+abbrev pub window_size : ParseOptions → ℕ → Section → ℕ
+window_size opts alignment s =
+    if is_power_of_two alignment then read_size opts.raw_pointer_rule s alignment else 0
 
 -- the address is one of the `length` addresses from the section's on
 abbrev pub is_among : ℕ → ℕ → Section → Bool
 is_among size rva s = nat_le s.virtual_address rva && nat_lt rva (s.virtual_address + size)
 
 -- how many bytes the section's memory has, in which its window lies
-abbrev pub memory_length : ℕ → Section → ℕ
-memory_length alignment s = max (memory_size s) (window_size alignment s)
+abbrev pub memory_length : ParseOptions → ℕ → Section → ℕ
+memory_length opts alignment s = max (memory_size s) (window_size opts alignment s)
 
 -- How many bytes of a section's memory are the file's: those of its raw data, and of the file
 -- blocks in its window as far as the file, whose end is given, has them. None are, if it has no
@@ -137,8 +138,8 @@ abbrev pub stored_in_memory : ParseOptions → ℕ → ℕ → Section → ℕ
 stored_in_memory opts alignment end s =
     if is_unstored s
     then 0
-    else max (min (window_size alignment s) (end - raw_begin opts s))
-    (min (memory_length alignment s) (stored_size opts s))
+    else max (min (window_size opts alignment s) (end - raw_begin opts s))
+    (min (memory_length opts alignment s) (stored_size opts s))
 
 -- ---- what holds an address
 
@@ -146,14 +147,14 @@ stored_in_memory opts alignment end s =
 -- front, if it is mapped, comes after all sections
 abbrev pub holder : MappedImage → ℕ → Option Section
 holder m rva =
-    option_or (find (λ s. is_among (window_size m.alignment s) rva s) m.sections)
-    (find (λ s. is_among (memory_length m.alignment s) rva s) m.sections)
+    option_or (find (λ s. is_among (window_size m.opts m.alignment s) rva s) m.sections)
+    (find (λ s. is_among (memory_length m.opts m.alignment s) rva s) m.sections)
 
 -- its index
 abbrev pub holder_index : MappedImage → ℕ → Option ℕ
 holder_index m rva =
-    option_or (position (λ s. is_among (window_size m.alignment s) rva s) m.sections)
-    (position (λ s. is_among (memory_length m.alignment s) rva s) m.sections)
+    option_or (position (λ s. is_among (window_size m.opts m.alignment s) rva s) m.sections)
+    (position (λ s. is_among (memory_length m.opts m.alignment s) rva s) m.sections)
 
 -- ---- `size` bytes
 
@@ -166,7 +167,7 @@ stored_of opts alignment end s distance size =
 abbrev pub memory_of : MappedImage → List ℕ → ℕ → ℕ → Section → List ℕ × ℕ
 memory_of m bytes rva size s =
     let distance = rva - s.virtual_address in
-    let most = min size (memory_length m.alignment s - distance) in
+    let most = min size (memory_length m.opts m.alignment s - distance) in
     let stored = stored_of m.opts m.alignment (length bytes) s distance most in
     available bytes (raw_begin m.opts s + distance) stored (most - stored)
 

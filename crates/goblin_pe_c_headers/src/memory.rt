@@ -17,7 +17,7 @@ use crate::options::{PeOptions, are_known, options_at};
 use crate::places::PePlaces;
 use crate::section::{PeSection, section_of};
 use goblin_pe_sect::section_table::IMAGE_SCN_CNT_UNINITIALIZED_DATA;
-use goblin_pe_sect::utils::{raw_begin, window};
+use goblin_pe_sect::utils::{raw_begin, window_with_opts};
 use goblin_pe_sect::{ParseOptions, SectionTable};
 
 /// Where memory of an image comes from.
@@ -190,11 +190,11 @@ pub fn section_data<'a>(
 
 // How many bytes the window of a section has.
 #[tactic(auto, using(goblin_pe_sect::proofs::Mapped::read_size_le))]
-fn window_size(section: &SectionTable, file_alignment: u32) -> usize
-    ensures value { result ≡ window_size file_alignment section.now }
+fn window_size(section: &SectionTable, file_alignment: u32, opts: &ParseOptions) -> usize
+    ensures value { result ≡ window_size opts.now file_alignment section.now }
     ensures small { result < 2 ^ 33 }
 {
-    match window(section, file_alignment) {
+    match window_with_opts(section, file_alignment, opts) {
         Some((begin, end)) => {
             let raw_size = section.size_of_raw_data as usize;
             prove!(end - begin < raw_size + 4096);
@@ -205,11 +205,11 @@ fn window_size(section: &SectionTable, file_alignment: u32) -> usize
 }
 
 // How many bytes the memory of a section has.
-fn memory_length(section: &SectionTable, file_alignment: u32) -> usize
-    ensures value { result ≡ memory_length file_alignment section.now }
+fn memory_length(section: &SectionTable, file_alignment: u32, opts: &ParseOptions) -> usize
+    ensures value { result ≡ memory_length opts.now file_alignment section.now }
     ensures small { result < 2 ^ 33 }
 {
-    memory_size(section).max(window_size(section, file_alignment))
+    memory_size(section).max(window_size(section, file_alignment, opts))
 }
 
 // Whether an RVA is one of `size` from the section's address on.
@@ -235,8 +235,10 @@ fn stored_in_memory(
         return 0;
     }
     let left = end.saturating_sub(raw_begin(section, opts) as usize);
-    let data = memory_length(section, file_alignment).min(stored_size(section, opts));
-    window_size(section, file_alignment).min(left).max(data)
+    let data = memory_length(section, file_alignment, opts).min(stored_size(section, opts));
+    window_size(section, file_alignment, opts)
+        .min(left)
+        .max(data)
 }
 
 // What holds an RVA, with its index: the first section whose window does, or else the first whose
@@ -249,12 +251,16 @@ fn holder(mapped: &Mapped, rva: usize) -> Option<(usize, SectionTable)>
     let by_window = mapped.records.find(|section| is_among(
         rva,
         section,
-        window_size(section, alignment),
+        window_size(section, alignment, &mapped.opts),
     ));
     if by_window.is_some() {
         return by_window;
     }
-    mapped.records.find(|section| is_among(rva, section, memory_length(section, alignment)))
+    mapped.records.find(|section| is_among(
+        rva,
+        section,
+        memory_length(section, alignment, &mapped.opts),
+    ))
 }
 
 // The first bytes of a section's memory, at most `size`, from an RVA in it on.
@@ -271,7 +277,7 @@ fn memory_of<'a>(
 {
     let alignment = mapped.file_alignment;
     let distance = rva.saturating_sub(section.virtual_address as usize);
-    let most = size.min(memory_length(section, alignment).saturating_sub(distance));
+    let most = size.min(memory_length(section, alignment, &mapped.opts).saturating_sub(distance));
     let stored = stored_in_memory(section, alignment, &mapped.opts, bytes.len());
     let stored = most.min(stored.saturating_sub(distance));
     let begin = raw_begin(section, &mapped.opts) as usize;

@@ -66,16 +66,18 @@ is_code_there None = false
 is_code_there (Some s) = is_code s
 
 -- whether the entry point of an optional header lies in a section that may be executed
-abbrev pub is_entered_in_code : Option OptionalHeader → List Section → Bool
-is_entered_in_code None sections = false
-is_entered_in_code (Some h) sections =
+abbrev pub is_entered_in_code : ParseOptions → Option OptionalHeader → List Section → Bool
+is_entered_in_code opts None sections = false
+is_entered_in_code opts (Some h) sections =
     is_code_there
-    (section_at h.windows_fields.file_alignment h.standard_fields.address_of_entry_point sections)
+    (section_at opts h.windows_fields.file_alignment h.standard_fields.address_of_entry_point
+    sections)
 
 -- the same for a file
 abbrev pub enters_code : Reading Bool
 enters_code =
-    mapped (λ both. is_entered_in_code both.0.optional_header both.1) (layout default_options)
+    mapped (λ both. is_entered_in_code default_options both.0.optional_header both.1)
+    (layout default_options)
 
 -- ---- headers
 

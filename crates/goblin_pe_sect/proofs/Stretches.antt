@@ -106,9 +106,9 @@ from_by opts alignment n j s sections false found later =
     let place : n + 1 + j ≡ n + suc j = omega arith in
     rw (next, ← place) later
 
-from : (opts : ParseOptions) (alignment rva n : ℕ) (sections : List Section) → option_map (λ (w : Window). w.owner) (find (window_holds rva) (map (λ (r : ℕ × Section). section_window_at opts alignment r.0 r.1) (enumerate_from n sections))) ≡ option_map (owner_of_section opts alignment (n + position_or_len (is_in_window alignment rva) sections)) (slice_get sections (position_or_len (is_in_window alignment rva) sections))
+from : (opts : ParseOptions) (alignment rva n : ℕ) (sections : List Section) → option_map (λ (w : Window). w.owner) (find (window_holds rva) (map (λ (r : ℕ × Section). section_window_at opts alignment r.0 r.1) (enumerate_from n sections))) ≡ option_map (owner_of_section opts alignment (n + position_or_len (is_in_window opts alignment rva) sections)) (slice_get sections (position_or_len (is_in_window opts alignment rva) sections))
 from opts alignment rva n [] = refl
-from opts alignment rva n (s ∷ sections) = from_by opts alignment n (position_or_len (is_in_window alignment rva) sections) s sections (is_in_window alignment rva s) _ (from opts alignment rva (n + 1) sections)
+from opts alignment rva n (s ∷ sections) = from_by opts alignment n (position_or_len (is_in_window opts alignment rva) sections) s sections (is_in_window opts alignment rva s) _ (from opts alignment rva (n + 1) sections)
 
 first_by : (opts : ParseOptions) (alignment : ℕ) (sections : List Section) (i : ℕ) (b : Bool) → (b ≡ false → slice_get sections i ≡ None) → option_map (owner_of_section opts alignment i) (slice_get sections i) ≡ option_and_then (λ (i : ℕ). option_map (owner_of_section opts alignment i) (slice_get sections i)) (cond b (Some i) None)
 first_by opts alignment sections i true none = refl
@@ -117,7 +117,7 @@ first_by opts alignment sections i false none = rw (none refl) refl
 -- the first window that holds an address has what an index keeps of the first section whose window does
 pub owner_among-sections : (opts : ParseOptions) (alignment : ℕ) (sections : List Section) (rva : ℕ) → owner_among (section_windows opts alignment sections) rva ≡ first_owner opts sections alignment rva
 owner_among-sections opts alignment sections rva =
-    let i : ℕ = position_or_len (is_in_window alignment rva) sections in
+    let i : ℕ = position_or_len (is_in_window opts alignment rva) sections in
     let start : 0 + i ≡ i = omega arith in
     let found = from opts alignment rva 0 sections in
     let past : nat_lt i (length sections) ≡ false → slice_get sections i ≡ None = λ e. slice_get_past sections i (search (rules, tests)) in

@@ -13,24 +13,24 @@ pub record IsLeft (opts : ParseOptions) (alignment : ℕ) (sections left : List 
   pub same : (other : ℕ) → low ≤ other → other < high → file_offset opts sections alignment other ≡ file_offset opts left alignment other
 
 module _ (opts : ParseOptions) (alignment : ℕ) (on : IsTrue opts.resolve_rva) (even : IsTrue (is_power_of_two alignment)) where
-  by_windows : (sections : List Section) (rva : ℕ) → file_offset opts sections alignment rva ≡ option_map (λ s. offset_in opts s rva) (find (is_in_window alignment rva) sections)
+  by_windows : (sections : List Section) (rva : ℕ) → file_offset opts sections alignment rva ≡ option_map (λ s. offset_in opts s rva) (find (is_in_window opts alignment rva) sections)
   by_windows sections rva =
       let on' : opts.resolve_rva ≡ true = search (rules, tests) in
       let even' : is_power_of_two alignment ≡ true = search (rules, tests) in
       file_offset-mapped opts sections alignment rva on' even'
 
   -- a section whose window does not hold an address has no part in its offset
-  not_first : (s : Section) (later : List Section) (rva : ℕ) → ¬ InWindow alignment rva s → file_offset opts (s ∷ later) alignment rva ≡ file_offset opts later alignment rva
+  not_first : (s : Section) (later : List Section) (rva : ℕ) → ¬ InWindow opts alignment rva s → file_offset opts (s ∷ later) alignment rva ≡ file_offset opts later alignment rva
   not_first s later rva out =
       by_windows (s ∷ later) rva
-      ∙ ap (λ (b : Bool). option_map (λ s. offset_in opts s rva) (cond b (Some s) (find (is_in_window alignment rva) later))) (window_test_fails alignment rva s out)
+      ∙ ap (λ (b : Bool). option_map (λ s. offset_in opts s rva) (cond b (Some s) (find (is_in_window opts alignment rva) later))) (window_test_fails opts alignment rva s out)
       ∙ sym (by_windows later rva)
 
   -- and one whose window holds it, before the others, says it
-  first : (s : Section) (later : List Section) (rva : ℕ) → InWindow alignment rva s → file_offset opts (s ∷ later) alignment rva ≡ Some (offset_in opts s rva)
+  first : (s : Section) (later : List Section) (rva : ℕ) → InWindow opts alignment rva s → file_offset opts (s ∷ later) alignment rva ≡ Some (offset_in opts s rva)
   first s later rva holds =
       by_windows (s ∷ later) rva
-      ∙ ap (λ (b : Bool). option_map (λ s. offset_in opts s rva) (cond b (Some s) (find (is_in_window alignment rva) later))) (window_test alignment rva s holds)
+      ∙ ap (λ (b : Bool). option_map (λ s. offset_in opts s rva) (cond b (Some s) (find (is_in_window opts alignment rva) later))) (window_test opts alignment rva s holds)
 
   module _ (sections left : List Section) (rva low high : ℕ) (is : IsLeft opts alignment sections left rva low high) where
     module _ (s : Section) (later : List Section) (next : left ≡ s ∷ later) where
@@ -38,7 +38,7 @@ module _ (opts : ParseOptions) (alignment : ℕ) (on : IsTrue opts.resolve_rva) 
       same_offsets other from to = is.same other from to ∙ ap (λ (left : List Section). file_offset opts left alignment other) next
 
       -- a section is passed whose window ends before the address
-      pub passed_before : (low' high' end : ℕ) → low' ≡ max low end → high' ≡ high → window_end s alignment ≤ end → end ≤ rva → IsLeft opts alignment sections later rva low' high'
+      pub passed_before : (low' high' end : ℕ) → low' ≡ max low end → high' ≡ high → window_end opts s alignment ≤ end → end ≤ rva → IsLeft opts alignment sections later rva low' high'
       passed_before low' high' end up same before from = record {
         from = omega (arith, is.from, up, from);
         to = omega (arith, is.to, same);
@@ -54,7 +54,7 @@ module _ (opts : ParseOptions) (alignment : ℕ) (on : IsTrue opts.resolve_rva) 
       }
 
       -- an address between them in the next window has the offset that its section says
-      pub owned : (other : ℕ) → low ≤ other → other < high → s.virtual_address ≤ other → other < window_end s alignment → file_offset opts sections alignment other ≡ Some (offset_in opts s other)
+      pub owned : (other : ℕ) → low ≤ other → other < high → s.virtual_address ≤ other → other < window_end opts s alignment → file_offset opts sections alignment other ≡ Some (offset_in opts s other)
       owned other from to begin end = same_offsets other from to ∙ first s later other (begin, end)
 
     -- the address has no offset where no section is left

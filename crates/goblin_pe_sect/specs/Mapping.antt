@@ -8,24 +8,31 @@ use Rattle.goblin_base.specs.declared.error.ErrorOf.{ErrorOf}
 use Rattle.goblin_base.specs.declared.error.ErrorOf.TheVariants.{Malformed}
 use Rattle.goblin_pe_sect.specs.declared.options.ParseOptions.{ParseOptions}
 use Rattle.goblin_pe_sect.specs.declared.options.RawPointerRule.{RawPointerRule}
-use Rattle.goblin_pe_sect.specs.declared.options.RawPointerRule.TheVariants.{AsStored, RoundedTo512}
+use Rattle.goblin_pe_sect.specs.declared.options.RawPointerRule.TheVariants.{AsStored, RoundedTo512, Unrounded}
 use Rattle.goblin_pe_sect.specs.Multiples.{greatest_multiple, least_multiple}
 use Rattle.goblin_pe_sect.specs.SectionTable.{Section}
 
--- PE Format leaves the mapping of addresses to loaders. The windows defined here are goblin's. The
--- rule that rounds raw pointers is that of the Windows loader for images whose section alignment is
--- 4,096 or more.
+-- PE Format leaves the mapping of addresses to loaders. The windows defined here are goblin's,
+-- except by the rule that rounds nothing. The rule that rounds raw pointers is that of the Windows
+-- loader for images whose section alignment is 4,096 or more.
+
+-- the file offset from which a window is measured, by a rule: the raw pointer, in goblin rounded
+-- down to 512
+abbrev pub measured_from : RawPointerRule → ℕ → ℕ
+measured_from Unrounded pointer = pointer
+measured_from AsStored pointer = greatest_multiple 512 pointer
+measured_from RoundedTo512 pointer = greatest_multiple 512 pointer
 
 -- How many bytes of a section are read from the file at this file alignment. There are none if it
--- has no raw data. Otherwise they run from the raw pointer rounded down to 512 to the end of the
--- raw data rounded up to the alignment; but there are at most as many as the raw size in whole
--- pages, and at most as many as the virtual size in whole pages, if that is not 0.
-unfoldable pub read_size : Section → ℕ → ℕ
-read_size s alignment =
+-- has no raw data. Otherwise they run from the raw pointer, rounded down as the rule says, to the
+-- end of the raw data rounded up to the alignment; but there are at most as many as the raw size in
+-- whole pages, and at most as many as the virtual size in whole pages, if that is not 0.
+unfoldable pub read_size : RawPointerRule → Section → ℕ → ℕ
+read_size rule s alignment =
     let raw = s.size_of_raw_data in
     let stored = min
     (least_multiple alignment (s.pointer_to_raw_data + raw)
-    - greatest_multiple 512 s.pointer_to_raw_data)
+    - measured_from rule s.pointer_to_raw_data)
     (least_multiple 4096 raw) in
     if raw == 0
     then 0
@@ -34,23 +41,24 @@ read_size s alignment =
     else min stored (least_multiple 4096 s.virtual_size))
 
 -- the first address after a section's window; the window begins at the section's address
-abbrev pub window_end : Section → ℕ → ℕ
-window_end s alignment = s.virtual_address + read_size s alignment
+abbrev pub window_end : ParseOptions → Section → ℕ → ℕ
+window_end opts s alignment = s.virtual_address + read_size opts.raw_pointer_rule s alignment
 
 -- the start and the end of a section's window; there is no window if the alignment is not a power
 -- of two
-abbrev pub window_of : Section → ℕ → Option (ℕ × ℕ)
-window_of s alignment =
-    if is_power_of_two alignment then Some (s.virtual_address, window_end s alignment) else None
+abbrev pub window_of : ParseOptions → Section → ℕ → Option (ℕ × ℕ)
+window_of opts s alignment =
+    if is_power_of_two alignment then Some (s.virtual_address, window_end opts s alignment) else None
 
 -- the window of a section holds this address
-abbrev pub is_in_window : ℕ → ℕ → Section → Bool
-is_in_window alignment rva s = nat_le s.virtual_address rva && nat_lt rva (window_end s alignment)
+abbrev pub is_in_window : ParseOptions → ℕ → ℕ → Section → Bool
+is_in_window opts alignment rva s = nat_le s.virtual_address rva && nat_lt rva (window_end opts s alignment)
 
 -- the file offset at which raw data with this raw pointer begins, by a rule: the pointer as stored,
 -- or the greatest multiple of 512 that is at most the pointer
 abbrev pub ruled : RawPointerRule → ℕ → ℕ
 ruled AsStored pointer = pointer
+ruled Unrounded pointer = pointer
 ruled RoundedTo512 pointer = greatest_multiple 512 pointer
 
 -- the file offset at which a section's raw data begins, by the rule of the options
@@ -70,36 +78,36 @@ file_offset opts sections alignment rva =
     if opts.resolve_rva
     then (if is_power_of_two alignment
     then option_map (λ s. offset_in opts s rva)
-    (find (is_in_window alignment rva) sections)
+    (find (is_in_window opts alignment rva) sections)
     else None)
     else Some rva
 
 -- the first section whose window holds the address; there is none if the alignment is not a power
 -- of two
-abbrev pub section_at : ℕ → ℕ → List Section → Option Section
-section_at alignment rva sections =
-    if is_power_of_two alignment then find (is_in_window alignment rva) sections else None
+abbrev pub section_at : ParseOptions → ℕ → ℕ → List Section → Option Section
+section_at opts alignment rva sections =
+    if is_power_of_two alignment then find (is_in_window opts alignment rva) sections else None
 
 -- ---- what holds of the file offset of an address
 
 -- the section's window holds the address
-abbrev pub InWindow : ℕ → ℕ → Section → Type 0
-InWindow alignment rva s = (s.virtual_address ≤ rva) × (rva < window_end s alignment)
+abbrev pub InWindow : ParseOptions → ℕ → ℕ → Section → Type 0
+InWindow opts alignment rva s = (s.virtual_address ≤ rva) × (rva < window_end opts s alignment)
 
 -- the window of the section at this index holds the address, and no earlier section's window does
-pub record IsFirstWindow (sections : List Section) (alignment rva index : ℕ) : Type 0 where
+pub record IsFirstWindow (opts : ParseOptions) (sections : List Section) (alignment rva index : ℕ) : Type 0 where
   pub section : Section
   pub is : slice_get sections index ≡ Some section
-  pub holds : InWindow alignment rva section
+  pub holds : InWindow opts alignment rva section
   pub least : (k : ℕ) (s : Section) → k < index → slice_get sections k ≡ Some s
-      → ¬ InWindow alignment rva s
+      → ¬ InWindow opts alignment rva s
 
 -- Different addresses that one section maps have different offsets.
 abbrev pub OffsetsApart : ParseOptions → List Section → ℕ → Type 0
 OffsetsApart opts sections alignment =
     (first second index : ℕ) → IsTrue (is_power_of_two alignment)
-    → IsFirstWindow sections alignment first index
-    → IsFirstWindow sections alignment second index
+    → IsFirstWindow opts sections alignment first index
+    → IsFirstWindow opts sections alignment second index
     → file_offset opts sections alignment first ≡ file_offset opts sections alignment second
     → first ≡ second
 
@@ -107,13 +115,13 @@ OffsetsApart opts sections alignment =
 -- address
 abbrev pub MapsTo : ParseOptions → List Section → ℕ → ℕ → ℕ → Type 0
 MapsTo opts sections alignment rva offset =
-    (index : ℕ) × (first : IsFirstWindow sections alignment rva index)
+    (index : ℕ) × (first : IsFirstWindow opts sections alignment rva index)
     × (offset ≡ offset_in opts first.section rva)
 
 -- no section's window holds the address
-abbrev pub MapsNowhere : List Section → ℕ → ℕ → Type 0
-MapsNowhere sections alignment rva =
-    (k : ℕ) (s : Section) → slice_get sections k ≡ Some s → ¬ InWindow alignment rva s
+abbrev pub MapsNowhere : ParseOptions → List Section → ℕ → ℕ → Type 0
+MapsNowhere opts sections alignment rva =
+    (k : ℕ) (s : Section) → slice_get sections k ≡ Some s → ¬ InWindow opts alignment rva s
 
 -- the cause is this message
 abbrev pub IsMessage : List ℕ → ErrorOf → Type 0

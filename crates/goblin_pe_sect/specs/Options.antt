@@ -4,7 +4,7 @@ use Rattle.goblin_base.specs.declared.permissive.ParseMode.{ParseMode}
 use Rattle.goblin_base.specs.declared.permissive.ParseMode.TheVariants.{Strict, Permissive}
 use Rattle.goblin_pe_sect.specs.declared.options.ParseOptions.{ParseOptions}
 use Rattle.goblin_pe_sect.specs.declared.options.RawPointerRule.{RawPointerRule}
-use Rattle.goblin_pe_sect.specs.declared.options.RawPointerRule.TheVariants.{AsStored, RoundedTo512}
+use Rattle.goblin_pe_sect.specs.declared.options.RawPointerRule.TheVariants.{AsStored, RoundedTo512, Unrounded}
 use Rattle.goblin_pe_sect.specs.declared.options.View.{View}
 use Rattle.goblin_pe_sect.specs.declared.options.View.TheVariants.{Loader, Sections}
 
@@ -25,9 +25,9 @@ default_options = record {
 abbrev pub te_options : ParseOptions
 te_options = record default_options { resolve_rva = false; parse_attribute_certificates = false }
 
--- the rule for raw pointers by which pefile maps an image with this file alignment
+-- the rule for raw pointers that is right for an image with this file alignment
 abbrev pub rule_by_alignment : ℕ → RawPointerRule
-rule_by_alignment alignment = if nat_lt alignment 512 then AsStored else RoundedTo512
+rule_by_alignment alignment = if nat_lt alignment 512 then Unrounded else RoundedTo512
 
 -- the size of the headers if the file's front is mapped, which is so in the loader's view only; the
 -- window of `front_section` says how many bytes of the front are mapped for this size

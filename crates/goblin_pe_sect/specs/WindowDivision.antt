@@ -9,6 +9,6 @@ use Rattle.goblin_pe_sect.specs.WindowIndex.{AreNear, IsCut, begins_of, first_ow
 -- window covers it
 pub record IsDivision (opts : ParseOptions) (sections : List Section) (alignment : ℕ)
     (pieces : List Piece) : Type 0 where
-  pub cut : IsCut sections alignment (begins_of pieces)
-  pub near : AreNear sections alignment
+  pub cut : IsCut opts sections alignment (begins_of pieces)
+  pub near : AreNear opts sections alignment
   pub owned : owners_of pieces ≡ map (first_owner opts sections alignment) (begins_of pieces)

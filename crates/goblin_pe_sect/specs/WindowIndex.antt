@@ -35,18 +35,18 @@ HasPieces opts alignment = IsTrue opts.resolve_rva × IsTrue (is_power_of_two al
 
 -- x is a place where the address space is cut: 0, or a start or an end of a window that is not
 -- empty
-abbrev pub IsBorder : List Section → ℕ → ℕ → Type 0
-IsBorder sections alignment x =
+abbrev pub IsBorder : ParseOptions → List Section → ℕ → ℕ → Type 0
+IsBorder opts sections alignment x =
     (x ≡ 0)
-    ⊎ ((k : ℕ) × (s : Section) × (slice_get sections k ≡ Some s) × (0 < read_size s alignment)
-    × ((x ≡ s.virtual_address) ⊎ (x ≡ window_end s alignment)))
+    ⊎ ((k : ℕ) × (s : Section) × (slice_get sections k ≡ Some s) × (0 < read_size opts.raw_pointer_rule s alignment)
+    × ((x ≡ s.virtual_address) ⊎ (x ≡ window_end opts s alignment)))
 
 -- the pieces begin where the address space is cut, in rising order; there are at most two for each
 -- section, and the one at 0
-pub record IsCut (sections : List Section) (alignment : ℕ) (begins : List ℕ) : Type 0 where
+pub record IsCut (opts : ParseOptions) (sections : List Section) (alignment : ℕ) (begins : List ℕ) : Type 0 where
   pub rising : IsStrictlyIncreasing begins
-  pub all : (x : ℕ) → IsBorder sections alignment x → Contains begins x
-  pub only : (x : ℕ) → Contains begins x → IsBorder sections alignment x
+  pub all : (x : ℕ) → IsBorder opts sections alignment x → Contains begins x
+  pub only : (x : ℕ) → Contains begins x → IsBorder opts sections alignment x
   pub few : length begins ≤ 2 * length sections + 1
 
 -- what an index of windows keeps of a section, with the index of the section in the table
@@ -59,7 +59,7 @@ abbrev pub first_owner : ParseOptions → List Section → ℕ → ℕ → Optio
 first_owner opts sections alignment rva =
     option_and_then
     (λ (i : ℕ). option_map (owner_of_section opts alignment i) (slice_get sections i))
-    (position (is_in_window alignment rva) sections)
+    (position (is_in_window opts alignment rva) sections)
 
 -- ---- what an index returns
 
@@ -112,6 +112,6 @@ pub record IsIndex (resolves : Bool) (begins : List ℕ) (owners : List (Option 
   pub unmapped : resolves ≡ false → begins ≡ []
 
 -- every section's window has at most 2 ^ 33 bytes
-abbrev pub AreNear : List Section → ℕ → Type 0
-AreNear sections alignment =
-    (k : ℕ) (s : Section) → slice_get sections k ≡ Some s → read_size s alignment ≤ 2 ^ 33
+abbrev pub AreNear : ParseOptions → List Section → ℕ → Type 0
+AreNear opts sections alignment =
+    (k : ℕ) (s : Section) → slice_get sections k ≡ Some s → read_size opts.raw_pointer_rule s alignment ≤ 2 ^ 33

@@ -42,7 +42,7 @@ abbrev pub section_window_at : ParseOptions → ℕ → ℕ → Section → Wind
 section_window_at opts alignment i s =
     record {
       begin = s.virtual_address;
-      end = window_end s alignment;
+      end = window_end opts s alignment;
       owner = owner_of_section opts alignment i s;
     }
 

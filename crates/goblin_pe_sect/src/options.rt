@@ -8,28 +8,32 @@ pub use goblin_base::ParseMode;
 
 /// The rule for where the raw data of a section begins when addresses are mapped.
 ///
-/// Both rules give the same offset if the raw pointer is a multiple of 512, as the PE/COFF
+/// All rules give the same offset if the raw pointer is a multiple of 512, as the PE/COFF
 /// specification requires for the usual file alignments. For other raw pointers the right rule
-/// depends on `section_alignment`. If it is 4,096 or more, rounding is right. If it is less, the
-/// pointer as stored is right, because the Windows loader maps such an image as one flat view of
-/// the file. For a lawful image, [`RawPointerRule::by_file_alignment`] gives the right rule.
+/// depends on `section_alignment`. If it is 4,096 or more, rounding is right. If it is less,
+/// nothing is rounded, because the Windows loader maps such an image as one flat view of the file.
+/// For a lawful image, [`RawPointerRule::by_file_alignment`] gives the right rule.
 #[derive(Debug, PartialEq, Copy, Clone)]
 pub enum RawPointerRule {
-    /// The raw data begins at the raw pointer, as in goblin.
+    /// The raw data begins at the raw pointer, as in goblin. The size of the window is computed
+    /// from the pointer rounded down to a multiple of 512, so a window may reach up to 511 bytes
+    /// past the raw data, and past the next section's address.
     AsStored,
     /// The raw data begins at the raw pointer rounded down to a multiple of 512.
     RoundedTo512,
+    /// The raw data begins at the raw pointer, and the size of the window is computed from there.
+    Unrounded,
 }
 
 impl RawPointerRule {
-    /// The rule by which pefile maps an image with this file alignment: rounded if the alignment is
-    /// 512 or more, else as stored. It is the right rule for every lawful image, because there the
-    /// file alignment is below 512 only if it equals a `section_alignment` below 4,096.
+    /// The rule that is right for an image with this file alignment: rounded if the alignment is
+    /// 512 or more, else not rounded. It is the right rule for every lawful image, because there
+    /// the file alignment is below 512 only if it equals a `section_alignment` below 4,096.
     pub fn by_file_alignment(file_alignment: u32) -> RawPointerRule
         ensures { result ≡ rule_by_alignment file_alignment }
     {
         if file_alignment < 512 {
-            RawPointerRule::AsStored
+            RawPointerRule::Unrounded
         } else {
             RawPointerRule::RoundedTo512
         }

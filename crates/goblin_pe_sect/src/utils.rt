@@ -10,9 +10,9 @@ ghost use Rattle.goblin_base.specs.Answers.{Answers};
 ghost use Rattle.goblin_base.specs.Reading.{Reads};
 ghost use Rattle.goblin_pe_sect.specs.Addresses.{Addressing, with_whole_names};
 ghost use Rattle.goblin_pe_sect.specs.AddressReadings.{data_at, name_or_none, text_at_address};
-ghost use Rattle.goblin_pe_sect.specs.Mapping.{read_size, window_end, window_of, raw_begin};
+ghost use Rattle.goblin_pe_sect.specs.Mapping.{measured_from, read_size, window_end, window_of};
 ghost use Rattle.goblin_pe_sect.specs.Mapping.{file_offset, InWindow, is_in_window, MapsTo};
-ghost use Rattle.goblin_pe_sect.specs.Mapping.{offset_in, section_at};
+ghost use Rattle.goblin_pe_sect.specs.Mapping.{offset_in, raw_begin, section_at};
 ghost use Rattle.goblin_pe_sect.specs.Mapping.{MapsNowhere, OffsetsApart, IsMessage};
 ghost use Rattle.goblin_pe_sect.specs.Multiples.{greatest_multiple, least_multiple};
 ghost use Rattle.goblin_pe_sect.specs.Options.{is_strict, default_options};
@@ -54,11 +54,23 @@ fn round_up(size: usize, step: usize) -> usize
     (size + (step - 1)) / step * step
 }
 
+// The file offset from which the window of a section with this raw pointer is measured.
+#[inline(always)]
+fn measured_from(pointer: usize, opts: &ParseOptions) -> usize
+    ensures value { result ≡ measured_from opts.now.raw_pointer_rule pointer }
+    ensures bound { result ≤ pointer }
+{
+    match opts.raw_pointer_rule {
+        RawPointerRule::Unrounded => pointer,
+        RawPointerRule::AsStored | RawPointerRule::RoundedTo512 => round_down(pointer, 512),
+    }
+}
+
 // How many bytes of the section are read from the file, in whole file blocks and pages.
 #[tactic(auto, unfolding(crate::specs::Mapping::read_size))]
-fn read_size(section: &SectionTable, file_alignment: u32) -> usize
+fn read_size(section: &SectionTable, file_alignment: u32, opts: &ParseOptions) -> usize
     requires { 0 < file_alignment }
-    ensures value { result ≡ read_size section.now file_alignment }
+    ensures value { result ≡ read_size opts.now.raw_pointer_rule section.now file_alignment }
     ensures bound { result < 2 ^ 33 }
 {
     let raw_size = section.size_of_raw_data as usize;
@@ -67,7 +79,7 @@ fn read_size(section: &SectionTable, file_alignment: u32) -> usize
     }
     let pointer = section.pointer_to_raw_data as usize;
     let end = round_up(pointer + raw_size, file_alignment as usize);
-    let stored = (end - round_down(pointer, 512)).min(round_up(raw_size, 4096));
+    let stored = (end - measured_from(pointer, opts)).min(round_up(raw_size, 4096));
     match section.virtual_size as usize {
         0 => stored,
         virtual_size => stored.min(round_up(virtual_size, 4096)),
@@ -75,22 +87,27 @@ fn read_size(section: &SectionTable, file_alignment: u32) -> usize
 }
 
 // The start and the end of the section's window. The end is the first address after it.
-pub(crate) fn section_window(section: &SectionTable, file_alignment: u32) -> (usize, usize)
+pub(crate) fn section_window(
+    section: &SectionTable,
+    file_alignment: u32,
+    opts: &ParseOptions,
+) -> (usize, usize)
     requires { 0 < file_alignment }
     ensures begin { result.0 ≡ section.now.virtual_address }
-    ensures end { result.1 ≡ window_end section.now file_alignment }
+    ensures end { result.1 ≡ window_end opts.now section.now file_alignment }
     ensures near { result.1 < result.0 + 2 ^ 33 }
 {
     let begin = section.virtual_address as usize;
-    (begin, begin + read_size(section, file_alignment))
+    (begin, begin + read_size(section, file_alignment, opts))
 }
 
-// An upper bound of the end of the section's window, for any file alignment. It holds because no
+// An upper bound of the end of the section's window, for any options and file alignment. It holds because no
 // more than the raw size in whole pages is read. It takes fewer steps than the window itself.
 #[inline(always)]
 #[tactic(auto, using(crate::proofs::Mapped::window_below))]
 pub(crate) fn past_window(section: &SectionTable) -> usize
-    ensures past { (alignment : ℕ) → window_end section.now alignment ≤ result }
+    ensures past { (opts : ParseOptions) (alignment : ℕ)
+        → window_end opts section.now alignment ≤ result }
     ensures near { result < section.now.virtual_address + 2 ^ 33 }
 {
     section.virtual_address as usize + round_up(section.size_of_raw_data as usize, 4096)
@@ -109,12 +126,24 @@ pub(crate) fn past_window(section: &SectionTable) -> usize
 /// The window may extend past the raw data and past the end of the file.
 ///
 /// Source: none; PE Format leaves the mapping to loaders. These are goblin's windows.
-#[tactic(auto, using(crate::proofs::Mapped::power_positive))]
 pub fn window(section: &SectionTable, file_alignment: u32) -> Option<(usize, usize)>
-    ensures { result ≡ window_of section.now file_alignment }
+    ensures { result ≡ window_of default_options section.now file_alignment }
+{
+    window_with_opts(section, file_alignment, &ParseOptions::default())
+}
+
+/// As [`window`], but the start of the raw data is rounded as the rule of `opts` says: by
+/// [`RawPointerRule::Unrounded`], it is not rounded.
+#[tactic(auto, using(crate::proofs::Mapped::power_positive))]
+pub fn window_with_opts(
+    section: &SectionTable,
+    file_alignment: u32,
+    opts: &ParseOptions,
+) -> Option<(usize, usize)>
+    ensures { result ≡ window_of opts.now section.now file_alignment }
 {
     if file_alignment.is_power_of_two() {
-        Some(section_window(section, file_alignment))
+        Some(section_window(section, file_alignment, opts))
     } else {
         None
     }
@@ -122,44 +151,51 @@ pub fn window(section: &SectionTable, file_alignment: u32) -> Option<(usize, usi
 
 // Whether the section's window holds the address.
 #[tactic(auto, unfolding(crate::specs::Mapping::read_size))]
-fn is_in_window(rva: usize, section: &SectionTable, file_alignment: u32) -> bool
+fn is_in_window(
+    rva: usize,
+    section: &SectionTable,
+    file_alignment: u32,
+    opts: &ParseOptions,
+) -> bool
     requires { 0 < file_alignment }
-    ensures { result ≡ is_in_window file_alignment rva section.now }
+    ensures { result ≡ is_in_window opts.now file_alignment rva section.now }
 {
-    let (begin, end) = section_window(section, file_alignment);
+    let (begin, end) = section_window(section, file_alignment, opts);
     is_in_range(rva, begin, end)
 }
 
 // The first section whose window holds the address.
 #[tactic(auto, using(crate::proofs::Mapped::found_in_window))]
-fn first_in_window(
+fn first_in_window<'s>(
     rva: usize,
-    sections: &[SectionTable],
+    sections: &'s [SectionTable],
     file_alignment: u32,
-) -> Option<&SectionTable>
+    opts: &ParseOptions,
+) -> Option<&'s SectionTable>
     requires { 0 < file_alignment }
-    ensures value { option_copied result ≡ find (is_in_window file_alignment rva) sections.now }
-    ensures holds { IfSome result (λ s. InWindow file_alignment rva s.now) }
+    ensures value { option_copied result ≡ find (is_in_window opts.now file_alignment rva) sections.now }
+    ensures holds { IfSome result (λ s. InWindow opts.now file_alignment rva s.now) }
 {
     sections
         .iter()
-        .find(|section| is_in_window(rva, section, file_alignment))
+        .find(|section| is_in_window(rva, section, file_alignment, opts))
 }
 
 /// The section in which an address lies: the first whose window holds it. [`find_offset`] maps the
 /// address by this section. `None` if no window holds the address, or `file_alignment` is not a
 /// power of two.
 #[tactic(auto, using(crate::proofs::Mapped::power_positive))]
-pub fn section_at(
+pub fn section_at<'s>(
     rva: usize,
-    sections: &[SectionTable],
+    sections: &'s [SectionTable],
     file_alignment: u32,
-) -> Option<&SectionTable>
-    ensures value { option_copied result ≡ section_at file_alignment rva sections.now }
-    ensures holds { IfSome result (λ s. InWindow file_alignment rva s.now) }
+    opts: &ParseOptions,
+) -> Option<&'s SectionTable>
+    ensures value { option_copied result ≡ section_at opts.now file_alignment rva sections.now }
+    ensures holds { IfSome result (λ s. InWindow opts.now file_alignment rva s.now) }
 {
     if file_alignment.is_power_of_two() {
-        first_in_window(rva, sections, file_alignment)
+        first_in_window(rva, sections, file_alignment, opts)
     } else {
         None
     }
@@ -174,7 +210,7 @@ pub fn raw_begin(section: &SectionTable, opts: &ParseOptions) -> u32
 {
     let pointer = section.pointer_to_raw_data;
     match opts.raw_pointer_rule {
-        RawPointerRule::AsStored => pointer,
+        RawPointerRule::AsStored | RawPointerRule::Unrounded => pointer,
         RawPointerRule::RoundedTo512 => round_down(pointer as usize, 512) as u32,
     }
 }
@@ -182,7 +218,7 @@ pub fn raw_begin(section: &SectionTable, opts: &ParseOptions) -> u32
 // The file offset of an address in the section's window.
 #[tactic(auto, using(crate::proofs::Mapped::read_size_le))]
 fn offset_in(rva: usize, section: &SectionTable, file_alignment: u32, opts: &ParseOptions) -> usize
-    requires { InWindow file_alignment rva section.now }
+    requires { InWindow opts.now file_alignment rva section.now }
     ensures { result ≡ offset_in opts.now section.now rva }
 {
     let distance = rva - section.virtual_address as usize;
@@ -204,7 +240,7 @@ fn offset_by(
     if !opts.resolve_rva {
         return Some(rva);
     }
-    let section = section_at(rva, sections, file_alignment)?;
+    let section = section_at(rva, sections, file_alignment, opts)?;
     Some(offset_in(rva, section, file_alignment, opts))
 }
 
@@ -229,7 +265,7 @@ pub fn find_offset(
 ) -> Option<usize>
     ensures value { result ≡ file_offset opts.now sections.now file_alignment rva }
     ensures first { IsTrue opts.now.resolve_rva → IsTrue (is_power_of_two file_alignment) →
-        MatchOption result (MapsNowhere sections.now file_alignment rva)
+        MatchOption result (MapsNowhere opts.now sections.now file_alignment rva)
         (MapsTo opts.now sections.now file_alignment rva) }
     ensures apart { OffsetsApart opts.now sections.now file_alignment }
 {

@@ -116,7 +116,7 @@ impl WindowIndex {
         ensures cut { IfOk result
             (λ w.
             IsTrue opts.now.resolve_rva → IsTrue (is_power_of_two file_alignment)
-            → IsCut sections.now file_alignment w.begins) }
+            → IsCut opts.now sections.now file_alignment w.begins) }
         ensures owned { IfOk result
             (λ w. w.owners ≡ map (first_owner opts.now sections.now file_alignment) w.begins) }
     {

@@ -126,7 +126,7 @@ pub fn reorder_whole_tables<'a, 'e, T: Bitfield<'a>, D: TryFromCtx<'a>>(
     ensures second { let m = map_by opts.now second.now file_alignment in
         AreTables T.format D.plain D.value_of D.refusal (reads_strictly m) m.addressing bytes.now
         request.now result.1 }
-    ensures alike { IsReordering file_alignment first.now second.now
+    ensures alike { IsReordering opts.now file_alignment first.now second.now
         → AreAlike D.plain result.0 result.1 }
 {
     let one = read_tables::<T, D>(alloc, bytes, first, request, file_alignment, opts);

@@ -53,6 +53,29 @@ fn raw_pointers_are_rounded_to_512_at_any_alignment(rt: HostRuntime) {
     assert!(rt; rounded(0x1200, 0x200) == None);
 }
 
+/// Two sections that are 0x40 apart in memory, but 0x10 apart in the file.
+const PACKED: [Numbers; 2] = [(0x1000, 0x10, 0x10, 0x390), (0x1040, 0x10, 0x10, 0x3A0)];
+
+/// The offset of the second section's address in [`PACKED`], by a rule for raw pointers.
+fn packed(raw_pointer_rule: RawPointerRule) -> Option<usize> {
+    let opts = ParseOptions {
+        raw_pointer_rule,
+        ..ParseOptions::default()
+    };
+    find_offset(
+        0x1040,
+        &[section_of(PACKED[0]), section_of(PACKED[1])],
+        0x10,
+        &opts,
+    )
+}
+
+#[test]
+fn a_window_that_is_not_rounded_ends_before_the_next_section(rt: HostRuntime) {
+    assert!(rt; packed(RawPointerRule::by_file_alignment(0x10)) == Some(0x3A0));
+    assert!(rt; packed(RawPointerRule::AsStored) == Some(0x3D0));
+}
+
 /// How many pieces an index has, an offset, and the most probes to find it.
 type Found = (usize, Option<usize>, usize);
 

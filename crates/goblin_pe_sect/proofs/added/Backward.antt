@@ -23,7 +23,7 @@ module _ (opts : ParseOptions) (sections : List Section) (alignment p : ℕ) whe
   passed (Some rva) h = found_is (file_offset opts sections alignment rva) h
 
   -- the section that maps an address to the offset has that address there
-  has_address : (s : Section) (rva : ℕ) → is_power_of_two alignment ≡ true → InWindow alignment rva s → p ≡ offset_in opts s rva → rva_in opts alignment p s ≡ Some rva
+  has_address : (s : Section) (rva : ℕ) → is_power_of_two alignment ≡ true → InWindow opts alignment rva s → p ≡ offset_in opts s rva → rva_in opts alignment p s ≡ Some rva
   has_address s rva even holds is = grind (arith, nat_tests)
 
   finds_itself : (s : Section) (rva : ℕ) → rva_in opts alignment p s ≡ Some rva → file_offset opts sections alignment rva ≡ Some p → maps_to opts sections alignment p (rva_in opts alignment p s) ≡ true
@@ -62,7 +62,7 @@ module _ (opts : ParseOptions) (sections : List Section) (alignment p : ℕ) whe
   none_found on none rva is =
       let even = aligned rva on is in
       let says = file_offset_first opts sections alignment rva (search (rules, tests)) (search (rules, tests)) in
-      let to : MapsTo opts sections alignment rva p = subst (λ (o : Option ℕ). MatchOption o (MapsNowhere sections alignment rva) (MapsTo opts sections alignment rva)) is says in
+      let to : MapsTo opts sections alignment rva p = subst (λ (o : Option ℕ). MatchOption o (MapsNowhere opts sections alignment rva) (MapsTo opts sections alignment rva)) is says in
       by_section rva even to is (none_passes test sections none)
 
   found : opts.resolve_rva ≡ true → (o : Option Section) → find test sections ≡ o → Says (option_and_then (rva_in opts alignment p) o)

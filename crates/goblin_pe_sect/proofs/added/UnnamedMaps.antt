@@ -13,10 +13,10 @@ unnamed_by : (b : Bool) (s : Section) (x y : Option Section) → x ≡ option_ma
 unnamed_by true s x y e = refl
 unnamed_by false s x y e = e
 
-find_unnamed : (alignment rva : ℕ) (sections : List Section) → find (is_in_window alignment rva) (map unnamed sections) ≡ option_map unnamed (find (is_in_window alignment rva) sections)
+find_unnamed : (opts : ParseOptions) (alignment rva : ℕ) (sections : List Section) → find (is_in_window opts alignment rva) (map unnamed sections) ≡ option_map unnamed (find (is_in_window opts alignment rva) sections)
 unfolding read_size
-find_unnamed alignment rva [] = refl
-find_unnamed alignment rva (s ∷ sections) = unnamed_by (is_in_window alignment rva s) s _ _ (find_unnamed alignment rva sections)
+find_unnamed opts alignment rva [] = refl
+find_unnamed opts alignment rva (s ∷ sections) = unnamed_by (is_in_window opts alignment rva s) s _ _ (find_unnamed opts alignment rva sections)
 
 offset_by : (opts : ParseOptions) (alignment rva : ℕ) (found : Option Section) → option_map (λ s. offset_in opts s rva) (option_map unnamed found) ≡ option_map (λ s. offset_in opts s rva) found
 offset_by opts alignment rva None = refl
@@ -28,7 +28,7 @@ unfolding file_offset
 unnamed_offsets opts sections alignment =
     fun_ext (λ (rva : ℕ).
     ap (λ (x : Option ℕ). cond opts.resolve_rva (cond (is_power_of_two alignment) x None) (Some rva))
-    (ap (option_map (λ s. offset_in opts s rva)) (find_unnamed alignment rva sections) ∙ offset_by opts alignment rva (find (is_in_window alignment rva) sections)))
+    (ap (option_map (λ s. offset_in opts s rva)) (find_unnamed opts alignment rva sections) ∙ offset_by opts alignment rva (find (is_in_window opts alignment rva) sections)))
 
 -- also with the file's front, which has no such name
 unnamed_with : (opts : ParseOptions) (front : Option ℕ) (sections : List Section) (alignment : ℕ) → file_offset opts (with_front front (map unnamed sections)) alignment ≡ file_offset opts (with_front front sections) alignment

@@ -11,7 +11,7 @@ use Rattle.goblin_pe_sect.specs.Mapping.{read_size, raw_begin, file_offset}
 abbrev pub rva_in : ParseOptions → ℕ → ℕ → Section → Option ℕ
 rva_in opts alignment p s =
     let begin = raw_begin opts s in
-    let end = begin + read_size s alignment in
+    let end = begin + read_size opts.raw_pointer_rule s alignment in
     if is_power_of_two alignment && (nat_le begin p && nat_lt p end)
     then Some (s.virtual_address + (p - begin))
     else None

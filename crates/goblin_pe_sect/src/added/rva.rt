@@ -8,7 +8,7 @@ ghost use Rattle.goblin_pe_sect.specs.added.Backward.{maps_to, rva_in};
 
 use crate::options::ParseOptions;
 use crate::section_table::SectionTable;
-use crate::utils::{find_offset, raw_begin, window};
+use crate::utils::{find_offset, raw_begin, window_with_opts};
 
 /// The address that the window of this section has at the file offset `offset`, whatever other
 /// sections map. `None` if the window has no address there, or if `file_alignment` is not a power
@@ -21,7 +21,7 @@ pub fn rva_in(
 ) -> Option<usize>
     ensures { result ≡ rva_in opts.now file_alignment offset section.now }
 {
-    let (first, end) = window(section, file_alignment)?;
+    let (first, end) = window_with_opts(section, file_alignment, opts)?;
     let begin = raw_begin(section, opts) as usize;
     if offset < begin || end - first <= offset - begin {
         return None;

@@ -51,7 +51,7 @@ fn find_window(
             low = low.max(past);
             continue 'records;
         }
-        let (begin, end) = section_window(&section, file_alignment);
+        let (begin, end) = section_window(&section, file_alignment, opts);
         if rva < begin {
             high = high.min(begin);
         } else if end <= rva {

@@ -88,7 +88,7 @@ fn division_of_any(
     requires { 0 < file_alignment }
     ensures { IfOk result (λ v. IsDivision opts.now sections.now file_alignment v.items) }
 {
-    let begins = cuts_of(alloc, sections, file_alignment)?;
+    let begins = cuts_of(alloc, sections, file_alignment, opts)?;
     put_pieces(alloc, &begins, sections, file_alignment, opts, &mut pieces)?;
     Ok(pieces)
 }
