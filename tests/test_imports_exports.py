@@ -41,7 +41,7 @@ GO = (b"a.dll", b"Go", 5, None, 0x1060, 0x1090, 0, 0)
 SEVEN = (b"a.dll", None, None, 7, 0x1064, 0, 0, 1)
 # Its exports: the name, the ordinal, the hint, the address, that of the name, its file offset, and the forwarder.
 TO_12 = (b"b", None, 12)
-PLAIN = (b"f", 1, 0, 0x1010, 0x10F0, 0x210, None)
+UNFORWARDED = (b"f", 1, 0, 0x1010, 0x10F0, 0x210, None)
 FORWARDED = (b"a.dll", 2, 1, 0x10E0, 0x1080, 0x2E0, TO_12)
 
 # Files, and their imports in both modes.
@@ -71,14 +71,14 @@ REFUSED_IMPORTS = [
 
 # Files, and their exports.
 EXPORTED = [
-    ("the sample", sample(), [PLAIN, FORWARDED]),
+    ("the sample", sample(), [UNFORWARDED, FORWARDED]),
     ("another ordinal base", sample((0x2B0, b"\0\x01")),
-     [(b"f", 256, *PLAIN[2:]), (b"a.dll", 257, *FORWARDED[2:])]),
+     [(b"f", 256, *UNFORWARDED[2:]), (b"a.dll", 257, *FORWARDED[2:])]),
     ("a name that no section maps", sample((0x2D0, b"\0\x90")), [(None, 1, 0, 0x1010, 0x9000, 0x210, None), FORWARDED]),
-    ("a name that is not UTF-8", sample((0x2F0, b"\xFF")), [(None, *PLAIN[1:]), FORWARDED]),
+    ("a name that is not UTF-8", sample((0x2F0, b"\xFF")), [(None, *UNFORWARDED[1:]), FORWARDED]),
     ("two names of one address", sample((0x2D8, b"\x01")), [(b"f", 2, 0, 0x10E0, 0x10F0, 0x2E0, TO_12), FORWARDED]),
     ("an ordinal without an address", sample((0x2D8, b"\x02")), [FORWARDED]),
-    ("a forwarder without a dot", sample((0x2E1, b"-")), [PLAIN]),
+    ("a forwarder without a dot", sample((0x2E1, b"-")), [UNFORWARDED]),
 ]
 # Files in which a table reaches the end, the hints of their exports, and how many addresses there are. Three of the twelve name
 # pointers have ordinals without an address.
@@ -590,7 +590,7 @@ class WholeFiles(Read):
             for mapping in "BY_FILE_ALIGNMENT", "AS_LOADED":
                 found = image(data, permissive=permissive, mapping=mapping)
                 self.assert_imports(found, [GO, SEVEN])
-                self.assert_exports(found, [PLAIN, FORWARDED])
+                self.assert_exports(found, [UNFORWARDED, FORWARDED])
         found = image(data, permissive=True)
         self.assert_imports(found, [])
         self.assert_exports(found, [], "REFUSED")

@@ -37,12 +37,14 @@ impl<'a> Text<'a> {
     // The characters that are printed.
     fn escaped(self) -> impl Iterator<Item = char> {
         self.0.iter().flat_map(|&byte| {
-            let is_plain = matches!(byte, b' '..=b'~') && byte != b'\\';
+            let is_unescaped = matches!(byte, b' '..=b'~') && byte != b'\\';
             let digit = |number: u8| char::from(b"0123456789abcdef"[usize::from(number)]);
             let escape = ['\\', 'x', digit(byte >> 4), digit(byte & 0xF)];
-            let plain = [char::from(byte); 4];
-            let characters = if is_plain { plain } else { escape };
-            characters.into_iter().take(if is_plain { 1 } else { 4 })
+            let unescaped = [char::from(byte); 4];
+            let characters = if is_unescaped { unescaped } else { escape };
+            characters
+                .into_iter()
+                .take(if is_unescaped { 1 } else { 4 })
         })
     }
 }

@@ -28,8 +28,8 @@ marks_are v long =
     ∙ ap (λ ms. mask_l ms % 2 ^ 64) (tops_compared w8 leb (replicate 16 127) w ∙ zip2_splat_left leb 127 16 w size ∙ map-map (λ y. leb 127 y) (λ x. less x 1) v)
     ∙ mask_l-mod (map is_end v) 64 (omega (arith, length-map v is_end, long))
 
-plain_byte : (x : ℕ) → x < 256 → is_end x ≡ false → (0 < x) × (x < 128)
-plain_byte x fits h =
+ascii_byte : (x : ℕ) → x < 256 → is_end x ≡ false → (0 < x) × (x < 128)
+ascii_byte x fits h =
     let low : less x 1 < 127 = leb-false 127 (less x 1) h in
     (omega (arith, low, fits), omega (arith, low, fits))
 
@@ -51,9 +51,9 @@ module _ (xs : List ℕ) (room : 16 ≤ length xs) (typed : (k : ℕ) → Fits w
   are : marks_of lanes ≡ mask_l (map is_end lanes)
   are = marks_are lanes (length-chunk 0 16 xs enough)
 
-  -- no mark: all sixteen are plain
-  pub all_plain : marks_of lanes ≡ 0 → (k : ℕ) → k < 16 → (0 < get_or xs k 0) × (get_or xs k 0 < 128)
-  all_plain none k to = plain_byte (get_or xs k 0) (typed k).fits (none_from_empty_mask is_end xs 0 16 0 enough (sym are ∙ none) k (omega arith) (omega (arith, to)))
+  -- no mark: all sixteen are ASCII and no NUL
+  pub all_ascii : marks_of lanes ≡ 0 → (k : ℕ) → k < 16 → (0 < get_or xs k 0) × (get_or xs k 0 < 128)
+  all_ascii none k to = ascii_byte (get_or xs k 0) (typed k).fits (none_from_empty_mask is_end xs 0 16 0 enough (sym are ∙ none) k (omega arith) (omega (arith, to)))
 
   counted : 0 < marks_of lanes → count_trailing_zeros 64 (marks_of lanes) ≡ prefix_len (λ x. not (is_end x)) lanes
   counted some = ap (count_trailing_zeros 64) are ∙ trailing_mask_l is_end 64 lanes (omega (arith, length-chunk 0 16 xs enough)) (omega (arith, some, are))
@@ -75,8 +75,8 @@ module _ (xs : List ℕ) (room : 16 ≤ length xs) (typed : (k : ℕ) → Fits w
       ] in
       subst (λ (n : ℕ). count_trailing_zeros 64 n < 16) (sym are) within
 
-  pub run_plain : 0 < marks_of lanes → (k : ℕ) → k < count_trailing_zeros 64 (marks_of lanes) → (0 < get_or xs k 0) × (get_or xs k 0 < 128)
-  run_plain some k to = plain_byte (get_or xs k 0) (typed k).fits (run_in_chunk_fails is_end xs 0 16 (count_trailing_zeros 64 (marks_of lanes)) 0 enough (counted some) k (omega arith) (omega (arith, to)))
+  pub run_ascii : 0 < marks_of lanes → (k : ℕ) → k < count_trailing_zeros 64 (marks_of lanes) → (0 < get_or xs k 0) × (get_or xs k 0 < 128)
+  run_ascii some k to = ascii_byte (get_or xs k 0) (typed k).fits (run_in_chunk_fails is_end xs 0 16 (count_trailing_zeros 64 (marks_of lanes)) 0 enough (counted some) k (omega arith) (omega (arith, to)))
 
   pub run_stops : 0 < marks_of lanes → (r : ℕ) → r ≡ count_trailing_zeros 64 (marks_of lanes) → (get_or xs r 0 ≡ 0) ⊎ (128 ≤ get_or xs r 0)
   run_stops some r is =

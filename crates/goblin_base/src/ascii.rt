@@ -13,7 +13,7 @@ fn stop_in_lanes(bytes: &[u8]) -> Option<usize>
     ensures none { result ≡ None → (k : ℕ) → k < 16
         → (0 < slice_index bytes.now k) × (slice_index bytes.now k < 128) }
     ensures within { IfSome result (λ run. run < 16) }
-    ensures plain { IfSome result (λ run. (k : ℕ) → k < run
+    ensures ascii { IfSome result (λ run. (k : ℕ) → k < run
         → (0 < slice_index bytes.now k) × (slice_index bytes.now k < 128)) }
     ensures stops { IfSome result (λ run. (slice_index bytes.now run ≡ 0)
         ⊎ (128 ≤ slice_index bytes.now run)) }
@@ -29,7 +29,7 @@ fn stop_in_lanes(bytes: &[u8]) -> Option<usize>
 }
 
 // Whether a byte is ASCII and not a NUL.
-fn is_plain(byte: u8) -> bool
+fn is_nonzero_ascii(byte: u8) -> bool
     ensures yes { IsTrue result → (0 < byte) × (byte < 128) }
     ensures no { ¬ (IsTrue result) → (byte ≡ 0) ⊎ (128 ≤ byte) }
 {
@@ -43,7 +43,7 @@ fn first_stop(bytes: &[u8]) -> Option<usize>
     ensures none { result ≡ None → (k : ℕ) → k < length bytes.now / 16 * 16
         → (0 < slice_index bytes.now k) × (slice_index bytes.now k < 128) }
     ensures within { IfSome result (λ run. run < length bytes.now) }
-    ensures plain { IfSome result (λ run. (k : ℕ) → k < run
+    ensures ascii { IfSome result (λ run. (k : ℕ) → k < run
         → (0 < slice_index bytes.now k) × (slice_index bytes.now k < 128)) }
     ensures stops { IfSome result (λ run. (slice_index bytes.now run ≡ 0)
         ⊎ (128 ≤ slice_index bytes.now run)) }
@@ -63,7 +63,7 @@ fn first_stop(bytes: &[u8]) -> Option<usize>
 #[inline(always)]
 pub(crate) fn run_in_lanes(bytes: &[u8]) -> Option<usize>
     ensures within { IfSome result (λ run. run < length bytes.now) }
-    ensures plain { IfSome result (λ run. (k : ℕ) → k < run
+    ensures ascii { IfSome result (λ run. (k : ℕ) → k < run
         → (0 < slice_index bytes.now k) × (slice_index bytes.now k < 128)) }
     ensures stops { IfSome result (λ run. slice_index bytes.now run ≡ 0) }
 {
@@ -76,9 +76,9 @@ pub(crate) fn run_in_lanes(bytes: &[u8]) -> Option<usize>
 // How many bytes come before the first NUL, or before the end if there is no NUL, if they are all
 // ASCII. `None` if one of them is not ASCII.
 #[inline(always)]
-pub(crate) fn plain_run(bytes: &[u8]) -> Option<usize>
+pub(crate) fn ascii_run(bytes: &[u8]) -> Option<usize>
     ensures within { IfSome result (λ run. run ≤ length bytes.now) }
-    ensures plain { IfSome result (λ run. (k : ℕ) → k < run
+    ensures ascii { IfSome result (λ run. (k : ℕ) → k < run
         → (0 < slice_index bytes.now k) × (slice_index bytes.now k < 128)) }
     ensures stops { IfSome result (λ run. run < length bytes.now → slice_index bytes.now run ≡ 0) }
 {
@@ -87,7 +87,7 @@ pub(crate) fn plain_run(bytes: &[u8]) -> Option<usize>
         Some(_) => return None,
         None => bytes.len() / 16 * 16,
     };
-    'bytes: while at < bytes.len() && is_plain(bytes[at]) {
+    'bytes: while at < bytes.len() && is_nonzero_ascii(bytes[at]) {
         at += 1;
     }
     if at < bytes.len() && bytes[at] != 0 {

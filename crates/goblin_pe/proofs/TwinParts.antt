@@ -13,17 +13,17 @@ use Rattle.goblin_pe_head.specs.HeaderReadings.{header_without_dos}
 use Rattle.goblin_pe_head.specs.PeHeader.{header_value}
 use Rattle.goblin_pe_head.specs.TeReadings.{te_image}
 use Rattle.goblin_pe.specs.declared.laws.parts.PartsOf.{PartsOf}
-use Rattle.goblin_pe.specs.TwinParts.{AreParts, AreTwinParts, PartsAsked, sections_asked, te_view}
+use Rattle.goblin_pe.specs.TwinParts.{AreParts, AreTwinParts, PartsAsked, sections_asked, te_model}
 
-pub are_twin_parts : {D Y : Type 0} (plain : D → Y)
+pub are_twin_parts : {D Y : Type 0} (model : D → Y)
     (value_of : Endian → List ℕ → Option (Y × ℕ))
     (refusal : Endian → List ℕ → ErrorOf → Type 0)
     (strict : Bool) (addressing : Addressing) (asked : PartsAsked) (a b : List ℕ)
     (first second : PartsOf D)
-    → AreParts plain value_of refusal strict addressing asked a first
-    → AreParts plain value_of refusal strict addressing asked b second
-    → AreTwinParts plain value_of refusal strict addressing asked a b (first, second)
-are_twin_parts plain value_of refusal strict addressing asked a b first second one two =
+    → AreParts model value_of refusal strict addressing asked a first
+    → AreParts model value_of refusal strict addressing asked b second
+    → AreTwinParts model value_of refusal strict addressing asked a b (first, second)
+are_twin_parts model value_of refusal strict addressing asked a b first second one two =
     record {
       header = twins header_value header_without_dos a b _ _ one.header two.header;
       sections =
@@ -33,11 +33,11 @@ are_twin_parts plain value_of refusal strict addressing asked a b first second o
           twins (option_map symbol_bytes) (symbols_of asked.coff_header) a b _ _ one.symbols
           two.symbols;
       strings = twins (λ t. t) (strings_of asked.coff_header) a b _ _ one.strings two.strings;
-      te = twins_or_memory te_view (te_image asked.offset) a b _ _ one.te two.te;
+      te = twins_or_memory te_model (te_image asked.offset) a b _ _ one.te two.te;
       relocations =
           twins relocation_bytes (relocation_data addressing.offset asked.relocations) a b _ _
           one.relocations two.relocations;
       value =
-          twins plain (data_at addressing.offset value_of refusal asked.value.virtual_address)
+          twins model (data_at addressing.offset value_of refusal asked.value.virtual_address)
           a b _ _ one.value two.value;
     }

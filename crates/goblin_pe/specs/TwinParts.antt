@@ -21,8 +21,8 @@ use Rattle.goblin_pe_head.specs.TeReadings.{te_image}
 use Rattle.goblin_pe.specs.declared.laws.parts.PartsOf.{PartsOf}
 
 -- what contracts see of a Terse Executable's header and its sections
-abbrev pub te_view : TeHeader × Vec Section Global → TeHeader × List Section
-te_view image = (image.0, image.1.items)
+abbrev pub te_model : TeHeader × Vec Section Global → TeHeader × List Section
+te_model image = (image.0, image.1.items)
 
 -- What the readers read: the tables that a COFF header leads to, with its sections at an offset,
 -- where a Terse Executable is read, too; and two directories.
@@ -47,7 +47,7 @@ sections_asked strict asked =
     asked.offset
 
 -- Each answer is its reader's own for these bytes, over a map of addresses to file offsets.
-pub record AreParts {D Y : Type 0} (plain : D → Y) (value_of : Endian → List ℕ → Option (Y × ℕ))
+pub record AreParts {D Y : Type 0} (model : D → Y) (value_of : Endian → List ℕ → Option (Y × ℕ))
     (refusal : Endian → List ℕ → ErrorOf → Type 0)
     (strict : Bool) (addressing : Addressing)
     (asked : PartsAsked) (bytes : List ℕ) (parts : PartsOf D) : Type 0 where
@@ -55,15 +55,15 @@ pub record AreParts {D Y : Type 0} (plain : D → Y) (value_of : Endian → List
   pub sections : ReadsOrMemory (λ v. v.items) parts.sections (sections_asked strict asked) bytes
   pub symbols : Reads (option_map symbol_bytes) parts.symbols (symbols_of asked.coff_header) bytes
   pub strings : Reads (λ t. t) parts.strings (strings_of asked.coff_header) bytes
-  pub te : ReadsOrMemory te_view parts.te (te_image asked.offset) bytes
+  pub te : ReadsOrMemory te_model parts.te (te_image asked.offset) bytes
   pub relocations : Reads relocation_bytes parts.relocations
       (relocation_data addressing.offset asked.relocations) bytes
-  pub value : Reads plain parts.value
+  pub value : Reads model parts.value
       (data_at addressing.offset value_of refusal asked.value.virtual_address) bytes
 
 -- The answers of each reader for two files. They are alike if the files agree on what the reader
 -- reaches in the first.
-pub record AreTwinParts {D Y : Type 0} (plain : D → Y)
+pub record AreTwinParts {D Y : Type 0} (model : D → Y)
     (value_of : Endian → List ℕ → Option (Y × ℕ))
     (refusal : Endian → List ℕ → ErrorOf → Type 0)
     (strict : Bool) (addressing : Addressing)
@@ -75,9 +75,9 @@ pub record AreTwinParts {D Y : Type 0} (plain : D → Y)
       (both.0.symbols, both.1.symbols)
   pub strings : Twins (λ t. t) (strings_of asked.coff_header) a b
       (both.0.strings, both.1.strings)
-  pub te : TwinsOrMemory te_view (te_image asked.offset) a b (both.0.te, both.1.te)
+  pub te : TwinsOrMemory te_model (te_image asked.offset) a b (both.0.te, both.1.te)
   pub relocations : Twins relocation_bytes (relocation_data addressing.offset asked.relocations) a b
       (both.0.relocations, both.1.relocations)
-  pub value : Twins plain
+  pub value : Twins model
       (data_at addressing.offset value_of refusal asked.value.virtual_address) a b
       (both.0.value, both.1.value)

@@ -31,7 +31,7 @@ use Rattle.goblin_pe.specs.declared.whole.listed.ListedTables.{ListedTables}
 use Rattle.goblin_pe.specs.declared.whole.places.Places.{Places}
 use Rattle.goblin_pe_export.specs.ExportReadings.{numbered_read}
 use Rattle.goblin_pe_export.specs.ExportRecords.{ExportRow, ExportTables, NumberedExport}
-use Rattle.goblin_pe_export.specs.ExportRecords.{export_read_view, read_rows}
+use Rattle.goblin_pe_export.specs.ExportRecords.{export_read_model, read_rows}
 use Rattle.goblin_pe_import.specs.ImportEntries.{EntryValue}
 use Rattle.goblin_pe_import.specs.ImportLookup.{entries_32, entries_64}
 use Rattle.goblin_pe_import.specs.ImportReadings.{import_data, numbered_data}
@@ -327,14 +327,14 @@ abbrev pub items_part : {A : Type 0} → Part (Vec A Global) → Part (List A)
 items_part part = part_map (λ v. v.items) part
 
 -- import data and its imports, as their reader returns them
-abbrev pub import_read_view : Part (List ImportedLibrary) × Part (Vec ImportValue Global)
+abbrev pub import_read_model : Part (List ImportedLibrary) × Part (Vec ImportValue Global)
     → Part (List ImportedLibrary) × Part (List ImportValue)
-import_read_view read = (read.0, items_part read.1)
+import_read_model read = (read.0, items_part read.1)
 
 -- the tables that their reader returns
-abbrev pub listed_view : ListedTables → ListedParts
-listed_view t = record {
-  imports = import_read_view t.imports;
-  exports = part_map export_read_view t.exports;
+abbrev pub listed_model : ListedTables → ListedParts
+listed_model t = record {
+  imports = import_read_model t.imports;
+  exports = part_map export_read_model t.exports;
   relocations = part_map relocation_bytes t.relocations;
 }

@@ -18,7 +18,7 @@ pub use goblin_pe_head::added::{
     HeaderParts, footprint_header, section_records_at, unnamed_records,
 };
 pub use goblin_pe_import::added::{
-    ImportCursor, Imports, LeftOut, Libraries, PlainImports, WalkedImport, WalkedLibrary,
+    AsciiImports, ImportCursor, Imports, LeftOut, Libraries, WalkedImport, WalkedLibrary,
 };
 pub use goblin_pe_sect::added::{MOST_WITHOUT_INDEX, find_rva, offset_by_records, rva_in};
 pub use image_checksum::{checksum, checksum_field, file_checksum};

@@ -22,7 +22,7 @@ use Rattle.goblin_pe_head.specs.TeHeader.{section_adjusted, section_moved}
 use Rattle.goblin_pe_c_headers.specs.declared.image.PeImage.{PeImage}
 use Rattle.goblin_pe_c_headers.specs.Options.{header_options, longest_of}
 use Rattle.goblin_pe_c_headers.specs.Places.{headers_there}
-use Rattle.goblin_pe_c_headers.specs.Sections.{NamingView, RowsHold, SectionRow, named_in, naming_of, real_name_in, row_of, section_rows, unnamed_row, with_name}
+use Rattle.goblin_pe_c_headers.specs.Sections.{NamingModel, RowsHold, SectionRow, named_in, naming_of, real_name_in, row_of, section_rows, unnamed_row, with_name}
 use Rattle.goblin_pe_c_headers.proofs.GivenOnward.{record_inside}
 use Rattle.goblin_pe_c_headers.proofs.PlacedSections.{placed, value}
 
@@ -109,14 +109,14 @@ all-same {A} f g value (suc len) start xs same h =
 -- ---- the sections of the rows
 
 -- the section of a row, by its header
-abbrev row_section : NamingView → Section → Section
+abbrev row_section : NamingModel → Section → Section
 row_section n s = named_in n.strict n.longest n.bytes n.strings (section_moved n.displacement s)
 
 row-section : (name : Option (List ℕ)) (header : List ℕ) (i : ℕ) (s : Section) → (with_name name (unnamed_row header i (unnamed s))).section ≡ record s { real_name = name }
 row-section None header i s = refl
 row-section (Some name) header i s = refl
 
-rows-of : (n : NamingView) (headers : List ℕ) (len start : ℕ)
+rows-of : (n : NamingModel) (headers : List ℕ) (len start : ℕ)
     → map (λ (r : SectionRow). r.section) (map (λ (i : ℕ). row_of n i (slice_range headers (40 * i) (40 * i + 40))) (range_with_len start len))
     ≡ map (row_section n) (map (λ (i : ℕ). section_record Little (slice_range headers (40 * i) (40 * i + 40))) (range_with_len start len))
 rows-of n headers zero start = refl
@@ -125,7 +125,7 @@ rows-of n headers (suc len) start =
     let s = section_moved n.displacement (section_record Little header) in
     rw (row-section (real_name_in n.strict n.longest n.bytes n.strings s.name) header start s, rows-of n headers len (start + 1)) refl
 
-rows-sections : (n : NamingView) (headers : List ℕ) → map (λ (r : SectionRow). r.section) (section_rows n headers) ≡ map (row_section n) (sections_in headers)
+rows-sections : (n : NamingModel) (headers : List ℕ) → map (λ (r : SectionRow). r.section) (section_rows n headers) ≡ map (row_section n) (sections_in headers)
 unfolding records_in
 rows-sections n headers = rows-of n headers (length headers / 40) 0
 

@@ -3,7 +3,7 @@ use Rattle.std.proofs.Common.{◌≡◌, ◌<◌, ◌≤◌, ℕ, suc, ◌+◌, 
 use Rattle.goblin_pe_symbol.specs.Symbols.{SymbolItem, aux, symbol_of}
 use Rattle.goblin_pe_symbol.proofs.SymbolHeads.{symbols_next, symbols_past}
 use Rattle.goblin_pe_c_headers.specs.declared.symbol.PeSymbol.{PeSymbol}
-use Rattle.goblin_pe_c_headers.specs.Symbols.{GivesSymbols, index_after, named_symbol, named_symbol_table, named_symbol_view, next_index, symbols_onward}
+use Rattle.goblin_pe_c_headers.specs.Symbols.{GivesSymbols, index_after, named_symbol, named_symbol_table, named_symbol_model, next_index, symbols_onward}
 use Rattle.goblin_pe_c_headers.specs.Onward.{unrefused}
 use Rattle.goblin_pe_c_headers.proofs.Batches.{AtItems, items-end, items-full, items-more, items-start, items-stay, done-end, done-full}
 
@@ -27,7 +27,7 @@ giving_start table names from old = record { at = items-start (named_symbol_tabl
 module _ {table : List ℕ} {names : ℕ → Option (List ℕ)} {from : ℕ} {old : List PeSymbol} {position : ℕ} {records : List PeSymbol} {count : ℕ}
     (h : IsGiving table names from old position records count) where
   pub giving_next : (n : ℕ) (r : PeSymbol) → count < length records → position < length table / 18 → n ≡ aux table position
-      → named_symbol_view r ≡ named_symbol table names (symbol_of table position) → IsGiving table names from old (position + (1 + n)) (set records count r) (count + 1)
+      → named_symbol_model r ≡ named_symbol table names (symbol_of table position) → IsGiving table names from old (position + (1 + n)) (set records count r) (count + 1)
   unfolding index_after
   giving_next n r room inside size is =
       let next : position + (1 + n) ≡ next_index table position = omega (arith, size) in

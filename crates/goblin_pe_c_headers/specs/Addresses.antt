@@ -24,8 +24,8 @@ pub record MappedImage : Type 0 where
   pub alignment : ℕ
   pub opts : ParseOptions
 
-abbrev pub mapped_view : Mapped → MappedImage
-mapped_view m = record {
+abbrev pub mapped_model : Mapped → MappedImage
+mapped_model m = record {
   sections = mapped_sections m.records;
   alignment = m.file_alignment;
   opts = m.opts;

@@ -105,6 +105,6 @@ auxiliary_fields kind.SectionDefinition records zeros =
     }
 
 -- the record says the first of these records, of this kind
-abbrev pub AuxiliaryView : AuxiliaryKind → List ℕ → PeAuxiliary → Type 0
-AuxiliaryView kind records a =
+abbrev pub AuxiliaryModel : AuxiliaryKind → List ℕ → PeAuxiliary → Type 0
+AuxiliaryModel kind records a =
     (a.file.now ≡ file_name kind records) × (a ≡ auxiliary_fields kind records (zero_auxiliary a))

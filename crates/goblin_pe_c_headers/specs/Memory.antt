@@ -39,8 +39,8 @@ pub record Memory : Type 0 where
   pub region : ℕ
   pub reserved : ℕ
 
-abbrev pub memory_view : PeMemory → Memory
-memory_view m = record {
+abbrev pub memory_model : PeMemory → Memory
+memory_model m = record {
   bytes = m.bytes.now;
   zeros = m.zeros;
   missing = m.missing;

@@ -32,8 +32,8 @@ named_in strict longest bytes table s =
     record s { real_name = real_name_in strict longest bytes table s.name }
 
 -- what a row holds of a section; its real name is the name if that is from the string table
-abbrev pub section_view : PeSection → Section
-section_view s = record {
+abbrev pub section_model : PeSection → Section
+section_model s = record {
   name = s.stored_name;
   real_name = if s.has_long_name then Some s.name.now else None;
   virtual_size = s.virtual_size;
@@ -54,9 +54,9 @@ pub record SectionRow : Type 0 where
   pub index : ℕ
   pub relocations : PeCoffRelocationCursor
 
-abbrev pub row_view : PeSection → SectionRow
-row_view s = record {
-  section = section_view s;
+abbrev pub row_model : PeSection → SectionRow
+row_model s = record {
+  section = section_model s;
   name = s.name.now;
   index = s.index;
   relocations = s.relocations;
@@ -80,14 +80,14 @@ with_name (Some name) row =
 
 -- What the sections of an image are read by: the mode, the limit of a name, the file, the offset of
 -- the string table in it, and how far the sections moved to the front.
-pub record NamingView : Type 0 where
+pub record NamingModel : Type 0 where
   pub strict : Bool
   pub longest : Option ℕ
   pub bytes : List ℕ
   pub strings : ℕ
   pub displacement : Option ℕ
 
-abbrev pub naming_for_c : Naming → NamingView
+abbrev pub naming_for_c : Naming → NamingModel
 naming_for_c n = record {
   strict = is_strict n.opts.parse_mode;
   longest = n.longest;
@@ -97,7 +97,7 @@ naming_for_c n = record {
 }
 
 -- those of a Terse Executable moved
-abbrev pub naming_of : PeImage → NamingView
+abbrev pub naming_of : PeImage → NamingModel
 naming_of image = record {
   strict = is_strict (header_options image.options).parse_mode;
   longest = longest_of image.options;
@@ -107,14 +107,14 @@ naming_of image = record {
 }
 
 -- the row of the section header with these bytes
-abbrev pub row_of : NamingView → ℕ → List ℕ → SectionRow
+abbrev pub row_of : NamingModel → ℕ → List ℕ → SectionRow
 row_of n i header =
     let s = section_moved n.displacement (section_record Little header) in
     with_name (real_name_in n.strict n.longest n.bytes n.strings s.name)
     (unnamed_row header i (unnamed s))
 
 -- the rows of the section headers in these bytes
-abbrev pub section_rows : NamingView → List ℕ → List SectionRow
+abbrev pub section_rows : NamingModel → List ℕ → List SectionRow
 section_rows n headers =
     map (λ i. row_of n i (slice_range headers (40 * i) (40 * i + 40)))
     (range_with_len 0 (length headers / 40))

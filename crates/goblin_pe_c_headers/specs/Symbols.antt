@@ -76,8 +76,8 @@ named_symbol table names item =
     symbol_named table item.0 (name_in names item.1 item.2) item.2
 
 -- what a record holds of it, and what replaces a missing name
-abbrev pub named_symbol_view : PeSymbol → NamedSymbol × List ℕ
-named_symbol_view s = (
+abbrev pub named_symbol_model : PeSymbol → NamedSymbol × List ℕ
+named_symbol_model s = (
   record {
     index = s.index;
     name = if s.has_name then Some s.name.now else None;
@@ -107,7 +107,7 @@ SymbolBatch = Batch ℕ PeSymbol
 abbrev pub named_symbol_table : List ℕ → (ℕ → Option (List ℕ))
     → Table ℕ PeSymbol SymbolItem (NamedSymbol × List ℕ)
 named_symbol_table table names = record {
-  view = named_symbol_view;
+  view = named_symbol_model;
   said = named_symbol table names;
   from = λ i. Some (unrefused (symbols_onward table i));
 }

@@ -4,9 +4,9 @@ ghost use Rattle.std.specs.Prelude.{◌≡◌, option_map};
 ghost use Rattle.goblin_pe_sect.specs.SectionTable.{recorded_sections};
 ghost use Rattle.goblin_pe_c_headers.specs.Addresses.{first_address, image_address, image_map};
 ghost use Rattle.goblin_pe_c_headers.specs.Addresses.{mapped_image, mapped_offset};
-ghost use Rattle.goblin_pe_c_headers.specs.Addresses.{mapped_view, sections_for, text_at};
+ghost use Rattle.goblin_pe_c_headers.specs.Addresses.{mapped_model, sections_for, text_at};
 ghost use Rattle.goblin_pe_c_headers.specs.Calls.{ReadsWithout};
-ghost use Rattle.goblin_pe_c_headers.specs.Images.{slice_view};
+ghost use Rattle.goblin_pe_c_headers.specs.Images.{slice_model};
 
 use crate::image::PeSlice;
 use crate::options::{PeOptions, are_known, longest_of, maps_addresses, options_at, view_of};
@@ -52,7 +52,7 @@ pub(crate) fn mapped_by<'a>(
     options: &PeOptions,
     places: &PePlaces,
 ) -> Option<Mapped<'a>>
-    ensures { option_map mapped_view result ≡ mapped_image options.now places.now bytes.now }
+    ensures { option_map mapped_model result ≡ mapped_image options.now places.now bytes.now }
 {
     if !are_known(options) {
         return None;
@@ -68,7 +68,7 @@ pub(crate) fn mapped_by<'a>(
 
 // The file offset of an RVA.
 fn mapped_offset(mapped: &Mapped, rva: usize) -> Option<usize>
-    ensures { result ≡ mapped_offset (mapped_view mapped.now) rva }
+    ensures { result ≡ mapped_offset (mapped_model mapped.now) rva }
 {
     if rva > u32::MAX as usize {
         return None;
@@ -91,7 +91,7 @@ pub fn offset_of(bytes: &[u8], options: &PeOptions, places: &PePlaces, rva: usiz
 
 // The RVA that the first section whose raw data holds the offset has there.
 fn first_address(mapped: &Mapped, offset: usize) -> Option<usize>
-    ensures { result ≡ first_address (mapped_view mapped.now) offset }
+    ensures { result ≡ first_address (mapped_model mapped.now) offset }
 {
     if !mapped.opts.resolve_rva {
         return Some(offset);
@@ -133,7 +133,7 @@ pub fn read_text<'a>(
     text: &mut PeSlice<'a>,
 ) -> Result<()>
     ensures { ReadsWithout (text_at options.now places.now bytes.now rva) bytes.now
-        (λ whole. slice_view text.new ≡ whole) (text.new ≡ text.old) result }
+        (λ whole. slice_model text.new ≡ whole) (text.new ≡ text.old) result }
 {
     let Some(offset) = offset_of(bytes, options, places, rva) else {
         return Err(Error::Malformed(Cause::Unmapped(rva)));

@@ -1,7 +1,7 @@
 //! The auxiliary records of a symbol.
 
 ghost use Rattle.std.specs.Prelude.{◌≡◌, ◌≤◌, [], length};
-ghost use Rattle.goblin_pe_c_headers.specs.Auxiliary.{AuxiliaryView, file_offset, kind_of};
+ghost use Rattle.goblin_pe_c_headers.specs.Auxiliary.{AuxiliaryModel, file_offset, kind_of};
 ghost use Rattle.goblin_pe_c_headers.specs.Auxiliary.{kind_with, zero_auxiliary};
 
 use crate::symbol::PeSymbol;
@@ -152,7 +152,7 @@ fn file_offset(records: &[u8]) -> u32
 // The record that these bytes are for a symbol of this kind.
 fn auxiliary_for_c(kind: AuxiliaryKind, records: &[u8]) -> PeAuxiliary<'_>
     requires { 18 ≤ length records.now }
-    ensures { AuxiliaryView kind records.now result }
+    ensures { AuxiliaryModel kind records.now result }
 {
     let zeros = zero_auxiliary(records);
     let record = &records[..COFF_SYMBOL_SIZE];
@@ -208,7 +208,7 @@ fn auxiliary_for_c(kind: AuxiliaryKind, records: &[u8]) -> PeAuxiliary<'_>
 /// none, or they are cut, or its class and type name no kind.
 pub fn read_auxiliary<'a>(symbol: &PeSymbol<'a>, auxiliary: &mut PeAuxiliary<'a>) -> AuxiliaryKind
     ensures kind { result ≡ kind_of symbol.now.record symbol.now.auxiliary.now }
-    ensures said { AuxiliaryView result symbol.now.auxiliary.now auxiliary.new }
+    ensures said { AuxiliaryModel result symbol.now.auxiliary.now auxiliary.new }
 {
     let records = symbol.auxiliary;
     let kind = kind_of(&symbol.record, records);

@@ -2,7 +2,7 @@
 
 ghost use Rattle.std.specs.Prelude.{◌≡◌, option_map};
 ghost use Rattle.goblin_pe_c_headers.specs.ImageRecords.{zero_image};
-ghost use Rattle.goblin_pe_c_headers.specs.Images.{slice_view};
+ghost use Rattle.goblin_pe_c_headers.specs.Images.{slice_model};
 ghost use Rattle.goblin_pe_c_headers.specs.Places.{image_places, number_if};
 
 use crate::headers::PeOptionalHeader;
@@ -24,7 +24,7 @@ pub struct PeSlice<'a> {
 
 /// The slice of a text, if there is one.
 pub fn slice_record<'a>(text: Option<&'a str>) -> Option<PeSlice<'a>>
-    ensures { option_map slice_view result ≡ option_map (λ s. s.now) text.entry }
+    ensures { option_map slice_model result ≡ option_map (λ s. s.now) text.entry }
 {
     Some(PeSlice {
         bytes: text?.as_bytes(),

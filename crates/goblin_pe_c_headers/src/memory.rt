@@ -2,15 +2,15 @@
 
 ghost use Rattle.std.specs.Prelude.{◌≡◌, ◌+◌, ◌^◌, ◌<◌, ◌≤◌, Some, length, option_map};
 ghost use Rattle.std.specs.Option.{unwrap_or};
-ghost use Rattle.goblin_pe_c_headers.specs.Addresses.{mapped_view};
+ghost use Rattle.goblin_pe_c_headers.specs.Addresses.{mapped_model};
 ghost use Rattle.goblin_pe_c_headers.specs.Memory.{SeesFile, available, contents_in, front_at};
 ghost use Rattle.goblin_pe_c_headers.specs.Memory.{holder, holder_index, is_among, is_unstored};
 ghost use Rattle.goblin_pe_c_headers.specs.Memory.{known, memory_at, memory_by, memory_in_file};
 ghost use Rattle.goblin_pe_c_headers.specs.Memory.{memory_length, memory_of, memory_size};
-ghost use Rattle.goblin_pe_c_headers.specs.Memory.{memory_view, region_in, region_number};
+ghost use Rattle.goblin_pe_c_headers.specs.Memory.{memory_model, region_in, region_number};
 ghost use Rattle.goblin_pe_c_headers.specs.Memory.{section_data, stored_in_memory, stored_size};
 ghost use Rattle.goblin_pe_c_headers.specs.Memory.{unknown, window_size, zeros_after};
-ghost use Rattle.goblin_pe_c_headers.specs.Sections.{section_view};
+ghost use Rattle.goblin_pe_c_headers.specs.Sections.{section_model};
 
 use crate::address::{Mapped, mapped_by};
 use crate::options::{PeOptions, are_known, options_at};
@@ -67,7 +67,7 @@ fn known<'a>(
     section_index: usize,
     region: Region,
 ) -> PeMemory<'a>
-    ensures { memory_view result ≡ known (found.entry.0.now, found.entry.1) missing section_index region }
+    ensures { memory_model result ≡ known (found.entry.0.now, found.entry.1) missing section_index region }
 {
     PeMemory {
         bytes: found.0,
@@ -81,7 +81,7 @@ fn known<'a>(
 
 // The record where all bytes are missing.
 fn unknown(bytes: &[u8], missing: usize, section_index: usize) -> PeMemory<'_>
-    ensures { memory_view result ≡ unknown missing section_index }
+    ensures { memory_model result ≡ unknown missing section_index }
 {
     known((&bytes[..0], 0), missing, section_index, Region::Unmapped)
 }
@@ -153,7 +153,7 @@ fn contents_in<'a>(
     index: usize,
     opts: &ParseOptions,
 ) -> PeMemory<'a>
-    ensures { memory_view result ≡ contents_in opts.now bytes.now index section.now }
+    ensures { memory_model result ≡ contents_in opts.now bytes.now index section.now }
 {
     let stored = stored_size(section, opts);
     let begin = raw_begin(section, opts) as usize;
@@ -174,9 +174,9 @@ pub fn section_data<'a>(
     file_alignment: u32,
     section: &PeSection,
 ) -> PeMemory<'a>
-    ensures { memory_view result
+    ensures { memory_model result
         ≡ section_data options.now file_alignment bytes.now section.now.index
-        (section_view section.now) }
+        (section_model section.now) }
 {
     let index = section.index;
     let section = section_of(section);
@@ -244,8 +244,9 @@ fn stored_in_memory(
 // What holds an RVA, with its index: the first section whose window does, or else the first whose
 // memory does. The file's front comes last.
 fn holder(mapped: &Mapped, rva: usize) -> Option<(usize, SectionTable)>
-    ensures index { option_map (λ both. both.0) result ≡ holder_index (mapped_view mapped.now) rva }
-    ensures section { option_map (λ both. both.1) result ≡ holder (mapped_view mapped.now) rva }
+    ensures index { option_map (λ both. both.0) result
+        ≡ holder_index (mapped_model mapped.now) rva }
+    ensures section { option_map (λ both. both.1) result ≡ holder (mapped_model mapped.now) rva }
 {
     let alignment = mapped.file_alignment;
     let by_window = mapped.records.find(|section| is_among(
@@ -272,7 +273,7 @@ fn memory_of<'a>(
     size: usize,
 ) -> (&'a [u8], usize)
     ensures value { (result.0.now, result.1)
-        ≡ memory_of (mapped_view mapped.now) bytes.now rva size section.now }
+        ≡ memory_of (mapped_model mapped.now) bytes.now rva size section.now }
     ensures few { length result.0.now + result.1 ≤ size }
 {
     let alignment = mapped.file_alignment;
@@ -286,7 +287,7 @@ fn memory_of<'a>(
 
 // What is at an RVA in a section's memory.
 fn region_in(bytes: &[u8], mapped: &Mapped, section: &SectionTable, rva: usize) -> Region
-    ensures { result ≡ region_in (mapped_view mapped.now) bytes.now rva section.now }
+    ensures { result ≡ region_in (mapped_model mapped.now) bytes.now rva section.now }
 {
     let distance = rva.saturating_sub(section.virtual_address as usize);
     let end = bytes.len();
@@ -307,8 +308,8 @@ fn memory_held<'a>(
     index: usize,
     section: &SectionTable,
 ) -> PeMemory<'a>
-    ensures { memory_view result
-        ≡ memory_by (mapped_view mapped.now) bytes.now outside rva size index (Some section.now) }
+    ensures { memory_model result
+        ≡ memory_by (mapped_model mapped.now) bytes.now outside rva size index (Some section.now) }
 {
     let found = memory_of(bytes, mapped, section, rva, size);
     let missing = size - (found.0.len() + found.1);
@@ -331,8 +332,8 @@ fn memory_by<'a>(
     rva: usize,
     size: usize,
 ) -> PeMemory<'a>
-    ensures { let m = mapped_view mapped.now in
-        memory_view result
+    ensures { let m = mapped_model mapped.now in
+        memory_model result
         ≡ memory_by m bytes.now outside rva size (unwrap_or (holder_index m rva) outside)
         (holder m rva) }
 {
@@ -346,7 +347,7 @@ fn memory_by<'a>(
 
 // The first `size` bytes from an offset on, where RVAs are offsets.
 fn memory_in_file(bytes: &[u8], outside: usize, rva: usize, size: usize) -> PeMemory<'_>
-    ensures { memory_view result ≡ memory_in_file bytes.now outside rva size }
+    ensures { memory_model result ≡ memory_in_file bytes.now outside rva size }
 {
     let found = front_at(bytes, rva, size);
     let region = if rva < bytes.len() {
@@ -368,7 +369,7 @@ pub fn memory_at<'a>(
     rva: usize,
     size: usize,
 ) -> PeMemory<'a>
-    ensures value { memory_view result ≡ memory_at options.now places.now bytes.now rva size }
+    ensures value { memory_model result ≡ memory_at options.now places.now bytes.now rva size }
     ensures file { SeesFile options.now places.now bytes.now }
 {
     let outside = places.number_of_sections;

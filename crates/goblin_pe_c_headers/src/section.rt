@@ -14,8 +14,8 @@ ghost use Rattle.goblin_pe_c_headers.specs.Onward.{GivesRows, no_batch};
 ghost use Rattle.goblin_pe_c_headers.specs.Places.{headers_there};
 ghost use Rattle.goblin_pe_c_headers.specs.Relocations.{relocations_begin};
 ghost use Rattle.goblin_pe_c_headers.specs.Sections.{SectionBatch, naming_of, naming_for_c};
-ghost use Rattle.goblin_pe_c_headers.specs.Sections.{real_name_in, row_of, row_view, section_rows};
-ghost use Rattle.goblin_pe_c_headers.specs.Sections.{section_view, unnamed_row, with_name};
+ghost use Rattle.goblin_pe_c_headers.specs.Sections.{real_name_in, row_of, row_model, section_rows};
+ghost use Rattle.goblin_pe_c_headers.specs.Sections.{section_model, unnamed_row, with_name};
 ghost use Rattle.goblin_pe_c_headers.specs.Written.{Output, SetsName, WritesOut};
 
 use crate::batch::{PeBatch, ended, goes_on};
@@ -24,7 +24,7 @@ use crate::image::PeImage;
 use crate::kind::Kind;
 use crate::options::{header_options, longest_of};
 use crate::places::section_headers;
-use goblin_base::read::{before_nul, pread_plain_str, pread_str_within};
+use goblin_base::read::{before_nul, pread_ascii_str, pread_str_within};
 use goblin_base::{Endian, Result};
 use goblin_pe_head::header::adjust_section;
 use goblin_pe_sect::options::ParseOptions;
@@ -73,7 +73,7 @@ pub struct PeSection<'a> {
 
 /// The section of a row, without its name from the string table, which would take memory.
 pub(crate) fn section_of(section: &PeSection) -> SectionTable
-    ensures { result ≡ unnamed (section_view section.now) }
+    ensures { result ≡ unnamed (section_model section.now) }
 {
     SectionTable {
         name: section.stored_name,
@@ -138,7 +138,7 @@ fn raw_name(header: &[u8]) -> &[u8]
     requires { length header.now ≡ 40 }
     ensures { result.now ≡ before_nul (take 8 header.now) }
 {
-    match pread_plain_str(header, 0) {
+    match pread_ascii_str(header, 0) {
         Some(name) if name.len() < 8 => name.as_bytes(),
         Some(_) => &header[..8],
         None => any_raw_name(header),
@@ -158,7 +158,7 @@ fn any_raw_name(header: &[u8]) -> &[u8]
 #[inline(always)]
 fn unnamed_row<'a>(header: &'a [u8], index: usize, section: &SectionTable) -> PeSection<'a>
     requires { length header.now ≡ 40 }
-    ensures { row_view result ≡ unnamed_row header.now index (unnamed section.now) }
+    ensures { row_model result ≡ unnamed_row header.now index (unnamed section.now) }
 {
     PeSection {
         name: raw_name(header),
@@ -182,10 +182,10 @@ fn unnamed_row<'a>(header: &'a [u8], index: usize, section: &SectionTable) -> Pe
 // Gives a row its name from the string table, if there is one.
 #[inline(never)]
 fn give_long_name<'a>(row: &mut PeSection<'a>, naming: &Naming<'a>, section: &SectionTable)
-    requires { (row_view row.old).section ≡ unnamed section.now }
+    requires { (row_model row.old).section ≡ unnamed section.now }
     ensures { let strict = is_strict naming.now.opts.parse_mode in
-        row_view row.new ≡ with_name (real_name_in strict naming.now.longest naming.now.bytes.now
-        naming.now.strings section.now.name) (row_view row.old) }
+        row_model row.new ≡ with_name (real_name_in strict naming.now.longest naming.now.bytes.now
+        naming.now.strings section.now.name) (row_model row.old) }
 {
     if let Some(name) = long_name(naming, section) {
         row.name = name.as_bytes();
@@ -197,10 +197,10 @@ fn give_long_name<'a>(row: &mut PeSection<'a>, naming: &Naming<'a>, section: &Se
 #[inline(always)]
 #[tactic(auto, unfolding(crate::specs::Sections::real_name_in, goblin_pe_sect::specs::SectionName::name_value))]
 fn name_row<'a>(row: &mut PeSection<'a>, naming: &Naming<'a>, section: &SectionTable)
-    requires { (row_view row.old).section ≡ unnamed section.now }
+    requires { (row_model row.old).section ≡ unnamed section.now }
     ensures { let strict = is_strict naming.now.opts.parse_mode in
-        row_view row.new ≡ with_name (real_name_in strict naming.now.longest naming.now.bytes.now
-        naming.now.strings section.now.name) (row_view row.old) }
+        row_model row.new ≡ with_name (real_name_in strict naming.now.longest naming.now.bytes.now
+        naming.now.strings section.now.name) (row_model row.old) }
 {
     if section.name[0] == b'/' {
         give_long_name(row, naming, section);
@@ -225,7 +225,7 @@ fn stored_section(headers: &[u8], index: usize, displacement: Option<u32>) -> Se
 fn row_at<'a>(naming: &Naming<'a>, headers: &'a [u8], index: usize) -> PeSection<'a>
     requires { index < length headers.now / 40 }
     ensures { let header = slice_range headers.now (40 * index) (40 * index + 40) in
-        row_view result ≡ row_of (naming_for_c naming.now) index header }
+        row_model result ≡ row_of (naming_for_c naming.now) index header }
 {
     let begin = SIZEOF_SECTION_TABLE * index;
     let header = &headers[begin..begin + SIZEOF_SECTION_TABLE];
@@ -245,7 +245,7 @@ fn fill_sections<'a>(
 ) -> PeBatch
     ensures { let old : SectionBatch = record { position = position.old; records = records.old } in
         let new : SectionBatch = record { position = position.new; records = records.new } in
-        GivesRows row_view (section_rows (naming_for_c naming.now) headers.now) old new result }
+        GivesRows row_model (section_rows (naming_for_c naming.now) headers.now) old new result }
 {
     let first = *position;
     let there = headers.len() / SIZEOF_SECTION_TABLE;
@@ -293,7 +293,7 @@ pub fn next_sections<'a>(
         let new : SectionBatch = record { position = position.new; records = records.new } in
         ReadsWithout (headers_there image.now.section_count image.now.section_table)
         image.now.bytes.now
-        (λ headers. GivesRows row_view (section_rows (naming_of image.now) headers) old new batch.new)
+        (λ headers. GivesRows row_model (section_rows (naming_of image.now) headers) old new batch.new)
         ((new ≡ old) × (batch.new ≡ no_batch)) result }
 {
     *batch = ended(0);
@@ -324,7 +324,7 @@ pub fn write_section(section: &PeSection, out: &mut [u8], written: &mut usize) -
     ensures written { let old : Output = record { out = out.old; written = written.old } in
         let new : Output = record { out = out.new; written = written.new } in
         WritesOut
-        (overwritten out.old 0 (encoding Little (section_fields (section_view section.now))))
+        (overwritten out.old 0 (encoding Little (section_fields (section_model section.now))))
         (λ size. size ≡ 40) (IsSliceFault out.old 0 40) old new result }
     ensures back { SectionWritesBack }
 {

@@ -13,13 +13,13 @@ ghost use Rattle.goblin_pe_c_headers.specs.Options.{longest_of};
 ghost use Rattle.goblin_pe_c_headers.specs.Symbols.{FindsTables, GivesSymbols, NamesOfText};
 ghost use Rattle.goblin_pe_c_headers.specs.Symbols.{SymbolBatch, auxiliary_of, found_tables};
 ghost use Rattle.goblin_pe_c_headers.specs.Symbols.{name_at_end, name_in, name_in_piece};
-ghost use Rattle.goblin_pe_c_headers.specs.Symbols.{named_symbol, named_symbol_view, string_at};
+ghost use Rattle.goblin_pe_c_headers.specs.Symbols.{named_symbol, named_symbol_model, string_at};
 ghost use Rattle.goblin_pe_c_headers.specs.Symbols.{strings_from_c, symbol_named, texts_of};
 
 use crate::batch::{PeBatch, ended, goes_on};
 use crate::image::PeImage;
 use crate::options::longest_of;
-use goblin_base::read::{no_text, pread_plain_str, pread_slice, pread_str_within, pread_u32};
+use goblin_base::read::{no_text, pread_ascii_str, pread_slice, pread_str_within, pread_u32};
 use goblin_base::{Cause, Endian, Error, Result};
 use goblin_pe_head::header::CoffHeader;
 use goblin_pe_symbol::symbol::{COFF_SYMBOL_SIZE, Symbol};
@@ -86,11 +86,11 @@ fn any_name_in_piece(strings: &[u8], offset: usize, longest: Option<u32>) -> Opt
 // The same if there is no limit, of a name that is ASCII and ends before the last bytes; else
 // `None`, which says nothing about it.
 #[inline(always)]
-fn plain_name_in_piece(strings: &[u8], offset: usize, longest: Option<u32>) -> Option<&str>
+fn ascii_name_in_piece(strings: &[u8], offset: usize, longest: Option<u32>) -> Option<&str>
     ensures { IfSome result (λ s. name_in_piece longest strings.now offset ≡ Some s.now) }
 {
     match longest {
-        None => pread_plain_str(strings, offset),
+        None => pread_ascii_str(strings, offset),
         Some(_) => None,
     }
 }
@@ -100,7 +100,7 @@ fn plain_name_in_piece(strings: &[u8], offset: usize, longest: Option<u32>) -> O
 fn name_in_piece(strings: &[u8], offset: usize, longest: Option<u32>) -> Option<&str>
     ensures { option_map (λ s. s.now) result ≡ name_in_piece longest strings.now offset }
 {
-    match plain_name_in_piece(strings, offset, longest) {
+    match ascii_name_in_piece(strings, offset, longest) {
         Some(name) => Some(name),
         None => any_name_in_piece(strings, offset, longest),
     }
@@ -148,7 +148,7 @@ fn fill_record<'a>(
     symbol: Symbol,
 )
     requires { index < length table.now / 18 }
-    ensures { named_symbol_view place.new
+    ensures { named_symbol_model place.new
         ≡ symbol_named table.now index (option_map (λ s. s.now) name.entry) symbol }
 {
     place.has_name = name.is_some();
@@ -187,7 +187,7 @@ fn fill_symbol<'a>(
 )
     requires inside { index < length tables.records.now / 18 }
     requires found { named_value found ≡ name_and_symbol (record_of tables.records.now index) }
-    ensures { named_symbol_view place.new
+    ensures { named_symbol_model place.new
         ≡ named_symbol tables.entry.records.now
         (name_in_piece tables.entry.longest tables.entry.strings.now)
         (symbol_of tables.entry.records.now index) }

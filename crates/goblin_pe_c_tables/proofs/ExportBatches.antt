@@ -18,7 +18,7 @@ use Rattle.goblin_pe.specs.declared.whole.Part.TheVariants.{Absent, Refused}
 use Rattle.goblin_pe.specs.declared.whole.Part.TheVariants as part
 use Rattle.goblin_pe_c_tables.specs.declared.export.PeExport.{PeExport}
 use Rattle.goblin_pe_c_tables.specs.Batches.{GivesExports, at_room, export_table, export_walk, exports_in}
-use Rattle.goblin_pe_c_tables.specs.Exports.{export_for_c, export_view}
+use Rattle.goblin_pe_c_tables.specs.Exports.{export_for_c, export_model}
 use Rattle.goblin_pe_c_headers.specs.Onward.{FillsFrom, IsRefusedNext, unrefused}
 use Rattle.goblin_pe_c_headers.proofs.Batches.{AtItems, fills-by, items-cut, items-end, items-full, items-more, items-start, done-at_room, done-none}
 
@@ -60,7 +60,7 @@ module _ {start : Exports} {old : List PeExport} {end : ℕ} {now : Exports} {re
   pub exports-more : (x : WalkedExport) (next : Exports) (r : PeExport)
       → YieldsFirstBy walked_export exports_left now (Some x) next → KeepsOver now next
       → exports_position now ≤ exports_position next → exports_position next ≤ max (exports_position start) end
-      → count < length records → export_view r ≡ export_for_c (walked_export x)
+      → count < length records → export_model r ≡ export_for_c (walked_export x)
       → AtExports start old end next (set records count r) (count + 1)
   exports-more x next r given over further below within says = record {
     at = items-more h.at (walked_export x) next next r (ap unrefused given) within says refl;
@@ -151,7 +151,7 @@ module _ (m : MapOfAddresses) (places : TablePlaces) (bytes : List ℕ) (found :
           | inl all ↦ absurd (omega (arith, cut.0, all))
           | inr run ↦ omega (arith, run, cut.1, is)
         ] in
-        let given = fills-by export_view export_for_c (export_walk).from (export_table m bytes (part.Read (walked_exports walk))).from
+        let given = fills-by export_model export_for_c (export_walk).from (export_table m bytes (part.Read (walked_exports walk))).from
         ((end < pointer_count now) × (end ≤ exports_position next)) (left ≡ 0)
         (to_come now) (unrefused (numbered_from m.addressing bytes (walked_tables walk) x)) now next x (exports_position next) old new count fills
         (ap unrefused left_is) (ap (λ (items : List NumberedExport). Some (unrefused items)) rest) out (λ same. ap exports_position same ∙ at) in

@@ -22,7 +22,7 @@ use Rattle.goblin_pe_c_tables.specs.declared.import.PeImport.{PeImport}
 use Rattle.goblin_pe_c_tables.specs.declared.next.PeImportCursor.{PeImportCursor}
 use Rattle.goblin_pe_c_tables.specs.Batches.{Fills, GivesImports, GivesInFile, GoesOn, ImportBatch, cursor_for_c, cursor_from_c, import_cursor}
 use Rattle.goblin_pe_c_tables.specs.Batches.{import_table, is_over, option_from_c, position_ahead}
-use Rattle.goblin_pe_c_tables.specs.Imports.{import_for_c, import_view}
+use Rattle.goblin_pe_c_tables.specs.Imports.{import_for_c, import_model}
 use Rattle.goblin_pe_c_headers.specs.Onward.{AtBatch, IsRefusedNext, TellsEnd, unrefused}
 use Rattle.goblin_pe_c_headers.proofs.Batches.{AtItems, batch-more, items-cut, items-end, items-fault, items-full, items-gives, items-refused, items-start, items-then, done-cut, done-end, done-full, done-refused}
 
@@ -103,18 +103,18 @@ pub filled-none : (records : List PeImport) (first : ℕ) → Fills records reco
 filled-none records first = (
   omega arith,
   λ base before at.
-      subst (λ (values : List NumberedImport). AtBatch import_view import_for_c base values records first) (sym (append-nil before)) at,
+      subst (λ (values : List NumberedImport). AtBatch import_model import_for_c base values records first) (sym (append-nil before)) at,
 )
 
 pub filled-more : (old records : List PeImport) (first count : ℕ) (x : WalkedImport) (r : PeImport) → count < length records
-    → import_view r ≡ import_for_c (walked_value x) → (values : List NumberedImport) → Fills old records first count values
+    → import_model r ≡ import_for_c (walked_value x) → (values : List NumberedImport) → Fills old records first count values
     → Fills old (set records count r) first (count + 1) (values ++ walked_value x ∷ [])
 filled-more old records first count x r within says values h = (
   (let so_far = h.0 in omega (arith, so_far, length-append values (walked_value x ∷ []))),
   λ base before at.
-      subst (λ (values : List NumberedImport). AtBatch import_view import_for_c base values (set records count r) (count + 1))
+      subst (λ (values : List NumberedImport). AtBatch import_model import_for_c base values (set records count r) (count + 1))
       (append_assoc before values (walked_value x ∷ []))
-      (batch-more import_view import_for_c base (before ++ values) records count (walked_value x) r (h.1 base before at) within says),
+      (batch-more import_model import_for_c base (before ++ values) records count (walked_value x) r (h.1 base before at) within says),
 )
 
 -- ---- steps
@@ -166,12 +166,12 @@ module _ {m : MapOfAddresses} {places : TablePlaces} {bytes : List ℕ} {steps :
     (h : AtImports m places bytes steps start from old now p left records count) where
   -- an import has come, and those of its library that there is room for
   pub library-more : (x : WalkedImport) (next last : FileImports) (q : PeImportCursor) (limit : Option ℕ) (left1 left2 : ℕ) (r : PeImport) (new : List PeImport) (end : ℕ)
-      → GivesFileWithin now (Some left) (Some (Ok x)) next limit → left1 ≡ unwrap_or limit 0 → count < length records → import_view r ≡ import_for_c (walked_value x)
+      → GivesFileWithin now (Some left) (Some (Ok x)) next limit → left1 ≡ unwrap_or limit 0 → count < length records → import_model r ≡ import_for_c (walked_value x)
       → GivesInFile next last (Fills (set records count r) new (count + 1) end)
       → file_ahead next + left2 ≡ file_ahead last + left1 → GoesOn m places bytes q last
       → AtImports m places bytes steps start from old last q left2 new end
   library-more x next last q limit left1 left2 r new end gives is within says fills spent goes =
-      let at = batch-more import_view import_for_c old h.at.values records count (walked_value x) r h.at.held within says in
+      let at = batch-more import_model import_for_c old h.at.values records count (walked_value x) r h.at.held within says in
       let filled = library-given next last (Fills (set records count r) new (count + 1) end) fills in
       let one = limit-left left limit (file_ahead now) (file_ahead next) gives.looked in
       let counted = h.counted in
@@ -179,7 +179,7 @@ module _ {m : MapOfAddresses} {places : TablePlaces} {bytes : List ℕ} {steps :
       record {
         at = items-then h.at (walked_value x ∷ filled.values) last q new end
             (gives.steps.0 ∙ ap (λ (items : List (Option NumberedImport)). Some (walked_value x) ∷ items) filled.yielded)
-            (subst (λ (values : List NumberedImport). AtBatch import_view import_for_c old values new end) (append_assoc h.at.values (walked_value x ∷ []) filled.values)
+            (subst (λ (values : List NumberedImport). AtBatch import_model import_for_c old values new end) (append_assoc h.at.values (walked_value x ∷ []) filled.values)
             (filled.held.1 old (h.at.values ++ walked_value x ∷ []) at))
             (omega (arith, last_is)) goes.left;
         goes = goes;

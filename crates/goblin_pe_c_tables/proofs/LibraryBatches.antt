@@ -11,7 +11,7 @@ use Rattle.goblin_pe.specs.added.Libraries.{AreLibrariesOver, GivesNextLibrary, 
 use Rattle.goblin_pe.specs.Whole.{TablePlaces, entry_format}
 use Rattle.goblin_pe_c_tables.specs.declared.next.PeImportCursor.{PeImportCursor}
 use Rattle.goblin_pe_c_tables.specs.Batches.{cursor_for_c, import_cursor}
-use Rattle.goblin_pe_c_tables.specs.Libraries.{GivesLibraries, LibraryBatch, library_for_c, library_table, library_view, position_after, position_by}
+use Rattle.goblin_pe_c_tables.specs.Libraries.{GivesLibraries, LibraryBatch, library_for_c, library_table, library_model, position_after, position_by}
 use Rattle.goblin_pe_c_headers.specs.Onward.{IsRefusedNext, TellsEnd, values_before}
 use Rattle.goblin_pe_import.specs.declared.added.library_walk.WalkedLibrary.{WalkedLibrary}
 use Rattle.goblin_pe_c_tables.specs.declared.library.PeLibrary.{PeLibrary}
@@ -107,7 +107,7 @@ module _ {m : MapOfAddresses} {places : TablePlaces} {bytes : List ℕ} {start :
   moves = h.moved ∙ ap (position_after from) (sym (items-taken h.at))
 
   pub libraries-more : (x : WalkedLibrary) (next : Libraries) (q : PeImportCursor) (r : PeLibrary) → GivesNextLibrary now (Some (Ok x)) next
-      → q ≡ cursor_for_c (libraries_cursor next) → count < length records → library_view r ≡ library_for_c m (library_value x)
+      → q ≡ cursor_for_c (libraries_cursor next) → count < length records → library_model r ≡ library_for_c m (library_value x)
       → AtLibraries m places bytes start from old next q (set records count r) (count + 1)
   unfolding items-more items-then
   libraries-more x next q r given numbers within says =

@@ -31,10 +31,10 @@ use Rattle.goblin_pe_c_tables.specs.declared.export.PeExport.{PeExport}
 use Rattle.goblin_pe_c_tables.specs.declared.export_directory.PeExportAddress.{PeExportAddress}
 use Rattle.goblin_pe_c_tables.specs.declared.import.PeImport.{PeImport}
 use Rattle.goblin_pe_c_tables.specs.declared.next.PeImportCursor.{PeImportCursor}
-use Rattle.goblin_pe_c_tables.specs.ExportDirectories.{DirectoryView, addresses_for_c}
+use Rattle.goblin_pe_c_tables.specs.ExportDirectories.{DirectoryModel, addresses_for_c}
 use Rattle.goblin_pe_c_tables.specs.ExportDirectories.{directory_for_c, no_export_directory}
-use Rattle.goblin_pe_c_tables.specs.Exports.{ExportView, export_for_c, export_view}
-use Rattle.goblin_pe_c_tables.specs.Imports.{GivesHere, ImportView, import_for_c, import_view}
+use Rattle.goblin_pe_c_tables.specs.Exports.{ExportModel, export_for_c, export_model}
+use Rattle.goblin_pe_c_tables.specs.Imports.{GivesHere, ImportModel, import_for_c, import_model}
 use Rattle.goblin_pe_c_tables.specs.Places.{TakesIndexAt, directory_offset, map_at, places_from_c}
 use Rattle.goblin_pe_c_headers.specs.Places.{placed_sections}
 use Rattle.goblin_pe_c_headers.specs.Items.{without_causes}
@@ -93,9 +93,9 @@ import_cursor m places p =
 
 -- the imports of a file
 abbrev pub import_table : MapOfAddresses → TablePlaces → List ℕ
-    → Table PeImportCursor PeImport NumberedImport ImportView
+    → Table PeImportCursor PeImport NumberedImport ImportModel
 import_table m places bytes = record {
-  view = import_view;
+  view = import_model;
   said = import_for_c;
   from = λ p. option_map (file_cursor_left m places.magic bytes) ((import_cursor m places p).value bytes);
 }
@@ -133,8 +133,8 @@ abbrev pub Fills : List PeImport → List PeImport → ℕ → ℕ → List Numb
 Fills old new first last values =
     (last ≡ first + length values)
     × ((base : List PeImport) (before : List NumberedImport)
-    → AtBatch import_view import_for_c base before old first
-    → AtBatch import_view import_for_c base (before ++ values) new last)
+    → AtBatch import_model import_for_c base before old first
+    → AtBatch import_model import_for_c base (before ++ values) new last)
 
 -- `GivesHere` of the imports of a file
 abbrev pub GivesInFile : FileImports → FileImports → (List NumberedImport → Type 0) → Type 0
@@ -166,9 +166,9 @@ pointers_in Refused = 0
 
 -- the exports of tables
 abbrev pub export_table : MapOfAddresses → List ℕ → Part (ExportTables × List NumberedExport)
-    → Table ℕ PeExport NumberedExport ExportView
+    → Table ℕ PeExport NumberedExport ExportModel
 export_table m bytes p = record {
-  view = export_view;
+  view = export_model;
   said = export_for_c;
   from = λ x. Some (unrefused (exports_in m bytes x p));
 }
@@ -190,9 +190,9 @@ GivesExports m places bytes before after old new batch =
     (λ left. LooksAtPointers before after (pointers_in p) old.position new.position) old new batch)
 
 -- the exports that a walk gives; the walk is the position
-abbrev pub export_walk : Table Exports PeExport NumberedExport ExportView
+abbrev pub export_walk : Table Exports PeExport NumberedExport ExportModel
 export_walk = record {
-  view = export_view;
+  view = export_model;
   said = export_for_c;
   from = λ walk. Some (unrefused (exports_left walk));
 }
@@ -214,12 +214,12 @@ IsExportBatchFault m places bytes old e = IsExportsFault m places bytes e
 -- ---- what the export directory says
 
 -- its record, zeros where it is not read; the names of exports have no say in that
-abbrev pub directory_record_in : Part ExportTables → DirectoryView
+abbrev pub directory_record_in : Part ExportTables → DirectoryModel
 directory_record_in Absent = no_export_directory
 directory_record_in (part.Read tables) = directory_for_c tables
 directory_record_in Refused = no_export_directory
 
-abbrev pub SaysDirectory : MapOfAddresses → TablePlaces → List ℕ → DirectoryView → Type 0
+abbrev pub SaysDirectory : MapOfAddresses → TablePlaces → List ℕ → DirectoryModel → Type 0
 SaysDirectory m places bytes said =
     IsSomeAnd ((address_part m.opts m.addressing places).value bytes) (λ p. said ≡ directory_record_in p)
 

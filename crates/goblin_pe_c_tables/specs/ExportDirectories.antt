@@ -32,14 +32,14 @@ addresses_for_c addressing tables =
     (enumerate_from 0 tables.export_address_table)
 
 -- a record of what an export directory says, its slice as a list
-pub record DirectoryView : Type 0 where
+pub record DirectoryModel : Type 0 where
   pub name : List ℕ
   pub table : ExportDirectoryTable
   pub has_name : Bool
   pub is_present : Bool
   pub reserved : List ℕ
 
-abbrev pub directory_for_c : ExportTables → DirectoryView
+abbrev pub directory_for_c : ExportTables → DirectoryModel
 directory_for_c tables = record {
   name = unwrap_or tables.name [];
   table = tables.export_directory_table;
@@ -49,7 +49,7 @@ directory_for_c tables = record {
 }
 
 -- zeros, if the exports are not read
-abbrev pub no_export_directory : DirectoryView
+abbrev pub no_export_directory : DirectoryModel
 no_export_directory = record {
   name = [];
   table = record {
@@ -71,8 +71,8 @@ no_export_directory = record {
 }
 
 -- what a record holds
-abbrev pub directory_view : PeExportDirectory → DirectoryView
-directory_view d = record {
+abbrev pub directory_model : PeExportDirectory → DirectoryModel
+directory_model d = record {
   name = d.name.now;
   table = d.«record»;
   has_name = d.has_name;

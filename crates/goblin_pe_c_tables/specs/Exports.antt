@@ -9,7 +9,7 @@ use Rattle.goblin_pe_c_tables.specs.declared.forwarder.ForwarderKind.TheVariants
 use Rattle.goblin_pe_c_tables.specs.declared.forwarder.PeForwarder.{PeForwarder}
 
 -- a record of a forwarder, its slices as lists
-pub record ForwarderView : Type 0 where
+pub record ForwarderModel : Type 0 where
   pub dll : List ℕ
   pub name : List ℕ
   pub ordinal : ℕ
@@ -17,9 +17,9 @@ pub record ForwarderView : Type 0 where
   pub reserved : ℕ
 
 -- a record of an export, its slices as lists
-pub record ExportView : Type 0 where
+pub record ExportModel : Type 0 where
   pub name : List ℕ
-  pub forwarder : ForwarderView
+  pub forwarder : ForwarderModel
   pub ordinal : ℕ
   pub hint : ℕ
   pub rva : ℕ
@@ -36,7 +36,7 @@ kind_number kind.Name = 1
 kind_number kind.Ordinal = 2
 
 -- the record of a forwarder; zeros without one
-abbrev pub forwarder_for_c : Option Forwarder → ForwarderView
+abbrev pub forwarder_for_c : Option Forwarder → ForwarderModel
 forwarder_for_c None =
     record { dll = []; name = []; ordinal = 0; kind = kind_number kind.None; reserved = 0 }
 forwarder_for_c (Some (ByName name lib)) =
@@ -45,7 +45,7 @@ forwarder_for_c (Some (ByOrdinal ordinal lib)) =
     record { dll = lib; name = []; ordinal = ordinal; kind = kind_number kind.Ordinal; reserved = 0 }
 
 -- the record of an export with this forwarder; what the export does not have is nothing, or 0
-abbrev pub said_with : NumberedExport → ForwarderView → ExportView
+abbrev pub said_with : NumberedExport → ForwarderModel → ExportModel
 said_with x forwarder = record {
   name = unwrap_or x.row.name [];
   forwarder = forwarder;
@@ -60,16 +60,16 @@ said_with x forwarder = record {
 }
 
 -- the record of an export
-abbrev pub export_for_c : NumberedExport → ExportView
+abbrev pub export_for_c : NumberedExport → ExportModel
 export_for_c x = said_with x (forwarder_for_c x.row.reexport)
 
 -- the same as if it were no forwarder
-abbrev pub said_without_forwarder : NumberedExport → ExportView
+abbrev pub said_without_forwarder : NumberedExport → ExportModel
 said_without_forwarder x = said_with x (forwarder_for_c None)
 
 -- what the records hold
-abbrev pub forwarder_view : PeForwarder → ForwarderView
-forwarder_view f = record {
+abbrev pub forwarder_model : PeForwarder → ForwarderModel
+forwarder_model f = record {
   dll = f.dll.now;
   name = f.name.now;
   ordinal = f.ordinal;
@@ -77,10 +77,10 @@ forwarder_view f = record {
   reserved = f.reserved;
 }
 
-abbrev pub export_view : PeExport → ExportView
-export_view x = record {
+abbrev pub export_model : PeExport → ExportModel
+export_model x = record {
   name = x.name.now;
-  forwarder = forwarder_view x.forwarder;
+  forwarder = forwarder_model x.forwarder;
   ordinal = x.ordinal;
   hint = x.hint;
   rva = x.rva;

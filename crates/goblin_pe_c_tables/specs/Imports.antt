@@ -12,7 +12,7 @@ use Rattle.goblin_pe_import.specs.Imports.{NumberedImport}
 use Rattle.goblin_pe_c_tables.specs.declared.import.PeImport.{PeImport}
 
 -- a record of an import, its slices as lists
-pub record ImportView : Type 0 where
+pub record ImportModel : Type 0 where
   pub name : List ℕ
   pub dll : List ℕ
   pub iat_rva : ℕ
@@ -25,7 +25,7 @@ pub record ImportView : Type 0 where
   pub reserved : ℕ
 
 -- the record of an import of this name; one by ordinal has none
-abbrev pub import_named : NumberedImport → List ℕ → ImportView
+abbrev pub import_named : NumberedImport → List ℕ → ImportModel
 import_named x name = record {
   name = name;
   dll = x.import.dll;
@@ -40,12 +40,12 @@ import_named x name = record {
 }
 
 -- the record of an import, which is by name if its name is in the file
-abbrev pub import_for_c : NumberedImport → ImportView
+abbrev pub import_for_c : NumberedImport → ImportModel
 import_for_c x = import_named x (if x.import.is_borrowed then x.import.name else [])
 
 -- what a record holds
-abbrev pub import_view : PeImport → ImportView
-import_view x = record {
+abbrev pub import_model : PeImport → ImportModel
+import_model x = record {
   name = x.name.now;
   dll = x.dll.now;
   iat_rva = x.iat_rva;

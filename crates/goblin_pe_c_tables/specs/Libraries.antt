@@ -18,7 +18,7 @@ use Rattle.goblin_pe_c_headers.specs.Faults.{status_of}
 use Rattle.goblin_pe_c_headers.specs.declared.fault.PeFault.{PeFault}
 
 -- a record of a library, its slice as a list
-pub record LibraryView : Type 0 where
+pub record LibraryModel : Type 0 where
   pub name : List ℕ
   pub name_fault : PeFault
   pub index : ℕ
@@ -34,7 +34,7 @@ name_for_c (Ok name) = name
 name_for_c (Err e) = []
 
 -- the record of a library, by a map of addresses
-abbrev pub library_for_c : MapOfAddresses → LibraryValue → LibraryView
+abbrev pub library_for_c : MapOfAddresses → LibraryValue → LibraryModel
 library_for_c m x = record {
   name = name_for_c x.name;
   name_fault = status_of x.name;
@@ -47,8 +47,8 @@ library_for_c m x = record {
 }
 
 -- what a record holds
-abbrev pub library_view : PeLibrary → LibraryView
-library_view x = record {
+abbrev pub library_model : PeLibrary → LibraryModel
+library_model x = record {
   name = x.name.now;
   name_fault = x.name_fault;
   index = x.index;
@@ -61,9 +61,9 @@ library_view x = record {
 
 -- the libraries of a file, from any cursor of its imports on
 abbrev pub library_table : MapOfAddresses → TablePlaces → List ℕ
-    → Table PeImportCursor PeLibrary LibraryValue LibraryView
+    → Table PeImportCursor PeLibrary LibraryValue LibraryModel
 library_table m places bytes = record {
-  view = library_view;
+  view = library_model;
   said = library_for_c m;
   from = λ p. option_map (cursor_libraries m (entry_format places.magic) bytes)
       ((import_cursor m places p).value bytes);

@@ -3,7 +3,7 @@
 ghost use Rattle.std.specs.Prelude.{◌≡◌, None, Some};
 ghost use Rattle.goblin_pe_export.specs.added.ExportWalks.{walked_export};
 ghost use Rattle.goblin_pe_export.specs.Forwarders.{forwarder_value};
-ghost use Rattle.goblin_pe_c_tables.specs.Exports.{export_for_c, export_view};
+ghost use Rattle.goblin_pe_c_tables.specs.Exports.{export_for_c, export_model};
 ghost use Rattle.goblin_pe_c_tables.specs.Exports.{said_without_forwarder};
 
 use crate::forwarder::{PeForwarder, forwarder_record, no_forwarder};
@@ -38,10 +38,10 @@ pub struct PeExport<'a> {
 
 // The record of an export that is no forwarder.
 #[inline(always)]
-pub(crate) fn plain_record<'a>(bytes: &'a [u8], walked: &WalkedExport<'a>) -> PeExport<'a>
-    ensures value { export_view result ≡ said_without_forwarder (walked_export walked.now) }
-    ensures plain { (walked_export walked.now).row.reexport ≡ None
-        → export_view result ≡ export_for_c (walked_export walked.now) }
+pub(crate) fn unforwarded_record<'a>(bytes: &'a [u8], walked: &WalkedExport<'a>) -> PeExport<'a>
+    ensures value { export_model result ≡ said_without_forwarder (walked_export walked.now) }
+    ensures unforwarded { (walked_export walked.now).row.reexport ≡ None
+        → export_model result ≡ export_for_c (walked_export walked.now) }
 {
     let export = &walked.export;
     PeExport {
@@ -69,11 +69,11 @@ fn forwarded_record<'a>(
     reexport: &Reexport<'a>,
 ) -> PeExport<'a>
     requires { (walked_export walked.now).row.reexport ≡ Some (forwarder_value reexport.now) }
-    ensures { export_view result ≡ export_for_c (walked_export walked.now) }
+    ensures { export_model result ≡ export_for_c (walked_export walked.now) }
 {
     PeExport {
         forwarder: forwarder_record(bytes, reexport),
-        ..plain_record(bytes, walked)
+        ..unforwarded_record(bytes, walked)
     }
 }
 
@@ -81,10 +81,10 @@ fn forwarded_record<'a>(
 /// kinds at once would be cleared first for every export.)
 #[inline(always)]
 pub fn put_export<'a>(place: &mut PeExport<'a>, bytes: &'a [u8], walked: &WalkedExport<'a>)
-    ensures { export_view place.new ≡ export_for_c (walked_export walked.now) }
+    ensures { export_model place.new ≡ export_for_c (walked_export walked.now) }
 {
     match &walked.export.reexport {
-        None => *place = plain_record(bytes, walked),
+        None => *place = unforwarded_record(bytes, walked),
         Some(reexport) => *place = forwarded_record(bytes, walked, reexport),
     }
 }

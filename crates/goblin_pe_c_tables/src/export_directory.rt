@@ -10,7 +10,7 @@ ghost use Rattle.goblin_pe_c_tables.specs.Batches.{IsAddressBatchFault, IsAddres
 ghost use Rattle.goblin_pe_c_tables.specs.Batches.{SaysDirectory};
 ghost use Rattle.goblin_pe_c_headers.specs.Onward.{GivesOnward};
 ghost use Rattle.goblin_pe_c_tables.specs.ExportDirectories.{address_for_c, addresses_for_c};
-ghost use Rattle.goblin_pe_c_tables.specs.ExportDirectories.{directory_for_c, directory_view};
+ghost use Rattle.goblin_pe_c_tables.specs.ExportDirectories.{directory_for_c, directory_model};
 ghost use Rattle.goblin_pe_c_tables.specs.ExportDirectories.{is_forwarder, no_export_directory};
 
 use crate::batch::{Batched, at_room};
@@ -90,7 +90,7 @@ fn address_record(
 
 // The record of an export directory.
 fn directory_record<'a>(bytes: &'a [u8], exports: &Exports<'a, '_>) -> PeExportDirectory<'a>
-    ensures { directory_view result ≡ directory_for_c (walked_tables exports.now) }
+    ensures { directory_model result ≡ directory_for_c (walked_tables exports.now) }
 {
     let name = exports.name();
     PeExportDirectory {
@@ -107,7 +107,7 @@ fn directory_record<'a>(bytes: &'a [u8], exports: &Exports<'a, '_>) -> PeExportD
 
 // The record if none is read.
 fn no_export_directory<'a>(bytes: &'a [u8]) -> PeExportDirectory<'a>
-    ensures { directory_view result ≡ no_export_directory }
+    ensures { directory_model result ≡ no_export_directory }
 {
     PeExportDirectory {
         name: &bytes[..0],
@@ -123,7 +123,7 @@ fn directory_of<'a>(layout: &Layout<'a>) -> Result<PeExportDirectory<'a>>
     ensures { let m = layout_map layout.now in
         let places = layout_places layout.now in
         let bytes = layout_bytes layout.now in
-        MatchResult result (λ d. SaysDirectory m places bytes (directory_view d))
+        MatchResult result (λ d. SaysDirectory m places bytes (directory_model d))
         (λ e. IsAddressesFault m places bytes e) }
 {
     match layout.export_addresses()? {
@@ -143,7 +143,7 @@ pub fn give_directory<'a>(
     directory: &mut PeExportDirectory<'a>,
 ) -> Result<()>
     ensures { GivesBatch image.now
-        (λ m places. SaysDirectory m places image.now.bytes.now (directory_view directory.new))
+        (λ m places. SaysDirectory m places image.now.bytes.now (directory_model directory.new))
         (λ m places. IsAddressesFault m places image.now.bytes.now)
         (directory.new ≡ directory.old) result }
 {

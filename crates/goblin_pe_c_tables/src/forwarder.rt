@@ -3,7 +3,7 @@
 ghost use Rattle.std.specs.Prelude.{◌≡◌, None, Some};
 ghost use Rattle.goblin_pe_export.specs.Forwarders.{forwarder_value};
 ghost use Rattle.goblin_pe_c_headers.specs.Calls.{ReadsWithout};
-ghost use Rattle.goblin_pe_c_tables.specs.Exports.{forwarder_for_c, forwarder_view};
+ghost use Rattle.goblin_pe_c_tables.specs.Exports.{forwarder_for_c, forwarder_model};
 ghost use Rattle.goblin_pe_c_tables.specs.ForwardersAt.{forwarder_at_address};
 
 use goblin_pe::export::Reexport;
@@ -48,7 +48,7 @@ pub struct PeForwarder<'a> {
 // The record of an export that is not forwarded.
 #[inline(always)]
 pub(crate) fn no_forwarder<'a>(bytes: &'a [u8]) -> PeForwarder<'a>
-    ensures { forwarder_view result ≡ forwarder_for_c None }
+    ensures { forwarder_model result ≡ forwarder_for_c None }
 {
     PeForwarder {
         dll: &bytes[..0],
@@ -61,7 +61,7 @@ pub(crate) fn no_forwarder<'a>(bytes: &'a [u8]) -> PeForwarder<'a>
 
 // The record of a forwarder.
 pub(crate) fn forwarder_record<'a>(bytes: &'a [u8], reexport: &Reexport<'a>) -> PeForwarder<'a>
-    ensures { forwarder_view result ≡ forwarder_for_c (Some (forwarder_value reexport.now)) }
+    ensures { forwarder_model result ≡ forwarder_for_c (Some (forwarder_value reexport.now)) }
 {
     let none = no_forwarder(bytes);
     match reexport {
@@ -91,7 +91,7 @@ pub fn read_forwarder<'a>(
     forwarder: &mut PeForwarder<'a>,
 ) -> Result<()>
     ensures { ReadsWithout (forwarder_at_address image.now rva) image.now.bytes.now
-        (λ f. forwarder_view forwarder.new ≡ forwarder_for_c (Some f))
+        (λ f. forwarder_model forwarder.new ≡ forwarder_for_c (Some f))
         (forwarder.new ≡ forwarder.old) result }
 {
     let (bytes, options) = (image.bytes, &image.options);

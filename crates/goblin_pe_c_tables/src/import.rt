@@ -2,7 +2,7 @@
 
 ghost use Rattle.std.specs.Prelude.{◌≡◌, ◌==◌, length, not};
 ghost use Rattle.goblin_pe_import.specs.added.ImportWalks.{walked_value};
-ghost use Rattle.goblin_pe_c_tables.specs.Imports.{import_for_c, import_view};
+ghost use Rattle.goblin_pe_c_tables.specs.Imports.{import_for_c, import_model};
 
 use goblin_pe::added::WalkedImport;
 use goblin_pe::import::SyntheticImportLookupTableEntry;
@@ -44,7 +44,7 @@ fn record_by<'a>(
     hint_or_ordinal: u16,
     is_by_name: bool,
 ) -> PeImport<'a>
-    ensures { import_view result ≡ record {
+    ensures { import_model result ≡ record {
       name = name.now;
       dll = import.now.dll.now;
       iat_rva = import.now.slot_rva;
@@ -74,7 +74,7 @@ fn record_by<'a>(
 /// The record of an import of these bytes.
 #[inline(always)]
 pub fn import_record<'a>(bytes: &'a [u8], import: &WalkedImport<'a>) -> PeImport<'a>
-    ensures { import_view result ≡ import_for_c (walked_value import.now) }
+    ensures { import_model result ≡ import_for_c (walked_value import.now) }
 {
     match &import.entry {
         SyntheticImportLookupTableEntry::OrdinalNumber(ordinal) => {

@@ -9,7 +9,7 @@ ghost use Rattle.goblin_pe.specs.added.Libraries.{libraries_left, library_value}
 ghost use Rattle.goblin_pe.specs.Whole.{entry_format};
 ghost use Rattle.goblin_pe_c_tables.specs.Libraries.{GivesLibraries};
 ghost use Rattle.goblin_pe_c_tables.specs.Libraries.{IsLibrariesFault, LibraryBatch};
-ghost use Rattle.goblin_pe_c_tables.specs.Libraries.{library_for_c, library_table, library_view};
+ghost use Rattle.goblin_pe_c_tables.specs.Libraries.{library_for_c, library_table, library_model};
 ghost use Rattle.goblin_pe_c_headers.specs.Onward.{IsRefusedNext};
 
 use crate::batch::Batched;
@@ -52,7 +52,7 @@ fn library_record<'a>(
     library: &WalkedLibrary<'a>,
     finder: &mut Finder<'_>,
 ) -> PeLibrary<'a>
-    ensures said { library_view result
+    ensures said { library_model result
         ≡ library_for_c (map_of finder.old) (library_value library.now) }
     ensures same { finder.new ≡ finder.old }
 {

@@ -18,7 +18,7 @@ ghost use Rattle.goblin_pe_c_tables.specs.Imports.{GivesHere};
 ghost use Rattle.goblin_pe_c_headers.specs.Onward.{FillsFrom, IsRefusedNext, unrefused};
 
 use crate::batch::{Batched, at_room};
-use crate::export::{PeExport, plain_record, put_export};
+use crate::export::{PeExport, put_export, unforwarded_record};
 use crate::import::{PeImport, import_record};
 use goblin_base::answer_for;
 use goblin_pe::added::{Exports, FileImports, ImportCursor, Imports, Layout};
@@ -133,7 +133,7 @@ fn end_within(room: usize, first: usize, left: usize) -> usize
     room.min(first.saturating_add(left))
 }
 
-// Fills records from `first` on with the plain imports that come next in the library of the walk,
+// Fills records from `first` on with the ASCII imports that come next in the library of the walk,
 // up to `end`, and returns the index after the last one filled. It is not inlined, so that its loop
 // shares no registers with its caller's.
 #[inline(never)]
@@ -150,18 +150,18 @@ fn fill_here<'a, 'm, 'e, T: Bitfield<'a>>(
     ensures further { first ≤ result }
     ensures within { first ≤ end → result ≤ end }
 {
-    let Some(mut plain) = imports.plain() else {
+    let Some(mut ascii) = imports.ascii() else {
         return first;
     };
     let mut count = first;
-    'plain: while count < end {
-        let Some(import) = plain.next_import() else {
-            break 'plain;
+    'ascii: while count < end {
+        let Some(import) = ascii.next_import() else {
+            break 'ascii;
         };
         records[count] = import_record(bytes, &import);
         count += 1;
     }
-    imports.go_on(&plain);
+    imports.go_on(&ascii);
     count
 }
 
@@ -300,8 +300,8 @@ fn pointers_before(end: usize, exports: &Exports) -> usize
 }
 
 // Fills records with the exports that come next of the name pointers before `end`, as far as there
-// is room, and answers how many. Those that are plain come by a loop of their own, in which all
-// goes in line.
+// is room, and answers how many. Those that `next_ascii` gives come by a loop of their own, in which
+// all goes in line.
 fn fill_exports<'a, 'm>(
     bytes: &'a [u8],
     exports: &mut Exports<'a, 'm>,
@@ -329,11 +329,11 @@ fn fill_exports<'a, 'm>(
         count += 1;
         let left = pointers_before(end, exports);
         let stop = end_within(records.len(), count, left);
-        'plain: while count < stop {
-            let Some(export) = exports.next_plain() else {
+        'ascii: while count < stop {
+            let Some(export) = exports.next_ascii() else {
                 break;
             };
-            records[count] = plain_record(bytes, &export);
+            records[count] = unforwarded_record(bytes, &export);
             count += 1;
         }
     }

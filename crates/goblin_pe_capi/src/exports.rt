@@ -8,8 +8,8 @@ ghost use Rattle.goblin_pe_c_tables.specs.Batches.{AddressBatch, ExportBatch, Gi
 ghost use Rattle.goblin_pe_c_tables.specs.Batches.{GivesBatch, GivesExports, IsAddressBatchFault};
 ghost use Rattle.goblin_pe_c_tables.specs.Batches.{IsAddressesFault, IsExportBatchFault};
 ghost use Rattle.goblin_pe_c_tables.specs.Batches.{SaysDirectory, WalksOver};
-ghost use Rattle.goblin_pe_c_tables.specs.ExportDirectories.{directory_view};
-ghost use Rattle.goblin_pe_c_tables.specs.Exports.{forwarder_for_c, forwarder_view};
+ghost use Rattle.goblin_pe_c_tables.specs.ExportDirectories.{directory_model};
+ghost use Rattle.goblin_pe_c_tables.specs.Exports.{forwarder_for_c, forwarder_model};
 ghost use Rattle.goblin_pe_c_tables.specs.ForwardersAt.{forwarder_at_address};
 ghost use Rattle.goblin_pe_c_tables.specs.Steps.{section_steps, walk_fault};
 
@@ -75,7 +75,7 @@ pub extern "C" fn goblin_pe_raw_read_export_directory<'a>(
     ensures { ReportedAfter (options_fault image.now.options) result
         (directory.new ≡ directory.old)
         (GivesBatch image.now
-        (λ m places. SaysDirectory m places image.now.bytes.now (directory_view directory.new))
+        (λ m places. SaysDirectory m places image.now.bytes.now (directory_model directory.new))
         (λ m places. IsAddressesFault m places image.now.bytes.now)
         (directory.new ≡ directory.old)) }
 {
@@ -120,7 +120,7 @@ pub extern "C" fn goblin_pe_raw_forwarder_at<'a>(
     ensures { ReportedAfter (options_fault image.now.options) result
         (forwarder.new ≡ forwarder.old)
         (ReadsWithout (forwarder_at_address image.now rva) image.now.bytes.now
-        (λ f. forwarder_view forwarder.new ≡ forwarder_for_c (Some f))
+        (λ f. forwarder_model forwarder.new ≡ forwarder_for_c (Some f))
         (forwarder.new ≡ forwarder.old)) }
 {
     let refusal = refused_call(&image.options);

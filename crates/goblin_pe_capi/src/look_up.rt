@@ -9,10 +9,10 @@ ghost use Rattle.goblin_pe_c_headers.specs.Addresses.{image_address, image_map, 
 ghost use Rattle.goblin_pe_c_headers.specs.Calls.{ReadsWithout, ReportedAfter};
 ghost use Rattle.goblin_pe_c_headers.specs.Faults.{options_fault};
 ghost use Rattle.goblin_pe_c_headers.specs.Found.{Puts};
-ghost use Rattle.goblin_pe_c_headers.specs.Images.{slice_view};
-ghost use Rattle.goblin_pe_c_headers.specs.Memory.{SeesFile, memory_at, memory_view, section_data};
+ghost use Rattle.goblin_pe_c_headers.specs.Images.{slice_model};
+ghost use Rattle.goblin_pe_c_headers.specs.Memory.{SeesFile, memory_at, memory_model, section_data};
 ghost use Rattle.goblin_pe_c_headers.specs.Places.{image_places};
-ghost use Rattle.goblin_pe_c_headers.specs.Sections.{section_view};
+ghost use Rattle.goblin_pe_c_headers.specs.Sections.{section_model};
 
 use goblin_pe_c_headers::address::{offset_of, read_text, rva_of};
 use goblin_pe_c_headers::fault::{PeFault, refused_call, status_of};
@@ -72,7 +72,7 @@ pub extern "C" fn goblin_pe_raw_memory_at<'a>(
     memory: &mut PeMemory<'a>,
 ) -> bool
     ensures value { let i = image.now in
-        memory_view memory.new ≡ memory_at i.options (image_places i) i.bytes.now rva size }
+        memory_model memory.new ≡ memory_at i.options (image_places i) i.bytes.now rva size }
     ensures file { let i = image.now in SeesFile i.options (image_places i) i.bytes.now }
     ensures all { result ≡ (memory.new.missing == 0) }
 {
@@ -96,9 +96,9 @@ pub extern "C" fn goblin_pe_raw_section_data<'a>(
     memory: &mut PeMemory<'a>,
 ) -> bool
     ensures value { let i = image.now in
-        memory_view memory.new
+        memory_model memory.new
         ≡ section_data i.options (image_places i).file_alignment i.bytes.now section.now.index
-        (section_view section.now) }
+        (section_model section.now) }
     ensures all { result ≡ (memory.new.missing == 0) }
 {
     let alignment = places_of(image).file_alignment;
@@ -120,7 +120,7 @@ pub extern "C" fn goblin_pe_raw_text_at<'a>(
     ensures { let i = image.now in
         ReportedAfter (options_fault i.options) result (text.new ≡ text.old)
         (ReadsWithout (text_at i.options (image_places i) i.bytes.now rva) i.bytes.now
-        (λ whole. slice_view text.new ≡ whole) (text.new ≡ text.old)) }
+        (λ whole. slice_model text.new ≡ whole) (text.new ≡ text.old)) }
 {
     let refusal = refused_call(&image.options);
     if refusal.status != 0 {

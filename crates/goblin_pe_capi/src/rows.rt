@@ -10,7 +10,7 @@ ghost use Rattle.goblin_pe_c_headers.specs.Places.{headers_there};
 ghost use Rattle.goblin_pe_c_headers.specs.Relocations.{RelocationBatch, all_relocations};
 ghost use Rattle.goblin_pe_c_headers.specs.RichHeaders.{GivesEntries, HeaderIsWalked, RichBatch};
 ghost use Rattle.goblin_pe_c_headers.specs.RichHeaders.{RichIsWalked};
-ghost use Rattle.goblin_pe_c_headers.specs.Sections.{SectionBatch, naming_of, row_view};
+ghost use Rattle.goblin_pe_c_headers.specs.Sections.{SectionBatch, naming_of, row_model};
 ghost use Rattle.goblin_pe_c_headers.specs.Sections.{section_rows};
 ghost use Rattle.goblin_pe_c_headers.specs.Symbols.{FindsTables, GivesSymbols, NamesOfText};
 ghost use Rattle.goblin_pe_c_headers.specs.Symbols.{SymbolBatch, found_tables, name_in_piece};
@@ -48,7 +48,7 @@ pub extern "C" fn goblin_pe_raw_next_sections<'a>(
         Reported result
         (ReadsWithout (headers_there image.now.section_count image.now.section_table)
         image.now.bytes.now
-        (λ headers. GivesRows row_view (section_rows (naming_of image.now) headers) old new batch.new)
+        (λ headers. GivesRows row_model (section_rows (naming_of image.now) headers) old new batch.new)
         ((new ≡ old) × (batch.new ≡ no_batch))) }
 {
     status_of(next_sections(image, &mut cursor.index, sections, batch))

@@ -1,9 +1,9 @@
 //! The calls for texts of the string table, and for auxiliary records.
 
 ghost use Rattle.std.specs.Prelude.{◌≡◌};
-ghost use Rattle.goblin_pe_c_headers.specs.Auxiliary.{AuxiliaryView, kind_number, kind_of};
+ghost use Rattle.goblin_pe_c_headers.specs.Auxiliary.{AuxiliaryModel, kind_number, kind_of};
 ghost use Rattle.goblin_pe_c_headers.specs.Found.{Puts};
-ghost use Rattle.goblin_pe_c_headers.specs.Images.{slice_view};
+ghost use Rattle.goblin_pe_c_headers.specs.Images.{slice_model};
 ghost use Rattle.goblin_pe_c_headers.specs.Symbols.{string_at};
 
 use goblin_pe_c_headers::auxiliary::{PeAuxiliary, read_auxiliary};
@@ -16,13 +16,13 @@ use goblin_pe_c_headers::symbol::{PeSymbol, string_at};
 ///
 /// Returns whether there is one, and it is UTF-8.
 #[unsafe(no_mangle)]
-#[tactic(auto, using(goblin_pe_c_headers::proofs::Puts::puts_view))]
+#[tactic(auto, using(goblin_pe_c_headers::proofs::Puts::puts_model))]
 pub extern "C" fn goblin_pe_raw_string_at<'a>(
     image: &PeImage<'a>,
     offset: usize,
     text: &mut PeSlice<'a>,
 ) -> bool
-    ensures { Puts slice_view result (string_at image.now offset) text.old text.new }
+    ensures { Puts slice_model result (string_at image.now offset) text.old text.new }
 {
     put_found(text, slice_record(string_at(image, offset)))
 }
@@ -37,7 +37,7 @@ pub extern "C" fn goblin_pe_raw_read_auxiliary<'a>(
     auxiliary: &mut PeAuxiliary<'a>,
 ) -> u32
     ensures kind { result ≡ kind_number (kind_of symbol.now.record symbol.now.auxiliary.now) }
-    ensures said { AuxiliaryView (kind_of symbol.now.record symbol.now.auxiliary.now)
+    ensures said { AuxiliaryModel (kind_of symbol.now.record symbol.now.auxiliary.now)
         symbol.now.auxiliary.now auxiliary.new }
 {
     read_auxiliary(symbol, auxiliary) as u32

@@ -9,7 +9,7 @@ ghost use Rattle.goblin_pe_sect.specs.SectionReadings.{SectionWritesBack};
 ghost use Rattle.goblin_pe_sect.specs.SectionTable.{section_fields};
 ghost use Rattle.goblin_pe_c_headers.specs.Calls.{Reported, ReportedAfter};
 ghost use Rattle.goblin_pe_c_headers.specs.Faults.{kind_fault};
-ghost use Rattle.goblin_pe_c_headers.specs.Sections.{section_view};
+ghost use Rattle.goblin_pe_c_headers.specs.Sections.{section_model};
 ghost use Rattle.goblin_pe_c_headers.specs.Written.{Output, SetsName, WritesHeader, WritesOut};
 ghost use Rattle.goblin_pe_c_tables.specs.Written.{ImageWritesBack};
 
@@ -63,7 +63,7 @@ pub extern "C" fn goblin_pe_raw_write_section(
         let new : Output = record { out = out.new; written = written.new } in
         Reported result
         (WritesOut
-        (overwritten out.old 0 (encoding Little (section_fields (section_view section.now))))
+        (overwritten out.old 0 (encoding Little (section_fields (section_model section.now))))
         (λ size. size ≡ 40) (IsSliceFault out.old 0 40) old new) }
     ensures back { SectionWritesBack }
 {

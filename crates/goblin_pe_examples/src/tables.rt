@@ -124,7 +124,7 @@ pub fn value_at<'a, 'e, T: TryFromCtx<'a>>(
     virtual_address: u32,
 ) -> ResultOf<'e, T>
     ensures { let m = file_offset default_options sections.now 0x200 in
-        Reads T.plain result (data_at m T.value_of T.refusal virtual_address) bytes.now }
+        Reads T.model result (data_at m T.value_of T.refusal virtual_address) bytes.now }
 {
     let directory = DataDirectory {
         virtual_address,

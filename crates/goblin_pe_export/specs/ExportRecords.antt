@@ -171,5 +171,5 @@ abbrev pub read_rows : ExportTables × List NumberedExport → ExportTables × L
 read_rows read = (read.0, map (λ x. x.row) read.1)
 
 -- tables and exports, as their reader returns them
-abbrev pub export_read_view : ExportTables × Vec ExportRow Global → ExportTables × List ExportRow
-export_read_view read = (read.0, read.1.items)
+abbrev pub export_read_model : ExportTables × Vec ExportRow Global → ExportTables × List ExportRow
+export_read_model read = (read.0, read.1.items)

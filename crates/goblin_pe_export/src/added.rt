@@ -2,9 +2,9 @@
 //! on.
 
 mod addresses;
+mod ascii;
 mod export_marks;
 mod exports;
-mod plain;
 
 pub use export_marks::{add_exports, footprint_exports};
 pub use exports::{Exports, WalkedExport};

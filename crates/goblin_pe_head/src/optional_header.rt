@@ -208,9 +208,9 @@ impl OptionalHeader {
 }
 
 impl TryFromCtx<'_> for OptionalHeader {
-    ghost Plain = { OptionalHeader };
+    ghost Modelled = { OptionalHeader };
 
-    ghost plain = { λ header. header };
+    ghost model = { λ header. header };
 
     ghost value_of = { λ _ bytes. reading.optional_header.value bytes };
 

@@ -12,7 +12,7 @@ use Rattle.goblin_base.proofs.Steps.{step}
 use Rattle.goblin_pe_import.specs.ImportEntries.{EntryValue, LookupEntry, entry_slots}
 use Rattle.goblin_pe_import.specs.declared.import.lookup_table.SyntheticImportLookupTableEntry.{SyntheticImportLookupTableEntry}
 use Rattle.goblin_pe_import.specs.declared.import.kept.KeptEntry.{KeptEntry}
-use Rattle.goblin_pe_import.specs.ImportLookup.{entry_view, kept_view}
+use Rattle.goblin_pe_import.specs.ImportLookup.{entry_model, kept_model}
 use Rattle.goblin_pe_import.specs.KeptEntries.{IsEntriesCause, KeptValue, entries_from, entry_items, kept_at}
 use Rattle.goblin_pe_import.specs.KeptEntries.{kept_value, place_after}
 use Rattle.goblin_pe_import.specs.Steps.{AreCounted, GivesWithin, IsOut, UnlessErr}
@@ -162,10 +162,10 @@ module _ (strict : Bool) (format : Format EntryValue) (addressing : Addressing)
       )
 
       module _ (kept : Option SyntheticImportLookupTableEntry)
-          (k : (kept_entry strict addressing v).value bytes ≡ Some (kept_view kept)) where
+          (k : (kept_entry strict addressing v).value bytes ≡ Some (kept_model kept)) where
         read : (found : Option SyntheticImportLookupTableEntry) → kept ≡ found
-            → (kept_entry strict addressing v).value bytes ≡ Some (kept_view found)
-        read found is = k ∙ ap (λ (x : Option SyntheticImportLookupTableEntry). Some (kept_view x)) is
+            → (kept_entry strict addressing v).value bytes ≡ Some (kept_model found)
+        read found is = k ∙ ap (λ (x : Option SyntheticImportLookupTableEntry). Some (kept_model x)) is
 
         -- nothing is kept of the slot at `place`
         pub rest-skip : kept ≡ None → AtRest start (place + format.width)
@@ -181,9 +181,9 @@ module _ (strict : Bool) (format : Format EntryValue) (addressing : Addressing)
         -- an entry is kept
         pub rest-kept : (entry : SyntheticImportLookupTableEntry) → kept ≡ Some entry
             → (comes start
-            ≡ Some (kept_at format.width o place (entry_view entry)) ∷ from (place + format.width))
+            ≡ Some (kept_at format.width o place (entry_model entry)) ∷ from (place + format.width))
             × ((e : ErrorOf) → IsCause (Some (place + format.width)) e → IsCause start e)
-        rest-kept entry is = rest-next (entry_view entry ∷ []) (read (Some entry) is)
+        rest-kept entry is = rest-next (entry_model entry ∷ []) (read (Some entry) is)
 
   -- ---- the whole table, from its first slot on
 
@@ -296,14 +296,14 @@ module _ (strict : Bool) (format : Format EntryValue) (addressing : Addressing)
       -- one more has come
       module _ (one : KeptEntry) (is : r ≡ Ok one) where
         pub entries-more : AtEntries (Some (one.place + format.width))
-            (entries ++ entry_view one.entry ∷ []) (rows ++ one.slot ∷ [])
+            (entries ++ entry_model one.entry ∷ []) (rows ++ one.slot ∷ [])
         entries-more =
             let next = subst (λ (q : Result KeptEntry ErrorOf). Steps (Some q)) is given in
             record {
               wide = h.wide;
               kept = h.kept ++ kept_value one ∷ [];
               at = walk-more comes IsCause (Some o) place h.kept h.at kept_value (Some (one.place + format.width)) one next;
-              are = ap (λ (xs : List LookupEntry). xs ++ entry_view one.entry ∷ []) h.are
+              are = ap (λ (xs : List LookupEntry). xs ++ entry_model one.entry ∷ []) h.are
                   ∙ sym (map-append (λ k. k.entry) h.kept (kept_value one ∷ []));
               stand = ap (λ (xs : List ℕ). xs ++ one.slot ∷ []) h.stand
                   ∙ sym (map-append (λ k. k.slot) h.kept (kept_value one ∷ []));

@@ -1,4 +1,5 @@
 pub mod AddressTables
+pub mod AsciiEntries
 pub mod ImportCursors
 pub mod ImportFaults
 pub mod ImportSteps
@@ -6,6 +7,5 @@ pub mod ImportsValue
 pub mod ImportsWalk
 pub mod LeftOutLibraries
 pub mod LibrariesWalk
-pub mod PlainEntries
 pub mod SlotSums
 pub mod StepsAhead

@@ -23,17 +23,17 @@ lookup_slots strict format addressing bytes o =
 -- ---- as contracts see them: texts as their bytes
 
 -- a hint and a name
-abbrev pub hint_name_view : HintNameTableEntry → HintName
-hint_name_view entry = record { hint = entry.hint; name = entry.name.now }
+abbrev pub hint_name_model : HintNameTableEntry → HintName
+hint_name_model entry = record { hint = entry.hint; name = entry.name.now }
 
 -- an entry that a lookup table keeps
-abbrev pub entry_view : SyntheticImportLookupTableEntry → LookupEntry
-entry_view (variant.OrdinalNumber ordinal) = ByOrdinal ordinal
-entry_view (variant.HintNameTableRVA pair) = ByName pair.0 (hint_name_view pair.1)
+abbrev pub entry_model : SyntheticImportLookupTableEntry → LookupEntry
+entry_model (variant.OrdinalNumber ordinal) = ByOrdinal ordinal
+entry_model (variant.HintNameTableRVA pair) = ByName pair.0 (hint_name_model pair.1)
 
 -- what is kept of an entry: one entry, or nothing
-abbrev pub kept_view : Option SyntheticImportLookupTableEntry → List LookupEntry
-kept_view kept = map entry_view (option_to_list kept)
+abbrev pub kept_model : Option SyntheticImportLookupTableEntry → List LookupEntry
+kept_model kept = map entry_model (option_to_list kept)
 
 -- whether a text is borrowed, not a copy
 abbrev pub is_borrowed_str : {Z : Type 0} → CowStr Z → Bool

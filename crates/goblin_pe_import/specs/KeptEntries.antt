@@ -6,7 +6,7 @@ use Rattle.goblin_base.specs.Tables.{Format}
 use Rattle.readings.specs.Walks.{items_of, table_walk}
 use Rattle.goblin_pe_sect.specs.Addresses.{Addressing}
 use Rattle.goblin_pe_import.specs.ImportEntries.{EntryValue, LookupEntry, entry_slots}
-use Rattle.goblin_pe_import.specs.ImportLookup.{entry_view}
+use Rattle.goblin_pe_import.specs.ImportLookup.{entry_model}
 use Rattle.goblin_pe_import.specs.LookupReadings.{kept_entry, lookup_table}
 use Rattle.goblin_pe_import.specs.declared.import.kept.KeptEntry.{KeptEntry}
 
@@ -20,7 +20,7 @@ abbrev pub kept_value : KeptEntry → KeptValue
 kept_value kept = record {
   slot = kept.slot;
   place = kept.place;
-  entry = entry_view kept.entry;
+  entry = entry_model kept.entry;
 }
 
 -- an entry in the slot at a place of a table at o, of entries of `width` bytes

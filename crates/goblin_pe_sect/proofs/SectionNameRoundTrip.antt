@@ -73,17 +73,17 @@ length-last_digits r (suc k) n =
     let front = length-last_digits r k (n / r) in
     length-append (last_digits r k (n / r)) (n % r ∷ []) ∙ rw front (omega arith)
 
-plain : (s : Digits) (d : ℕ) → d < radix s → is_nonzero_ascii (digit_byte s d) ≡ true
+digit_is_ascii : (s : Digits) (d : ℕ) → d < radix s → is_nonzero_ascii (digit_byte s d) ≡ true
 unfolding all_below alphabet
-plain Decimal d small = all_below-at (λ d. is_nonzero_ascii (digit_byte Decimal d)) 10 d refl small
-plain Base64 d small = all_below-at (λ d. is_nonzero_ascii (digit_byte Base64 d)) 64 d refl small
+digit_is_ascii Decimal d small = all_below-at (λ d. is_nonzero_ascii (digit_byte Decimal d)) 10 d refl small
+digit_is_ascii Base64 d small = all_below-at (λ d. is_nonzero_ascii (digit_byte Base64 d)) 64 d refl small
 
-all_plain : (s : Digits) (ds : List ℕ) → list_all (λ d. nat_lt d (radix s)) ds ≡ true → list_all is_nonzero_ascii (map (digit_byte s) ds) ≡ true
-all_plain s [] h = refl
-all_plain s (d ∷ ds) h =
+digits_are_ascii : (s : Digits) (ds : List ℕ) → list_all (λ d. nat_lt d (radix s)) ds ≡ true → list_all is_nonzero_ascii (map (digit_byte s) ds) ≡ true
+digits_are_ascii s [] h = refl
+digits_are_ascii s (d ∷ ds) h =
     let parts = and_parts (nat_lt d (radix s)) (list_all (λ d. nat_lt d (radix s)) ds) h in
-    let one = plain s d (ltb-true d (radix s) parts.0) in
-    let rest = all_plain s ds parts.1 in
+    let one = digit_is_ascii s d (ltb-true d (radix s) parts.0) in
+    let rest = digits_are_ascii s ds parts.1 in
     ap (λ (b : Bool). b && list_all is_nonzero_ascii (map (digit_byte s) ds)) one ∙ rest
 
 -- a number of six digits of base 64 is read from the name that was written for it
@@ -91,7 +91,7 @@ pub base64_back : (strict : Bool) (n : ℕ) → n < 64 ^ 6 → name_value strict
 unfolding alphabet name_value
 base64_back strict n h =
     let text = map (digit_byte Base64) (last_digits 64 6 n) in
-    let there = after_two text (all_plain Base64 (last_digits 64 6 n) (last_digits-below 64 6 n (omega arith))) (length-map (last_digits 64 6 n) (digit_byte Base64) ∙ length-last_digits 64 6 n) in
+    let there = after_two text (digits_are_ascii Base64 (last_digits 64 6 n) (last_digits-below 64 6 n (omega arith))) (length-map (last_digits 64 6 n) (digit_byte Base64) ∙ length-last_digits 64 6 n) in
     ap (λ (o : Option (List ℕ)). text_value strict o (numeral Base64)) there ∙ ap (option_map (λ (m : ℕ). Some m)) (numeral-written Base64 6 n h)
 
 -- a digit is no slash and no plus
@@ -110,7 +110,7 @@ decimal_read strict [] k n digits some len value = absurd (omega (arith, some))
 decimal_read strict (d ∷ ds) k n digits some len value =
     let text = map (digit_byte Decimal) (d ∷ ds) in
     let apart = digit_apart d (ltb-true d 10 (and_parts (nat_lt d 10) (list_all (λ d. nat_lt d 10) ds) digits).0) in
-    let there = after_one text k (all_plain Decimal (d ∷ ds) digits) (ap (λ (m : ℕ). m + k) (length-map (d ∷ ds) (digit_byte Decimal)) ∙ len) in
+    let there = after_one text k (digits_are_ascii Decimal (d ∷ ds) digits) (ap (λ (m : ℕ). m + k) (length-map (d ∷ ds) (digit_byte Decimal)) ∙ len) in
     let nonempty : nat_eq (length text) 0 ≡ false = false_from_ne_true (nat_eq (length text) 0) (λ e. omega (arith, eqb-true (length text) 0 e)) in
     let read : decimal_number text ≡ Some n = rw (apart.1, nonempty) value in
     let here : name_value strict (47 ∷ text ++ replicate k 0) ≡ text_value strict (bounded_text_at (47 ∷ (text ++ replicate k 0)) 1 7) decimal_number = rw apart.0 refl in

@@ -394,7 +394,7 @@ pub fn get_data<'a, 'e, T: TryFromCtx<'a>>(
 ) -> ResultOf<'e, T>
     ensures { let m = file_offset default_options sections.now file_alignment in
         let rva = directory.virtual_address in
-        Reads T.plain result (data_at m T.value_of T.refusal rva) bytes.now }
+        Reads T.model result (data_at m T.value_of T.refusal rva) bytes.now }
 {
     get_data_with_opts(
         bytes,
@@ -423,7 +423,7 @@ pub fn get_data_with_opts<'a, 'e, T: TryFromCtx<'a>>(
 ) -> ResultOf<'e, T>
     ensures { let m = file_offset opts.now sections.now file_alignment in
         let rva = directory.virtual_address in
-        Reads T.plain result (data_at m T.value_of T.refusal rva) bytes.now }
+        Reads T.model result (data_at m T.value_of T.refusal rva) bytes.now }
 {
     let rva = directory.virtual_address as usize;
     let Some(offset) = find_offset(rva, sections, file_alignment, opts) else {

@@ -22,7 +22,7 @@ ghost use Rattle.goblin_pe_symbol.specs.Symbols.{symbol_table, symbols_left, sym
 
 use goblin_base::{
     Cause, Endian, Error, Field, Record, Result, Strtab, encode_fields, field_array, field_i16,
-    field_u8, field_u16, field_u32, pread_plain_str_until, pread_slice, pread_str_until,
+    field_u8, field_u16, field_u32, pread_ascii_str_until, pread_slice, pread_str_until,
     put_fields, pwrite_slice,
 };
 
@@ -307,7 +307,7 @@ fn inline_name(bytes: &[u8]) -> Option<&str>
     if bytes[0] == 0 {
         return None;
     }
-    match pread_plain_str_until(bytes, 0, 8) {
+    match pread_ascii_str_until(bytes, 0, 8) {
         Some(name) => Some(name),
         None => any_name(bytes),
     }

@@ -4,6 +4,7 @@
 //! and not in each function that has one. What owns memory is looked at by a function that borrows
 //! it, or takes it.
 
+mod ascii;
 mod directories;
 mod examples;
 mod exports;
@@ -11,6 +12,5 @@ mod footprints;
 mod imports;
 mod modes;
 mod overlapping;
-mod plain;
 mod rows;
 mod sample;

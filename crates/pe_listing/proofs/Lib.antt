@@ -1,4 +1,4 @@
 pub mod Blocks
 pub mod Digits
-pub mod PlainNames
 pub mod Pushed
+pub mod UnescapedNames

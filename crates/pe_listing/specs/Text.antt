@@ -12,13 +12,13 @@ unfoldable pub decimal_field : List ℕ → ℕ → List ℕ
 decimal_field label n = label ++ decimal n
 
 -- printable characters other than the backslash are printed as they are
-abbrev pub is_plain : ℕ → Bool
-is_plain b = nat_le 0x20 b && nat_le b 0x7e && not (b == 0x5c)
+abbrev pub is_unescaped : ℕ → Bool
+is_unescaped b = nat_le 0x20 b && nat_le b 0x7e && not (b == 0x5c)
 
 -- another byte is `\x` and two lower-case hexadecimal digits
 unfoldable pub escaped_byte : ℕ → List ℕ
 escaped_byte b =
-    if is_plain b
+    if is_unescaped b
     then b ∷ []
     else codes "\\x" ++ digit_glyph false (b / 16) ∷ digit_glyph false (b % 16) ∷ []
 

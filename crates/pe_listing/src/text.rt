@@ -4,8 +4,8 @@ ghost use Rattle.std.specs.Prelude.{◌≡◌, ◌++◌, ◌^◌, ◌<◌, ◌�
 ghost use Rattle.std.specs.Prelude.{string_bytes};
 ghost use Rattle.std.specs.Fmt.{decimal, digit_glyph, digits};
 ghost use Rattle.std.specs.List.{list_all};
-ghost use Rattle.pe_listing.specs.Text.{decimal_field, escaped, escaped_byte, hex_field, is_plain};
-ghost use Rattle.pe_listing.specs.Text.{name_field};
+ghost use Rattle.pe_listing.specs.Text.{decimal_field, escaped, escaped_byte, hex_field};
+ghost use Rattle.pe_listing.specs.Text.{is_unescaped, name_field};
 
 use std::alloc::AllocError;
 use std::str;
@@ -129,11 +129,11 @@ pub fn push_name_bytes(text: &mut String, label: &str, name: &[u8]) -> Result<()
 }
 
 // Appends a name as it is printed: at once if nothing in it is escaped.
-#[tactic(auto, using(crate::proofs::PlainNames::plain_name))]
+#[tactic(auto, using(crate::proofs::UnescapedNames::unescaped_name))]
 fn push_escaped(text: &mut String, name: &str) -> Result<(), AllocError>
     ensures { OnOk result (string_bytes text.new ≡ string_bytes text.old ++ escaped name.now) }
 {
-    if is_plain_name(name.as_bytes()) {
+    if is_unescaped_name(name.as_bytes()) {
         text.push_str(name)?;
     } else {
         push_each_escaped(text, name.as_bytes())?;
@@ -143,14 +143,14 @@ fn push_escaped(text: &mut String, name: &str) -> Result<(), AllocError>
 
 // Whether every byte is printed as it is. All are looked at, which is faster than stopping at the
 // first that is not.
-fn is_plain_name(name: &[u8]) -> bool
-    ensures { result ≡ list_all is_plain name.now }
+fn is_unescaped_name(name: &[u8]) -> bool
+    ensures { result ≡ list_all is_unescaped name.now }
 {
-    let mut plain = true;
+    let mut unescaped = true;
     'bytes: for byte in name {
-        plain &= is_plain(*byte);
+        unescaped &= is_unescaped(*byte);
     }
-    plain
+    unescaped
 }
 
 // Appends a name, byte by byte.
@@ -167,7 +167,7 @@ fn push_each_escaped(text: &mut String, name: &[u8]) -> Result<(), AllocError>
 fn push_escaped_byte(text: &mut String, byte: u8) -> Result<(), AllocError>
     ensures { OnOk result (string_bytes text.new ≡ string_bytes text.old ++ escaped_byte byte) }
 {
-    if is_plain(byte) {
+    if is_unescaped(byte) {
         text.push(byte as char)?;
     } else {
         write!(text, "\\x{byte:02x}")?;
@@ -177,8 +177,8 @@ fn push_escaped_byte(text: &mut String, byte: u8) -> Result<(), AllocError>
 
 // Whether a byte is printed as it is: a printable ASCII character other than the backslash.
 #[tactic(auto, using(std::proofs::lemmas::Bool::Decides::nat_tests))]
-fn is_plain(byte: u8) -> bool
-    ensures value { result ≡ is_plain byte }
+fn is_unescaped(byte: u8) -> bool
+    ensures value { result ≡ is_unescaped byte }
     ensures ascii { IsTrue result → byte < 128 }
 {
     matches!(byte, 0x20..=0x7e) && byte != b'\\'

@@ -92,7 +92,7 @@ pub fn mode_tables<'a, 'e, T: Bitfield<'a>, D: TryFromCtx<'a>>(
     opts: &ParseOptions,
 ) -> (TablesOf<'a, 'e, D>, TablesOf<'a, 'e, D>)
     ensures { let m = map_by opts.now sections.now file_alignment in
-        AreInModes T.format D.plain D.value_of D.refusal m.addressing request.now bytes.now
+        AreInModes T.format D.model D.value_of D.refusal m.addressing request.now bytes.now
         result }
 {
     let strictly = opts.with_parse_mode(ParseMode::Strict);

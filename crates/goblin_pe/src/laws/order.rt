@@ -63,7 +63,7 @@ pub(super) fn read_tables<'a, 'e, T: Bitfield<'a>, D: TryFromCtx<'a>>(
     opts: &ParseOptions,
 ) -> TablesOf<'a, 'e, D>
     ensures { let m = map_by opts.now sections.now file_alignment in
-        AreTables T.format D.plain D.value_of D.refusal (reads_strictly m) m.addressing bytes.now
+        AreTables T.format D.model D.value_of D.refusal (reads_strictly m) m.addressing bytes.now
         request.now result }
 {
     let lookup = SyntheticImportLookupTableEntry::parse_with_opts::<T>(
@@ -121,13 +121,13 @@ pub fn reorder_whole_tables<'a, 'e, T: Bitfield<'a>, D: TryFromCtx<'a>>(
     opts: &ParseOptions,
 ) -> (TablesOf<'a, 'e, D>, TablesOf<'a, 'e, D>)
     ensures first { let m = map_by opts.now first.now file_alignment in
-        AreTables T.format D.plain D.value_of D.refusal (reads_strictly m) m.addressing bytes.now
+        AreTables T.format D.model D.value_of D.refusal (reads_strictly m) m.addressing bytes.now
         request.now result.0 }
     ensures second { let m = map_by opts.now second.now file_alignment in
-        AreTables T.format D.plain D.value_of D.refusal (reads_strictly m) m.addressing bytes.now
+        AreTables T.format D.model D.value_of D.refusal (reads_strictly m) m.addressing bytes.now
         request.now result.1 }
     ensures alike { IsReordering opts.now file_alignment first.now second.now
-        → AreAlike D.plain result.0 result.1 }
+        → AreAlike D.model result.0 result.1 }
 {
     let one = read_tables::<T, D>(alloc, bytes, first, request, file_alignment, opts);
     let other = read_tables::<T, D>(alloc, bytes, second, request, file_alignment, opts);

@@ -4,7 +4,7 @@ ghost use Rattle.std.specs.Prelude.{ℕ, List};
 ghost use Rattle.goblin_base.specs.Reading.{ReadsOrMemory};
 ghost use Rattle.goblin_pe_head.specs.TeReadings.{te_image};
 ghost use Rattle.goblin_pe_sect.specs.Addresses.{map_by, reads_strictly};
-ghost use Rattle.goblin_pe.specs.TwinParts.{AreParts, AreTwinParts, asked_by, te_view};
+ghost use Rattle.goblin_pe.specs.TwinParts.{AreParts, AreTwinParts, asked_by, te_model};
 
 use crate::data_directories::DataDirectory;
 use crate::header::{CoffHeader, Header, TeHeader};
@@ -42,7 +42,7 @@ pub type Parts<'a, D> = PartsOf<'a, 'static, D>;
 // The header of a Terse Executable at an offset, and the sections after it.
 #[tactic(auto, unfolding(goblin_pe_head::specs::TeReadings::te_image))]
 fn read_te(alloc: Global, bytes: &[u8], offset: usize) -> Result<(TeHeader, Vec<SectionTable>)>
-    ensures { ReadsOrMemory te_view result (te_image offset) bytes.now }
+    ensures { ReadsOrMemory te_model result (te_image offset) bytes.now }
 {
     let mut end = offset;
     let header = TeHeader::parse(bytes, &mut end)?;
@@ -64,7 +64,7 @@ fn read_parts<'a, 'e, D: TryFromCtx<'a>>(
 ) -> PartsOf<'a, 'e, D>
     ensures { let m = map_by opts.now sections.now file_alignment in
         let asked = asked_by coff_header offset relocations value in
-        AreParts D.plain D.value_of D.refusal (reads_strictly m) m.addressing asked
+        AreParts D.model D.value_of D.refusal (reads_strictly m) m.addressing asked
         bytes.now result }
 {
     let mut end = offset;
@@ -121,7 +121,7 @@ impl<'a, 'e, 's, D: TryFromCtx<'a>> Reader<'a, PartsOf<'a, 'e, D>> for Asked<'s>
     ghost is_answer = { λ reader bytes parts.
         let m = map_by reader.opts.now reader.sections.now reader.file_alignment in
         let asked = asked_by reader.coff_header reader.offset reader.relocations reader.value in
-        AreParts D.plain D.value_of D.refusal (reads_strictly m) m.addressing asked bytes parts };
+        AreParts D.model D.value_of D.refusal (reads_strictly m) m.addressing asked bytes parts };
 
     fn read(&self, bytes: &'a [u8]) -> PartsOf<'a, 'e, D> {
         read_parts(
@@ -171,7 +171,7 @@ pub fn twin_parts<'a, 'e, D: TryFromCtx<'a>>(
 ) -> (PartsOf<'a, 'e, D>, PartsOf<'a, 'e, D>)
     ensures { let m = map_by opts.now sections.now file_alignment in
         let asked = asked_by coff_header offset relocations value in
-        AreTwinParts D.plain D.value_of D.refusal (reads_strictly m) m.addressing asked
+        AreTwinParts D.model D.value_of D.refusal (reads_strictly m) m.addressing asked
         a.now b.now result }
 {
     let asked = Asked {

@@ -6,13 +6,13 @@ ghost use Rattle.goblin_base.specs.Reading.{ReadsOrMemory};
 ghost use Rattle.readings.specs.Reads.{mapped};
 ghost use Rattle.goblin_pe_sect.specs.Addresses.{IsIndexed, map_of, reads_strictly};
 ghost use Rattle.goblin_pe_export.specs.ExportReadings.{export_read};
-ghost use Rattle.goblin_pe_export.specs.ExportRecords.{export_read_view, read_rows};
+ghost use Rattle.goblin_pe_export.specs.ExportRecords.{export_read_model, read_rows};
 ghost use Rattle.goblin_pe_import.specs.ImportReadings.{import_data};
 ghost use Rattle.goblin_pe_import.specs.Imports.{IsImportListFault, imports_of};
 ghost use Rattle.goblin_pe.specs.Whole.{IsListedImportsFault, both_lists, entry_format};
-ghost use Rattle.goblin_pe.specs.Whole.{export_part, import_data_part, import_read_view};
+ghost use Rattle.goblin_pe.specs.Whole.{export_part, import_data_part, import_read_model};
 ghost use Rattle.goblin_pe.specs.Whole.{items_part, listed_imports_part, listed_tables};
-ghost use Rattle.goblin_pe.specs.Whole.{listed_view, numbered_data_part, part_map, table_places};
+ghost use Rattle.goblin_pe.specs.Whole.{listed_model, numbered_data_part, part_map, table_places};
 
 use crate::export::{Export, ExportData};
 use crate::import::{Import, ImportData};
@@ -118,7 +118,7 @@ impl Places {
     ) -> Result<ImportRead<'a>>
         ensures made { let m = map_of address_map.now in
             let places = table_places self.now in
-            ReadsOrMemory import_read_view result
+            ReadsOrMemory import_read_model result
             (mapped (both_lists places.magic) (numbered_data_part m.opts m.addressing places))
             bytes.now }
         ensures libraries { let m = map_of address_map.now in
@@ -143,7 +143,7 @@ impl Places {
     ) -> Result<Part<ExportRead<'a>>>
         ensures { let m = map_of address_map.now in
             let places = table_places self.now in
-            ReadsOrMemory (part_map export_read_view) result
+            ReadsOrMemory (part_map export_read_model) result
             (mapped (part_map read_rows) (export_part m.opts m.addressing places)) bytes.now }
     {
         let Some(directory) = self.directory(EXPORT_TABLE) else {
@@ -166,7 +166,7 @@ impl Places {
         requires { IsIndexed address_map.now }
         ensures made { let m = map_of address_map.now in
             let places = table_places self.now in
-            ReadsOrMemory listed_view result (listed_tables m.opts m.addressing places) bytes.now }
+            ReadsOrMemory listed_model result (listed_tables m.opts m.addressing places) bytes.now }
         ensures libraries { let m = map_of address_map.now in
             let part = import_data_part m.opts m.addressing (table_places self.now) in
             IfOk result (λ t. part.value bytes.now ≡ Some t.imports.0) }
@@ -206,7 +206,7 @@ fn exports_of<'a>(
     address_map: &AddressMap,
 ) -> Result<ExportRead<'a>>
     ensures { let m = map_of address_map.now in
-        ReadsOrMemory export_read_view result (export_read m.addressing directory) bytes.now }
+        ReadsOrMemory export_read_model result (export_read m.addressing directory) bytes.now }
 {
     let data = ExportData::parse_by(alloc, bytes, directory, address_map)?;
     let exports = Export::parse_by(alloc, bytes, &data, address_map)?;
@@ -217,9 +217,9 @@ fn exports_of<'a>(
 pub(crate) fn export_parts<'a>(
     read: Part<ExportRead<'a>>,
 ) -> (Part<ExportData<'a>>, Part<Vec<Export<'a>>>)
-    ensures data { result.0 ≡ part_map (λ x. x.0) (part_map export_read_view read.entry) }
+    ensures data { result.0 ≡ part_map (λ x. x.0) (part_map export_read_model read.entry) }
     ensures rows { items_part result.1
-        ≡ part_map (λ x. x.1) (part_map export_read_view read.entry) }
+        ≡ part_map (λ x. x.1) (part_map export_read_model read.entry) }
 {
     match read {
         Part::Absent => (Part::Absent, Part::Absent),

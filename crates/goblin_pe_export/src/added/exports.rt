@@ -17,7 +17,7 @@ ghost use Rattle.goblin_pe_export.specs.ExportReadings.{numbered_export};
 ghost use Rattle.goblin_pe_export.specs.added.ExportWalks.{numbered_from, pointer_count};
 ghost use Rattle.goblin_pe_export.specs.added.ExportWalks.{walked_export, walked_tables};
 
-use crate::added::plain::plain_export;
+use crate::added::ascii::ascii_export;
 use crate::export::Export;
 use crate::export::entries::{Entries, TablesInFile};
 use crate::export::tables::{ExportAddressTableEntry, ExportDirectoryTable};
@@ -264,11 +264,11 @@ impl<'a, 'm> Exports<'a, 'm> {
         Some(Exports::numbered(tables, index, pointer, ordinal, export))
     }
 
-    // The same for an export that is plain, as `plain_export` says. `None` says nothing
-    // about the export.
+    // The same for an export whose name is ASCII, as `ascii_export` says. `None` says nothing about
+    // the export.
     #[inline(always)]
     #[tactic(auto, unfolding(crate::specs::ExportReadings::numbered_row))]
-    fn plain_at(
+    fn ascii_at(
         bytes: &'a [u8],
         tables: &TablesInFile<'a>,
         index: usize,
@@ -278,27 +278,27 @@ impl<'a, 'm> Exports<'a, 'm> {
             let export = numbered_export m.addressing bytes.now (tables_in tables.now) index in
             IfSome result (λ x. export ≡ Some (walked_export x)) }
         ensures hint { IfSome result (λ x. x.hint ≡ index) }
-        ensures plain { IfSome result (λ x. (walked_export x).row.reexport ≡ None) }
+        ensures unforwarded { IfSome result (λ x. (walked_export x).row.reexport ≡ None) }
     {
         let pointer = tables.pointer(index)?;
         let ordinal = tables.ordinal(index)?;
         let address = tables.address(usize::from(ordinal))?;
-        let Some(export) = plain_export(bytes, pointer, address, finder) else {
+        let Some(export) = ascii_export(bytes, pointer, address, finder) else {
             return None;
         };
         Some(Exports::numbered(tables, index, pointer, ordinal, export))
     }
 
-    /// The next export, if it is plain: it is not a forwarder, its RVA and its name lie among those
-    /// that the walk keeps, and its name is ASCII. `None` says nothing about what comes next: the
-    /// walk stays where it is; call `next` to go on. Every call in a step is inlined, so a loop
-    /// over such steps keeps its values in registers; the rare cases are left to `next`.
+    /// The next export, if its name is ASCII, it is not a forwarder, and its RVA and its name lie
+    /// among those that the walk keeps. `None` says nothing about what comes next: the walk stays
+    /// where it is; call `next` to go on. Every call in a step is inlined, so a loop over such
+    /// steps keeps its values in registers; the rare cases are left to `next`.
     #[inline(always)]
     #[tactic(auto, using(crate::proofs::added::ExportWalk::from_export))]
-    pub fn next_plain(&mut self) -> Option<WalkedExport<'a>>
+    pub fn next_ascii(&mut self) -> Option<WalkedExport<'a>>
         ensures steps { MatchOption result (self.new ≡ self.old)
             (λ x. GivesExport self.old (Some x) self.new) }
-        ensures plain { IfSome result (λ x. (walked_export x).row.reexport ≡ None) }
+        ensures unforwarded { IfSome result (λ x. (walked_export x).row.reexport ≡ None) }
         ensures further { IfSome result
             (λ _. exports_position self.new ≡ exports_position self.old + 1) }
     {
@@ -306,7 +306,7 @@ impl<'a, 'm> Exports<'a, 'm> {
         if self.tables.pointers() <= index {
             return None;
         }
-        let Some(export) = Exports::plain_at(self.bytes, &self.tables, index, &self.finder) else {
+        let Some(export) = Exports::ascii_at(self.bytes, &self.tables, index, &self.finder) else {
             return None;
         };
         self.next = index + 1;

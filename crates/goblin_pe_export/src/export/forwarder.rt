@@ -125,9 +125,9 @@ impl<'a> Reexport<'a> {
 }
 
 impl<'a> TryFromCtx<'a> for Reexport<'a> {
-    ghost Plain = { Forwarder };
+    ghost Modelled = { Forwarder };
 
-    ghost plain = { forwarder_value };
+    ghost model = { forwarder_value };
 
     ghost value_of = { forwarder_in };
 

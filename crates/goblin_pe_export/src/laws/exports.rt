@@ -3,7 +3,7 @@
 ghost use Rattle.goblin_base.specs.Reading.{ReadsOrMemory, TwinsOrMemory};
 ghost use Rattle.goblin_pe_sect.specs.Addresses.{map_by};
 ghost use Rattle.goblin_pe_export.specs.ExportReadings.{export_read};
-ghost use Rattle.goblin_pe_export.specs.Exports.{export_read_view};
+ghost use Rattle.goblin_pe_export.specs.Exports.{export_read_model};
 
 use crate::export::{Export, ExportData};
 use goblin_base::Result;
@@ -30,7 +30,7 @@ pub fn read_exports<'a>(
     opts: &ParseOptions,
 ) -> Result<ExportRead<'a>>
     ensures { let m = map_by opts.now sections.now file_alignment in
-        ReadsOrMemory export_read_view result (export_read m.addressing directory) bytes.now }
+        ReadsOrMemory export_read_model result (export_read m.addressing directory) bytes.now }
 {
     let address_map = AddressMap::prepare(alloc, sections, file_alignment, opts)?;
     let tables = ExportData::parse_by(alloc, bytes, directory, &address_map)?;
@@ -61,7 +61,7 @@ pub fn twin_exports<'a>(
     opts: &ParseOptions,
 ) -> (Result<ExportRead<'a>>, Result<ExportRead<'a>>)
     ensures { let m = map_by opts.now sections.now file_alignment in
-        TwinsOrMemory export_read_view (export_read m.addressing directory) a.now b.now result }
+        TwinsOrMemory export_read_model (export_read m.addressing directory) a.now b.now result }
 {
     let first = read_exports(alloc, a, directory, sections, file_alignment, opts);
     let second = read_exports(alloc, b, directory, sections, file_alignment, opts);

@@ -13,7 +13,7 @@ use Rattle.goblin_pe_sect.specs.declared.address_map.finder.Finder.{Finder}
 use Rattle.goblin_pe_sect.specs.AddressReadings.{at_address, name_at}
 use Rattle.goblin_pe_sect.specs.Addresses.{Addressing, MapOfAddresses, map_of, reads_strictly}
 use Rattle.goblin_pe_import.specs.ImportEntries.{EntryValue}
-use Rattle.goblin_pe_import.specs.ImportLookup.{entry_view}
+use Rattle.goblin_pe_import.specs.ImportLookup.{entry_model}
 use Rattle.goblin_pe_import.specs.ImportReadings.{import_record_at, libraries_at}
 use Rattle.goblin_pe_import.specs.ImportRecords.{address_table_rva, import_slots, is_last_record}
 use Rattle.goblin_pe_import.specs.ImportRecords.{lookup_offset}
@@ -22,7 +22,7 @@ use Rattle.goblin_pe_import.specs.LookupReadings.{address_table}
 use Rattle.goblin_pe_import.specs.declared.import.directory_entry.ImportDirectoryEntry.{ImportDirectoryEntry}
 use Rattle.goblin_pe_import.specs.declared.added.imports.ImportCursor.{ImportCursor}
 use Rattle.goblin_pe_import.specs.declared.added.imports.Imports.{Imports}
-use Rattle.goblin_pe_import.specs.declared.added.imports.PlainImports.{PlainImports}
+use Rattle.goblin_pe_import.specs.declared.added.imports.AsciiImports.{AsciiImports}
 use Rattle.goblin_pe_import.specs.declared.added.imports.Walk.{Walk}
 use Rattle.goblin_pe_import.specs.declared.added.imports.WalkedImport.{WalkedImport}
 use Rattle.goblin_pe_import.specs.KeptEntries.{KeptValue, entries_from, IsEntriesCause, slots_bound}
@@ -41,7 +41,7 @@ origin index dll = record { index = index; dll = dll }
 -- an import that a walk yields
 abbrev pub walked_value : WalkedImport → NumberedImport
 walked_value x =
-    at_library x.library (import_of x.dll.now x.slot x.slot_rva x.size (entry_view x.entry))
+    at_library x.library (import_of x.dll.now x.slot x.slot_rva x.size (entry_model x.entry))
 
 -- the import of an entry that the lookup table at o keeps, of a library whose address table is at
 -- `rva` and has entries of `width` bytes
@@ -347,19 +347,19 @@ GivesImport format s result t =
 abbrev pub walk_at : Walk → ℕ → Walk
 walk_at w place = record w { at = record w.at { place = Some place } }
 
--- the walk that plain imports come from, as it was before them
-abbrev pub plain_walk : {T : Type 0} → PlainImports T → Imports T
-plain_walk plain = plain.imports
+-- the walk that ASCII imports come from, as it was before them
+abbrev pub ascii_walk : {T : Type 0} → AsciiImports T → Imports T
+ascii_walk ascii = ascii.imports
 
--- the walk after the plain imports that have come from it
-abbrev pub plain_at : {T : Type 0} → PlainImports T → Imports T
-plain_at plain = record plain.imports { walk = walk_at plain.imports.walk plain.place }
+-- the walk after the ASCII imports that have come from it
+abbrev pub ascii_at : {T : Type 0} → AsciiImports T → Imports T
+ascii_at ascii = record ascii.imports { walk = walk_at ascii.imports.walk ascii.place }
 
 -- A call gives the next import of the walk, as `next` does. Or it gives nothing, and all stays as
 -- it was.
-abbrev pub GivesPlain : {T : Type 0} → Format EntryValue → PlainImports T → Option WalkedImport
-    → PlainImports T → Type 0
-GivesPlain format s None t = t ≡ s
-GivesPlain format s (Some x) t =
-    GivesImport format (plain_at s) (Some (Ok x)) (plain_at t)
-    × (plain_walk t ≡ plain_walk s)
+abbrev pub GivesAscii : {T : Type 0} → Format EntryValue → AsciiImports T → Option WalkedImport
+    → AsciiImports T → Type 0
+GivesAscii format s None t = t ≡ s
+GivesAscii format s (Some x) t =
+    GivesImport format (ascii_at s) (Some (Ok x)) (ascii_at t)
+    × (ascii_walk t ≡ ascii_walk s)

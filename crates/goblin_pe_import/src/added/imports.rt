@@ -16,7 +16,7 @@ ghost use Rattle.goblin_pe_import.specs.added.ImportCursors.{BeginsAt, before_re
 ghost use Rattle.goblin_pe_import.specs.ImportReadings.{indexed_at, numbered_data};
 ghost use Rattle.goblin_pe_import.specs.ImportReadings.{numbered_libraries_at};
 ghost use Rattle.goblin_pe_import.specs.Imports.{numbered_imports};
-ghost use Rattle.goblin_pe_import.specs.added.ImportWalks.{GivesImport, GivesLibrary, GivesPlain};
+ghost use Rattle.goblin_pe_import.specs.added.ImportWalks.{GivesImport, GivesLibrary, GivesAscii};
 ghost use Rattle.goblin_pe_import.specs.added.ImportWalks.{HasName, IsCursorCause, IsNamed};
 ghost use Rattle.goblin_pe_import.specs.added.ImportWalks.{IsWalkAt, IsImportsCause, cursor_left};
 ghost use Rattle.goblin_pe_import.specs.added.ImportWalks.{cursor_of, IsLaterCause, IsNamedCause};
@@ -27,8 +27,8 @@ ghost use Rattle.goblin_pe_import.specs.added.ImportWalks.{imports_left, kept_im
 ghost use Rattle.goblin_pe_import.specs.KeptEntries.{kept_value};
 ghost use Rattle.goblin_pe_import.specs.added.ImportWalks.{later_items, library_items};
 ghost use Rattle.goblin_pe_import.specs.added.ImportWalks.{library_name, one_if, origin};
-ghost use Rattle.goblin_pe_import.specs.added.ImportWalks.{records_bound, finder_of, plain_at};
-ghost use Rattle.goblin_pe_import.specs.added.ImportWalks.{plain_walk, walk_answer, walk_at};
+ghost use Rattle.goblin_pe_import.specs.added.ImportWalks.{records_bound, finder_of, ascii_at};
+ghost use Rattle.goblin_pe_import.specs.added.ImportWalks.{ascii_walk, walk_answer, walk_at};
 ghost use Rattle.goblin_pe_import.specs.added.ImportWalks.{record_index, records_left};
 ghost use Rattle.goblin_pe_import.specs.KeptEntries.{slots_bound};
 ghost use Rattle.goblin_pe_import.specs.added.ImportWalks.{pending_table, walk_bound, walk_left};
@@ -41,7 +41,7 @@ ghost use Rattle.goblin_pe_import.specs.added.StepsAhead.{later_ahead, record_st
 ghost use Rattle.goblin_pe_import.specs.Steps.{slots_ahead};
 ghost use Rattle.goblin_pe_import.specs.added.StepsAhead.{pending_ahead, walk_ahead};
 
-use crate::added::plain::plain_kept;
+use crate::added::ascii::ascii_kept;
 use crate::added::tested::{test_address_table, test_numbers};
 use crate::import::bitfield::Bitfield;
 use crate::import::directory_entry::{ImportDirectoryEntry, SIZEOF_IMPORT_DIRECTORY_ENTRY};
@@ -433,10 +433,10 @@ impl<'a, 'm> Walk<'a, 'm> {
         slots.checked_add(bound_next(self.bytes, self.at.next_record)?)
     }
 
-    // The import in the slot at `place` of the library that the walk is in, if it is plain. `None`
-    // says nothing about the slot.
+    // The import in the slot at `place` of the library that the walk is in, if it is by ordinal or
+    // by an ASCII name, as `ascii_kept` says. `None` says nothing about the slot.
     #[inline(always)]
-    fn plain_import<T: Bitfield<'a>>(&self, place: usize) -> Option<WalkedImport<'a>>
+    fn ascii_import<T: Bitfield<'a>>(&self, place: usize) -> Option<WalkedImport<'a>>
         ensures steps { IfSome result (λ import. GivesNext walked_value (walk_left T.format)
             (IsWalkCause T.format) (walk_at self.now place) (Some (Ok import))
             (walk_at self.now (place + T.format.width))) }
@@ -451,7 +451,7 @@ impl<'a, 'm> Walk<'a, 'm> {
             table_offset,
             ..
         } = self.at;
-        let Some(kept) = plain_kept::<T>(self.bytes, table_offset, place, &self.finder) else {
+        let Some(kept) = ascii_kept::<T>(self.bytes, table_offset, place, &self.finder) else {
             return None;
         };
         Some(import_of::<T>(kept, self.dll, library, rva, table_offset))
@@ -668,12 +668,13 @@ impl<'a, 'm, 'e, T: Bitfield<'a>> Imports<'a, 'm, 'e, T> {
         self.walk.at
     }
 
-    /// A faster walk over the next imports, as long as they are plain. `None` if this walk is in no
-    /// library. [`Imports::go_on`] moves this walk past those that came.
+    /// A faster walk over the next imports, as long as they are by ordinal or by an ASCII name.
+    /// `None` if this walk is in no library. [`Imports::go_on`] moves this walk past those that
+    /// came.
     #[inline(always)]
-    pub fn plain(&self) -> Option<PlainImports<'a, 'm, 'e, T>>
-        ensures begins { IfSome result (λ plain. plain_at plain ≡ self.now) }
-        ensures same { IfSome result (λ plain. plain_walk plain ≡ self.now) }
+    pub fn ascii(&self) -> Option<AsciiImports<'a, 'm, 'e, T>>
+        ensures begins { IfSome result (λ ascii. ascii_at ascii ≡ self.now) }
+        ensures same { IfSome result (λ ascii. ascii_walk ascii ≡ self.now) }
         ensures none { result ≡ None → (cursor_of self.now).place ≡ None }
     {
         let Some(place) = self.walk.at.place else {
@@ -683,7 +684,7 @@ impl<'a, 'm, 'e, T: Bitfield<'a>> Imports<'a, 'm, 'e, T> {
             walk: self.walk.again(),
             items: PhantomData,
         };
-        Some(PlainImports { imports, place })
+        Some(AsciiImports { imports, place })
     }
 
     /// The next import within a budget of steps. `steps` is the budget, from which the call takes
@@ -713,14 +714,14 @@ impl<'a, 'm, 'e, T: Bitfield<'a>> Imports<'a, 'm, 'e, T> {
         self.walk.finder.again()
     }
 
-    /// Moves the walk past the imports that `plain` has yielded. `plain` must come from this walk
+    /// Moves the walk past the imports that `ascii` has yielded. `ascii` must come from this walk
     /// as it is now.
     #[inline(always)]
-    pub fn go_on(&mut self, plain: &PlainImports<'a, 'm, 'e, T>)
-        requires { plain_walk plain.now ≡ self.old }
-        ensures { self.new ≡ plain_at plain.now }
+    pub fn go_on(&mut self, ascii: &AsciiImports<'a, 'm, 'e, T>)
+        requires { ascii_walk ascii.now ≡ self.old }
+        ensures { self.new ≡ ascii_at ascii.now }
     {
-        self.walk.at.place = Some(plain.place);
+        self.walk.at.place = Some(ascii.place);
     }
 }
 
@@ -749,29 +750,29 @@ impl<'a, 'm, 'e, T: Bitfield<'a>> Iterator for Imports<'a, 'm, 'e, T> {
 
 impl<'a, 'm, 'e, T: Bitfield<'a>> FusedIterator for Imports<'a, 'm, 'e, T> {}
 
-/// A faster walk over the next imports of a library, as long as they are plain: by ordinal, or by a
-/// name that is ASCII and lies near those before it.
+/// A faster walk over the next imports of a library, as long as they are by ordinal, or by a name
+/// that is ASCII and lies near those before it.
 ///
-/// Nearly all imports are plain. All others are left to `next` of [`Imports`]. Every call in a step
-/// is inlined, so a loop over this walk keeps its values in registers.
+/// Nearly all imports are like that. All others are left to `next` of [`Imports`]. Every call in a
+/// step is inlined, so a loop over this walk keeps its values in registers.
 #[derive(Drop)]
-pub struct PlainImports<'a, 'm, 'e, T> {
+pub struct AsciiImports<'a, 'm, 'e, T> {
     // The walk as it was.
     imports: Imports<'a, 'm, 'e, T>,
     // The file offset of the next slot.
     place: usize,
 }
 
-impl<'a, 'm, 'e, T: Bitfield<'a>> PlainImports<'a, 'm, 'e, T> {
-    /// The next import, if it is plain. `None` says nothing about what comes next: call `next` of
-    /// [`Imports`].
+impl<'a, 'm, 'e, T: Bitfield<'a>> AsciiImports<'a, 'm, 'e, T> {
+    /// The next import, if it is by ordinal or by an ASCII name, as [`AsciiImports`] says. `None`
+    /// says nothing about what comes next: call `next` of [`Imports`].
     #[inline(always)]
     pub fn next_import(&mut self) -> Option<WalkedImport<'a>>
-        ensures gives { GivesPlain T.format self.old result self.new }
-        ensures counted { IfSome result (λ _. imports_ahead T.format (plain_at self.old)
-            ≡ suc (imports_ahead T.format (plain_at self.new))) }
+        ensures gives { GivesAscii T.format self.old result self.new }
+        ensures counted { IfSome result (λ _. imports_ahead T.format (ascii_at self.old)
+            ≡ suc (imports_ahead T.format (ascii_at self.new))) }
     {
-        let Some(import) = self.imports.walk.plain_import::<T>(self.place) else {
+        let Some(import) = self.imports.walk.ascii_import::<T>(self.place) else {
             return None;
         };
         self.place += T::size_of();
@@ -787,9 +788,9 @@ impl<'a, 'm, 'e, T: Bitfield<'a>> fmt::Debug for Imports<'a, 'm, 'e, T> {
     }
 }
 
-impl<'a, 'm, 'e, T: Bitfield<'a>> fmt::Debug for PlainImports<'a, 'm, 'e, T> {
+impl<'a, 'm, 'e, T: Bitfield<'a>> fmt::Debug for AsciiImports<'a, 'm, 'e, T> {
     fn fmt<W: fmt::Write>(&self, f: &mut fmt::Formatter<W>) -> fmt::Result {
-        f.debug_struct("PlainImports")
+        f.debug_struct("AsciiImports")
             .field("place", &self.place)
             .finish_non_exhaustive()
     }

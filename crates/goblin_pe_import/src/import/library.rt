@@ -6,7 +6,7 @@ ghost use Rattle.readings.specs.Reads.{or_else};
 ghost use Rattle.goblin_pe_sect.specs.Options.{default_options};
 ghost use Rattle.goblin_pe_sect.specs.Addresses.{map_by, map_of, reads_strictly};
 ghost use Rattle.goblin_pe_import.specs.ImportRecords.{address_table_rva, lookup_offset};
-ghost use Rattle.goblin_pe_import.specs.ImportLookup.{entry_view};
+ghost use Rattle.goblin_pe_import.specs.ImportLookup.{entry_model};
 ghost use Rattle.goblin_pe_import.specs.ImportReadings as reading;
 ghost use Rattle.goblin_pe_sect.specs.AddressReadings.{name_at};
 ghost use Rattle.goblin_pe_import.specs.ImportReadings.{first_record_offset, lookup_if};
@@ -45,14 +45,14 @@ pub struct SyntheticImportDirectoryEntry<'a> {
 impl<'a> Model for SyntheticImportDirectoryEntry<'a> {
     ghost use Rattle.std.specs.Prelude.{map, option_map};
     ghost use Rattle.goblin_pe_import.specs.ImportRecords.{ImportedLibrary};
-    ghost use Rattle.goblin_pe_import.specs.ImportLookup.{entry_view};
+    ghost use Rattle.goblin_pe_import.specs.ImportLookup.{entry_model};
 
     ghost Value = { ImportedLibrary };
 
     ghost view = { λ entry. record {
       import_directory_entry = entry.import_directory_entry;
       name = entry.name.now;
-      import_lookup_table = option_map (map entry_view) entry.import_lookup_table;
+      import_lookup_table = option_map (map entry_model) entry.import_lookup_table;
       import_lookup_slots = entry.import_lookup_slots.items;
       import_address_table = entry.import_address_table;
     } };
@@ -67,7 +67,7 @@ fn lookup_table_if<'a, 'e, T: Bitfield<'a>>(
     address_map: &AddressMap,
 ) -> ResultOf<'e, (Option<ImportLookupTable<'a>>, Vec<usize>)>
     ensures { let m = map_of address_map.now in
-        ReadsOrMemory (λ both. (option_map (map entry_view) both.0, both.1.items)) result
+        ReadsOrMemory (λ both. (option_map (map entry_model) both.0, both.1.items)) result
         (lookup_if (reads_strictly m) T.format m.addressing offset) bytes.now }
 {
     let Some(offset) = offset else {

@@ -4,7 +4,7 @@ ghost use Rattle.std.specs.Prelude.{◌≡◌, ◌+◌, ◌<◌, ◌++◌, ◌�
 ghost use Rattle.std.specs.Prelude.{map, option_map, string_bytes, true, option_copied};
 ghost use Rattle.goblin_base.specs.Answers.{AnswersOrMemory, GivesOrMemory, IsMemory};
 ghost use Rattle.goblin_pe_import.specs.ImportBound.{AreFew};
-ghost use Rattle.goblin_pe_import.specs.ImportLookup.{entry_view};
+ghost use Rattle.goblin_pe_import.specs.ImportLookup.{entry_model};
 ghost use Rattle.goblin_pe_import.specs.Imports.{IsImportListFault, IsOverflow, has_slots};
 ghost use Rattle.goblin_pe_import.specs.Imports.{first_without_slots, import_of, import_offset};
 ghost use Rattle.goblin_pe_import.specs.Imports.{imports_by, imports_of, kept_entries};
@@ -120,7 +120,7 @@ impl<'a> Import<'a> {
 fn kept_entries<'b, 'a>(
     library: &'b SyntheticImportDirectoryEntry<'a>,
 ) -> &'b [SyntheticImportLookupTableEntry<'a>]
-    ensures entries { map entry_view result.now ≡ kept_entries library.now }
+    ensures entries { map entry_model result.now ≡ kept_entries library.now }
     ensures count { length result.now ≡ length (kept_entries library.now) }
 {
     match &library.import_lookup_table {
@@ -173,7 +173,7 @@ fn push_entry<'a, 'e>(
 ) -> ResultOf<'e, ()>
     ensures added { OnOk result
         (imports.new.items
-        ≡ imports.old.items ++ import_of dll.now slot offset size (entry_view entry.now) ∷ []) }
+        ≡ imports.old.items ++ import_of dll.now slot offset size (entry_model entry.now) ∷ []) }
     ensures refused { IfErr result IsMemory }
 {
     match entry {
@@ -216,7 +216,7 @@ fn push_entries<'a, 'e>(
     size: usize,
 ) -> ResultOf<'e, ()>
     requires { length slots.now ≡ length entries.now }
-    ensures { let entries = map entry_view entries.now in
+    ensures { let entries = map entry_model entries.now in
         let made = imports_by size dll.now rva entries slots.now in
         AnswersOrMemory (λ _. imports.new.items) result
         (option_map (λ more. imports.old.items ++ more) made) IsOverflow }

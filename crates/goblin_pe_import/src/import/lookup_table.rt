@@ -7,7 +7,7 @@ ghost use Rattle.goblin_base.specs.Tables.{stop};
 ghost use Rattle.goblin_pe_sect.specs.Options.{default_options, is_strict};
 ghost use Rattle.goblin_pe_sect.specs.Addresses.{map_by, map_of, reads_strictly};
 ghost use Rattle.goblin_pe_import.specs.ImportLookup.{entry_slots, lookup_slots};
-ghost use Rattle.goblin_pe_import.specs.ImportLookup.{entry_view, hint_name_view, kept_view};
+ghost use Rattle.goblin_pe_import.specs.ImportLookup.{entry_model, hint_name_model, kept_model};
 ghost use Rattle.goblin_pe_import.specs.LookupReadings as reading;
 
 use crate::import::bitfield::Bitfield;
@@ -38,7 +38,7 @@ impl<'a> HintNameTableEntry<'a> {
     /// # Errors
     /// As [`HintNameTableEntry::parse_with_opts`] in strict mode.
     pub fn parse(bytes: &'a [u8], offset: usize) -> Result<HintNameTableEntry<'a>>
-        ensures { Reads hint_name_view result (reading.hint_name true None offset) bytes.now }
+        ensures { Reads hint_name_model result (reading.hint_name true None offset) bytes.now }
     {
         HintNameTableEntry::parse_with_opts(bytes, offset, &ParseOptions::default())
     }
@@ -55,7 +55,7 @@ impl<'a> HintNameTableEntry<'a> {
         offset: usize,
         opts: &ParseOptions,
     ) -> ResultOf<'e, HintNameTableEntry<'a>>
-        ensures { Reads hint_name_view result
+        ensures { Reads hint_name_model result
             (reading.hint_name (is_strict opts.now.parse_mode) None offset) bytes.now }
     {
         HintNameTableEntry::parse_within(bytes, offset, None, opts)
@@ -70,7 +70,7 @@ impl<'a> HintNameTableEntry<'a> {
         longest: Option<u32>,
         opts: &ParseOptions,
     ) -> ResultOf<'e, HintNameTableEntry<'a>>
-        ensures { Reads hint_name_view result
+        ensures { Reads hint_name_model result
             (reading.hint_name (is_strict opts.now.parse_mode) longest offset) bytes.now }
     {
         let Ok(hint) = pread_u16(bytes, offset, Endian::Little) else {
@@ -107,7 +107,7 @@ impl<'a> SyntheticImportLookupTableEntry<'a> {
         finder: &mut Finder<'_>,
     ) -> ResultOf<'e, Option<SyntheticImportLookupTableEntry<'a>>>
         ensures value { let m = map_of finder.old in
-            Reads kept_view result
+            Reads kept_model result
             (reading.kept_entry (reads_strictly m) m.addressing (T.value entry.now)) bytes.now }
         ensures same { finder.new ≡ finder.old }
     {
@@ -147,7 +147,7 @@ impl<'a> SyntheticImportLookupTableEntry<'a> {
         file_alignment: u32,
     ) -> ResultOf<'e, ImportLookupTable<'a>>
         ensures { let m = map_by default_options sections.now file_alignment in
-            ReadsOrMemory (map entry_view) result
+            ReadsOrMemory (map entry_model) result
             (reading.lookup_table true T.format m.addressing offset) bytes.now }
     {
         let opts = ParseOptions::default();
@@ -181,7 +181,7 @@ impl<'a> SyntheticImportLookupTableEntry<'a> {
         opts: &ParseOptions,
     ) -> ResultOf<'e, ImportLookupTable<'a>>
         ensures { let m = map_by opts.now sections.now file_alignment in
-            ReadsOrMemory (map entry_view) result
+            ReadsOrMemory (map entry_model) result
             (reading.lookup_table (reads_strictly m) T.format m.addressing offset) bytes.now }
     {
         let (table, _) = SyntheticImportLookupTableEntry::parse_with_slots::<T>(
@@ -213,7 +213,7 @@ impl<'a> SyntheticImportLookupTableEntry<'a> {
         opts: &ParseOptions,
     ) -> ResultOf<'e, (ImportLookupTable<'a>, Vec<usize>)>
         ensures value { let m = map_by opts.now sections.now file_alignment in
-            ReadsOrMemory (λ both. map entry_view both.0) result
+            ReadsOrMemory (λ both. map entry_model both.0) result
             (reading.lookup_table (reads_strictly m) T.format m.addressing offset) bytes.now }
         ensures slots { let m = map_by opts.now sections.now file_alignment in
             IfOk result
@@ -239,7 +239,7 @@ impl<'a> SyntheticImportLookupTableEntry<'a> {
         address_map: &AddressMap,
     ) -> ResultOf<'e, (ImportLookupTable<'a>, Vec<usize>)>
         ensures value { let m = map_of address_map.now in
-            ReadsOrMemory (λ both. (map entry_view both.0, both.1.items)) result
+            ReadsOrMemory (λ both. (map entry_model both.0, both.1.items)) result
             (reading.lookup_with_slots (reads_strictly m) T.format m.addressing offset) bytes.now }
         ensures counted { IfOk result (λ both. length both.0 ≡ length both.1.items) }
     {

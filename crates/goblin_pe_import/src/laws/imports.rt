@@ -3,7 +3,7 @@
 ghost use Rattle.std.specs.Prelude.{map};
 ghost use Rattle.goblin_base.specs.Reading.{TwinsOrMemory};
 ghost use Rattle.goblin_pe_sect.specs.Addresses.{map_by, reads_strictly};
-ghost use Rattle.goblin_pe_import.specs.ImportLookup.{entry_view};
+ghost use Rattle.goblin_pe_import.specs.ImportLookup.{entry_model};
 ghost use Rattle.goblin_pe_import.specs.ImportReadings.{import_data};
 ghost use Rattle.goblin_pe_import.specs.LookupReadings.{lookup_table};
 
@@ -35,7 +35,7 @@ pub fn twin_lookup<'a, 'e, T: Bitfield<'a>>(
     ResultOf<'e, ImportLookupTable<'a>>,
 )
     ensures { let m = map_by opts.now sections.now file_alignment in
-        TwinsOrMemory (map entry_view)
+        TwinsOrMemory (map entry_model)
         (lookup_table (reads_strictly m) T.format m.addressing offset) a.now b.now result }
 {
     let first = SyntheticImportLookupTableEntry::parse_with_opts::<T>(

@@ -19,7 +19,7 @@ use std::marker::Model;
 pub struct Finder<'m> {
     address_map: &'m AddressMap<'m>,
     // The addresses around the last address, and those around the address of the last name. If
-    // names have a limit, `names` stays empty, because it is used to read plain names, which are
+    // names have a limit, `names` stays empty, because it is used to read ASCII names, which are
     // whole.
     run: Run,
     names: Run,

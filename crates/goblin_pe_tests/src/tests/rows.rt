@@ -139,7 +139,7 @@ pub fn is_sample_library(
 pub type ExportRow<'a> = (Option<&'a str>, Option<usize>, usize, Option<Reexport<'a>>);
 
 /// The first of the sample file's exports.
-pub const PLAIN: ExportRow = (Some("f"), Some(0x210), 0x1010, None);
+pub const UNFORWARDED: ExportRow = (Some("f"), Some(0x210), 0x1010, None);
 
 /// The second of them, a forwarder.
 pub const FORWARDED: ExportRow = (

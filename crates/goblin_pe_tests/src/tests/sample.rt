@@ -1,7 +1,7 @@
 //! What the readers find in the sample file.
 
 use super::rows::{
-    FORWARDED, GO, PLAIN, RECORD, SEVEN, are_exports, are_imports, is_sample_library,
+    FORWARDED, GO, RECORD, SEVEN, UNFORWARDED, are_exports, are_imports, is_sample_library,
     is_sample_table,
 };
 use fixture::sample::{IMPORTS, sample_section};
@@ -91,7 +91,7 @@ fn has_imports(whole: &Whole) -> bool {
 fn has_exports(whole: &Whole) -> bool {
     match (&whole.export_data, &whole.exports) {
         (Part::Read(tables), Part::Read(exports)) => {
-            is_export_data(tables) && are_exports(exports, &[PLAIN, FORWARDED])
+            is_export_data(tables) && are_exports(exports, &[UNFORWARDED, FORWARDED])
         }
         _ => false,
     }
@@ -124,7 +124,7 @@ impl OfSample for ImportData<'_> {
 
 impl OfSample for (ExportData<'_>, Vec<Export<'_>>) {
     fn is_sample(&self) -> bool {
-        is_export_data(&self.0) && are_exports(&self.1, &[PLAIN, FORWARDED])
+        is_export_data(&self.0) && are_exports(&self.1, &[UNFORWARDED, FORWARDED])
     }
 }
 

@@ -2,9 +2,9 @@ use Rattle.std.proofs.Common.{arith}
 use Rattle.goblin_base.proofs.AsciiRuns.{run_after}
 use Rattle.goblin_base.proofs.ascii.first_stop.Goals as goal
 
-pub returns-in-Some-clause-plain : goal.returns-in-Some-clause-plain
-returns-in-Some-clause-plain c =
-    run_after c.args.bytes.now c.lanes.at c.in-Some.run' c.lanes.invariant.1 c.in-Some.ensures.plain
+pub returns-in-Some-clause-ascii : goal.returns-in-Some-clause-ascii
+returns-in-Some-clause-ascii c =
+    run_after c.args.bytes.now c.lanes.at c.in-Some.run' c.lanes.invariant.1 c.in-Some.ensures.ascii
 
 pub lanes-preserved : goal.lanes-preserved
 lanes-preserved c =

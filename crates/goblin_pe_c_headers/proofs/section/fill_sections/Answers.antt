@@ -1,6 +1,6 @@
 use Rattle.std.proofs.Common.{◌≡◌, ◌+◌, ◌*◌, ◌/◌, ◌∙◌, ap, arith, length, refl, subst, sym, Some, true, false, ℕ, slice_get, slice_range}
 use Rattle.goblin_pe_c_headers.specs.Onward.{GivesRows}
-use Rattle.goblin_pe_c_headers.specs.Sections.{SectionRow, naming_for_c, row_of, row_view, section_rows}
+use Rattle.goblin_pe_c_headers.specs.Sections.{SectionRow, naming_for_c, row_of, row_model, section_rows}
 use Rattle.goblin_pe_c_headers.proofs.GivenOnward.{AtIndex, onward-all, onward-full, onward-more, onward-start, row_inside, row_outside}
 use Rattle.goblin_pe_c_headers.proofs.section.fill_sections.Goals as goal
 
@@ -8,7 +8,7 @@ pub records-init : goal.records-init
 records-init c =
     let rows = section_rows (naming_for_c c.args.naming.now) c.args.headers.now in
     let first = c.args.position.now in
-    subst (λ (n : ℕ). AtIndex row_view rows first c.args.records.now n c.args.records.now 0) (omega arith) (onward-start row_view rows first c.args.records.now)
+    subst (λ (n : ℕ). AtIndex row_model rows first c.args.records.now n c.args.records.now 0) (omega arith) (onward-start row_model rows first c.args.records.now)
 
 pub records-preserved : goal.records-preserved
 records-preserved c =
@@ -31,7 +31,7 @@ returns-then-count-records c =
     (omega (arith, all, c.if-count-records.true, c.records.auto.records, c.min-count.ensures, c.saturating_sub.ensures)) in
     rw c.ended.ensures
     (subst
-    (λ (k : ℕ). GivesRows row_view (section_rows n headers) (record { position = first; records = c.args.records.now }) (record { position = first + k; records = c.records.records })
+    (λ (k : ℕ). GivesRows row_model (section_rows n headers) (record { position = first; records = c.args.records.now }) (record { position = first + k; records = c.records.records })
     (record { count = k; is_done = true }))
     all (onward-all c.records.invariant none (omega (arith, all, c.if-count-records.true, c.records.auto.records))))
 
@@ -43,6 +43,6 @@ returns-else-count-records c =
     let all : c.records.i ≡ c.min-count.result = omega (arith, c.records-test.false, c.records.auto.i-end) in
     rw c.goes_on.ensures
     (subst
-    (λ (k : ℕ). GivesRows row_view (section_rows n headers) (record { position = first; records = c.args.records.now }) (record { position = first + k; records = c.records.records })
+    (λ (k : ℕ). GivesRows row_model (section_rows n headers) (record { position = first; records = c.args.records.now }) (record { position = first + k; records = c.records.records })
     (record { count = k; is_done = false }))
     all (onward-full c.records.invariant c.records.i refl (omega (arith, all, c.if-count-records.false, c.records.auto.records))))

@@ -2,7 +2,7 @@ use Rattle.std.proofs.Common.{refl}
 use Rattle.std.proofs.lemmas.Result.{err_from_is_err_and}
 use Rattle.goblin_pe.specs.added.Layouts.{address_part, layout_bytes, layout_map, layout_places}
 use Rattle.goblin_pe_c_tables.specs.Batches.{IsAddressesFault, SaysDirectory}
-use Rattle.goblin_pe_c_tables.specs.ExportDirectories.{directory_view}
+use Rattle.goblin_pe_c_tables.specs.ExportDirectories.{directory_model}
 use Rattle.goblin_pe_c_headers.specs.Places.{image_places}
 use Rattle.goblin_pe_c_tables.proofs.InPlaces.{IsAt, fault-at, given-at, nothing-at}
 use Rattle.goblin_pe_c_tables.proofs.export_directory.give_directory.Goals as goal
@@ -36,4 +36,4 @@ returns c =
     let l = c.in_ok-layout.layout in
     let made = c.in_ok-layout.ensures in
     let at : IsAt image.options (image_places image) image.bytes.now l = record { read = made.value; over = made.over; placed = made.placed; mapped = made.mapped } in
-    given-at image.options (image_places image) image.bytes.now l at (λ m places b. SaysDirectory m places b (directory_view c.in_ok-directory.field-0)) c.in_ok-directory.ensures
+    given-at image.options (image_places image) image.bytes.now l at (λ m places b. SaysDirectory m places b (directory_model c.in_ok-directory.field-0)) c.in_ok-directory.ensures

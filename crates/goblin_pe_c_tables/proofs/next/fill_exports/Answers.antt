@@ -7,8 +7,8 @@ use Rattle.goblin_pe_c_tables.proofs.next.fill_exports.Goals as goal
 pub exports-init : goal.exports-init
 exports-init c = exports-start c.args.exports.now c.args.records.now c.args.end
 
-pub plain-init : goal.plain-init
-plain-init c =
+pub ascii-init : goal.ascii-init
+ascii-init c =
     let before = c.exports.invariant in
     let given = c.in-Some.ensures in
     let r = c.put_export.new.place in (
@@ -18,15 +18,15 @@ plain-init c =
       c.end_within-stop.ensures.room,
     )
 
-pub plain-preserved : goal.plain-preserved
-plain-preserved c =
-    let before = c.plain.invariant in
-    let given = c.in-Some-next_plain.ensures in
-    let r = c.plain_record.result in
-    let long = length-set c.plain.records c.plain.count r in
-    let room = before.2 c.plain-test.true in (
-      exports-more before.0 c.in-Some-next_plain.export c.next_plain.new.self r given.steps.0 given.steps.1 (omega (arith, given.further)) (omega (arith, given.further, room, c.plain-test.true))
-          (omega (arith, c.plain-test.true, before.3)) (c.plain_record.ensures.plain given.plain),
+pub ascii-preserved : goal.ascii-preserved
+ascii-preserved c =
+    let before = c.ascii.invariant in
+    let given = c.in-Some-next_ascii.ensures in
+    let r = c.unforwarded_record.result in
+    let long = length-set c.ascii.records c.ascii.count r in
+    let room = before.2 c.ascii-test.true in (
+      exports-more before.0 c.in-Some-next_ascii.export c.next_ascii.new.self r given.steps.0 given.steps.1 (omega (arith, given.further)) (omega (arith, given.further, room, c.ascii-test.true))
+          (omega (arith, c.ascii-test.true, before.3)) (c.unforwarded_record.ensures.unforwarded given.unforwarded),
       omega (arith, before.1),
       λ below. omega (arith, below, room, given.further),
       omega (arith, before.3, long),
@@ -34,8 +34,8 @@ plain-preserved c =
 
 pub exports-preserved : goal.exports-preserved
 exports-preserved c =
-    subst (λ (w : Exports). AtExports c.args.exports.now c.args.records.now c.args.end w c.plain.records c.plain.count)
-    (sym c.in_default-next_plain.ensures.steps) c.plain.invariant.0
+    subst (λ (w : Exports). AtExports c.args.exports.now c.args.records.now c.args.end w c.ascii.records c.ascii.count)
+    (sym c.in_default-next_ascii.ensures.steps) c.ascii.invariant.0
 
 pub returns-in_default-clause-filled : goal.returns-in_default-clause-filled
 returns-in_default-clause-filled c =

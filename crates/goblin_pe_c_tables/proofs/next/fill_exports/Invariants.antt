@@ -11,12 +11,12 @@ invariant-exports l =
 abbrev pub decreases-exports : goal.decreases-exports
 decreases-exports l = length l.records - l.count
 
-abbrev pub invariant-plain : goal.invariant-plain
-invariant-plain l =
+abbrev pub invariant-ascii : goal.invariant-ascii
+invariant-ascii l =
     AtExports l.fn.exports l.fn.records l.end l.exports l.records l.count
     × (l.initial.count ≤ l.count)
     × (l.count < l.stop → exports_position l.exports + (l.stop - l.count) ≤ l.end)
     × (l.stop ≤ length l.records)
 
-abbrev pub decreases-plain : goal.decreases-plain
-decreases-plain l = l.stop - l.count
+abbrev pub decreases-ascii : goal.decreases-ascii
+decreases-ascii l = l.stop - l.count

@@ -8,8 +8,8 @@ use Rattle.goblin_pe_c_tables.proofs.next.fill_here.Goals as goal
 pub returns-in_default-clause-filled : goal.returns-in_default-clause-filled
 returns-in_default-clause-filled g c = here-start g.T.Bitfield.format c.args.imports.now _ (filled-none c.args.records.now c.args.first)
 
-pub plain-init : goal.plain-init
-plain-init g c = (
+pub ascii-init : goal.ascii-init
+ascii-init g c = (
   rw c.in-Some.ensures.begins (here-start g.T.Bitfield.format c.args.imports.now _ (filled-none c.args.records.now c.args.first)),
   omega arith,
   c.in-Some.ensures.same,
@@ -17,16 +17,16 @@ plain-init g c = (
   λ h. h,
 )
 
-pub plain-preserved : goal.plain-preserved
-plain-preserved g c =
-    let further = c.plain.invariant.1 in
+pub ascii-preserved : goal.ascii-preserved
+ascii-preserved g c =
+    let further = c.ascii.invariant.1 in
     let gives = c.in-Some-next_import.ensures in (
-      here-more g.T.Bitfield.format c.args.imports.now _ _ _ (Fills c.args.records.now (set c.plain.records c.plain.count c.import_record.result) c.args.first (c.plain.count + 1)) c.plain.invariant.0 c.in-Some-next_import.import gives.gives.0 gives.counted (filled-more c.args.records.now c.plain.records c.args.first c.plain.count c.in-Some-next_import.import c.import_record.result (omega (arith, c.plain-test.true, c.plain.invariant.3, c.requires)) c.import_record.ensures),
+      here-more g.T.Bitfield.format c.args.imports.now _ _ _ (Fills c.args.records.now (set c.ascii.records c.ascii.count c.import_record.result) c.args.first (c.ascii.count + 1)) c.ascii.invariant.0 c.in-Some-next_import.import gives.gives.0 gives.counted (filled-more c.args.records.now c.ascii.records c.args.first c.ascii.count c.in-Some-next_import.import c.import_record.result (omega (arith, c.ascii-test.true, c.ascii.invariant.3, c.requires)) c.import_record.ensures),
       omega (arith, further),
-      gives.gives.1 ∙ c.plain.invariant.2,
-      length-set c.plain.records c.plain.count c.import_record.result ∙ c.plain.invariant.3,
-      λ _. omega (arith, c.plain-test.true),
+      gives.gives.1 ∙ c.ascii.invariant.2,
+      length-set c.ascii.records c.ascii.count c.import_record.result ∙ c.ascii.invariant.3,
+      λ _. omega (arith, c.ascii-test.true),
     )
 
 pub returns-clause-within : goal.returns-clause-within
-returns-clause-within g c = c.plain.invariant.4
+returns-clause-within g c = c.ascii.invariant.4

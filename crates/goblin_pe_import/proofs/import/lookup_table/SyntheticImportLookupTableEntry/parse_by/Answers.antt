@@ -1,7 +1,7 @@
 use Rattle.std.proofs.Common.{◌≤◌, map, ap, arith, ◌∙◌}
 use Rattle.std.proofs.lemmas.List.{length-map, map-append}
 use Rattle.std.proofs.lemmas.Result.{err_from_is_err_and}
-use Rattle.goblin_pe_import.specs.ImportLookup.{entry_view}
+use Rattle.goblin_pe_import.specs.ImportLookup.{entry_model}
 use Rattle.goblin_pe_import.proofs.LookupWalk.{entries-all, entries-counted, entries-fault}
 use Rattle.goblin_pe_import.proofs.LookupWalk.{entries-more, entries-start}
 use Rattle.goblin_pe_import.proofs.import.lookup_table.SyntheticImportLookupTableEntry.parse_by.Goals as goal
@@ -19,7 +19,7 @@ returns-in_err-kept-clause-value g c =
 pub entries-preserved : goal.entries-preserved
 entries-preserved g c =
     let more = entries-more _ _ _ _ _ _ _ _ c.entries.invariant.0 _ c.in-Some.ensures.steps _ c.in_ok-kept.was in
-    let grown = ap (map entry_view) c.in_ok-push-2.ensures.items ∙ map-append entry_view c.entries.entries.items _ in
+    let grown = ap (map entry_model) c.in_ok-push-2.ensures.items ∙ map-append entry_model c.entries.entries.items _ in
     rw (grown, c.in_ok-push.ensures.items, c.size_of-size.ensures.width, c.in-Some.ensures.same) (more, c.entries.invariant.1)
 
 pub returns-clause-value : goal.returns-clause-value
@@ -28,4 +28,4 @@ returns-clause-value g c =
 
 pub returns-clause-counted : goal.returns-clause-counted
 returns-clause-counted g c =
-    rw c.from.ensures (omega (arith, length-map c.entries.entries.items entry_view, entries-counted _ _ _ _ _ _ _ _ c.entries.invariant.0))
+    rw c.from.ensures (omega (arith, length-map c.entries.entries.items entry_model, entries-counted _ _ _ _ _ _ _ _ c.entries.invariant.0))

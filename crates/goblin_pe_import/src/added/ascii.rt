@@ -1,9 +1,9 @@
-//! Entries of a lookup table that are plain.
+//! Entries of a lookup table by ordinal, or by a name that is ASCII.
 
 ghost use Rattle.std.specs.Prelude.{◌≡◌, ◌+◌, ◌<◌, ◌≤◌, ◌^◌, Bool, IfSome, Ok, Some, length, suc};
 ghost use Rattle.readings.specs.Walks.{GivesNext};
 ghost use Rattle.goblin_pe_sect.specs.Addresses.{map_of, reads_strictly};
-ghost use Rattle.goblin_pe_import.specs.ImportLookup.{hint_name_view, kept_view};
+ghost use Rattle.goblin_pe_import.specs.ImportLookup.{hint_name_model, kept_model};
 ghost use Rattle.goblin_pe_import.specs.KeptEntries.{IsEntriesCause, entries_from, kept_value};
 ghost use Rattle.goblin_pe_import.specs.LookupReadings as reading;
 ghost use Rattle.goblin_pe_import.specs.Steps.{slots_ahead};
@@ -12,44 +12,44 @@ use crate::import::bitfield::Bitfield;
 use crate::import::kept::KeptEntry;
 use crate::import::lookup_table::{HintNameTableEntry, SyntheticImportLookupTableEntry};
 use crate::import::slots::next_entry;
-use goblin_base::{Endian, field_u16, pread_plain_str};
+use goblin_base::{Endian, field_u16, pread_ascii_str};
 use goblin_pe_sect::address_map::Finder;
 
-// How many bytes the file must have from a plain entry on: those of the hint, and a lane of 16
-// bytes for the name.
-const PLAIN_ROOM: usize = 18;
+// How many bytes the file must have from an entry with such a name on: those of the hint, and a
+// lane of 16 bytes for the name.
+const ASCII_ROOM: usize = 18;
 
 // The hint and the name at an offset, if the name is ASCII and its NUL is not among the last
 // bytes of the file. `None` says nothing about them. Both modes return the same.
 #[inline(always)]
-fn plain_hint_name<'a>(bytes: &'a [u8], offset: usize) -> Option<HintNameTableEntry<'a>>
+fn ascii_hint_name<'a>(bytes: &'a [u8], offset: usize) -> Option<HintNameTableEntry<'a>>
     ensures { IfSome result (λ named. (strict : Bool)
-        → (reading.hint_name strict None offset).value bytes.now ≡ Some (hint_name_view named)) }
+        → (reading.hint_name strict None offset).value bytes.now ≡ Some (hint_name_model named)) }
 {
-    if bytes.len() < offset || bytes.len() - offset < PLAIN_ROOM {
+    if bytes.len() < offset || bytes.len() - offset < ASCII_ROOM {
         return None;
     }
     let entry = &bytes[offset..];
     let hint = field_u16(entry, 0, Endian::Little);
-    let Some(name) = pread_plain_str(entry, 2) else {
+    let Some(name) = pread_ascii_str(entry, 2) else {
         return None;
     };
     Some(HintNameTableEntry { hint, name })
 }
 
-// What a table keeps of an entry that is plain: by ordinal, or by a name that is ASCII and
-// whose address lies among those around the last name, as the finder keeps them. `None` says
-// nothing about the entry.
+// What a table keeps of an entry that is by ordinal, or by a name that is ASCII and whose address
+// lies among those around the last name, as the finder keeps them. `None` says nothing about the
+// entry.
 #[inline(always)]
 #[tactic(auto, unfolding(crate::specs::LookupReadings::kept_entry))]
-fn plain_entry<'a, T: Bitfield<'a>>(
+fn ascii_entry<'a, T: Bitfield<'a>>(
     entry: &T,
     bytes: &'a [u8],
     finder: &Finder<'_>,
 ) -> Option<SyntheticImportLookupTableEntry<'a>>
     ensures { let m = map_of finder.now in
         let read = reading.kept_entry (reads_strictly m) m.addressing (T.value entry.now) in
-        IfSome result (λ kept. read.value bytes.now ≡ Some (kept_view (Some kept))) }
+        IfSome result (λ kept. read.value bytes.now ≡ Some (kept_model (Some kept))) }
 {
     if entry.is_ordinal() {
         let ordinal = entry.to_ordinal();
@@ -59,17 +59,17 @@ fn plain_entry<'a, T: Bitfield<'a>>(
     let Some(offset) = finder.near_name_offset(rva) else {
         return None;
     };
-    let Some(named) = plain_hint_name(bytes, offset) else {
+    let Some(named) = ascii_hint_name(bytes, offset) else {
         return None;
     };
     Some(SyntheticImportLookupTableEntry::HintNameTableRVA((rva, named)))
 }
 
-// The entry that the lookup table at `offset` keeps in the slot at `place`, if it is plain: by
-// ordinal, or by a name that is ASCII and lies near the last one. `None` says nothing about the
-// slot. Every call in here is inlined, so a loop over such slots keeps its values in registers.
+// The entry that the lookup table at `offset` keeps in the slot at `place`, if it is by ordinal, or
+// by a name that is ASCII and lies near the last one. `None` says nothing about the slot. Every
+// call in here is inlined, so a loop over such slots keeps its values in registers.
 #[inline(always)]
-pub(super) fn plain_kept<'a, T: Bitfield<'a>>(
+pub(super) fn ascii_kept<'a, T: Bitfield<'a>>(
     bytes: &'a [u8],
     offset: usize,
     place: usize,
@@ -89,7 +89,7 @@ pub(super) fn plain_kept<'a, T: Bitfield<'a>>(
     let Some(entry) = next_entry::<T>(bytes, place) else {
         return None;
     };
-    let Some(entry) = plain_entry(&entry, bytes, finder) else {
+    let Some(entry) = ascii_entry(&entry, bytes, finder) else {
         return None;
     };
     let slot = place.saturating_sub(offset) / T::size_of();

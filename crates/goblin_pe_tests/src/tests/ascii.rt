@@ -1,4 +1,4 @@
-//! The plain steps of walks give what is plain, which their contracts leave open.
+//! The ASCII steps of walks give what they can, which their contracts leave open.
 
 use fixture::sample::{put, sample};
 use goblin_pe::Part;
@@ -18,35 +18,35 @@ fn is_wanted(import: &WalkedImport, is_named: bool) -> bool {
     }
 }
 
-/// Whether the second import of a walk is plain, and this.
-fn is_second_plain(mut imports: Imports<u32>, is_named: bool) -> bool {
+/// Whether the second import of a walk comes by an ASCII step, and is this.
+fn is_second_ascii(mut imports: Imports<u32>, is_named: bool) -> bool {
     if imports.next().is_none() {
         return false;
     }
-    let Some(mut plain) = imports.plain() else {
+    let Some(mut ascii) = imports.ascii() else {
         return false;
     };
-    matches!(&plain.next_import(), Some(import) if is_wanted(import, is_named))
+    matches!(&ascii.next_import(), Some(import) if is_wanted(import, is_named))
 }
 
-/// Whether a file has a plain second import, and this.
-fn has_plain_import(layout: &Layout, is_named: bool) -> bool {
+/// Whether a file has a second import that comes so, and is this.
+fn has_ascii_import(layout: &Layout, is_named: bool) -> bool {
     match layout.imports() {
-        Ok(Part::Read(FileImports::Narrow(imports))) => is_second_plain(imports, is_named),
+        Ok(Part::Read(FileImports::Narrow(imports))) => is_second_ascii(imports, is_named),
         _ => false,
     }
 }
 
-/// Whether the second export of a walk is plain, and named so.
+/// Whether the second export of a walk comes by an ASCII step, and is named so.
 fn is_second_named(mut exports: Exports, name: &str) -> bool {
     if exports.next().is_none() {
         return false;
     }
-    matches!(&exports.next_plain(), Some(second) if second.export.name == Some(name))
+    matches!(&exports.next_ascii(), Some(second) if second.export.name == Some(name))
 }
 
-/// Whether a file has a plain second export of this name.
-fn has_plain_export(layout: &Layout, name: &str) -> bool {
+/// Whether a file has a second export that comes so, of this name.
+fn has_ascii_export(layout: &Layout, name: &str) -> bool {
     match layout.exports() {
         Ok(Part::Read(exports)) => is_second_named(exports, name),
         _ => false,
@@ -54,7 +54,7 @@ fn has_plain_export(layout: &Layout, name: &str) -> bool {
 }
 
 fn has_both(layout: &Layout, is_named: bool) -> bool {
-    has_plain_import(layout, is_named) && has_plain_export(layout, "a.dll")
+    has_ascii_import(layout, is_named) && has_ascii_export(layout, "a.dll")
 }
 
 fn has_both_by(alloc: Global, file: &[u8], header: &Header, is_named: bool) -> bool {
@@ -62,19 +62,19 @@ fn has_both_by(alloc: Global, file: &[u8], header: &Header, is_named: bool) -> b
     matches!(&Layout::of(alloc, file, header, &opts), Ok(layout) if has_both(layout, is_named))
 }
 
-/// Whether a file has a plain second import, by name or by ordinal, and a plain second export.
-fn has_plain(alloc: Global, file: &[u8], is_named: bool) -> bool {
+/// Whether a file has a second import, by name or by ordinal, and a second export that come so.
+fn has_ascii(alloc: Global, file: &[u8], is_named: bool) -> bool {
     let header = Header::parse(file);
     matches!(&header, Ok(header) if has_both_by(alloc, file, header, is_named))
 }
 
 #[test]
-fn plain_imports_and_exports_come_by_the_plain_steps(rt: HostRuntime) {
+fn ascii_imports_and_exports_come_by_the_ascii_steps(rt: HostRuntime) {
     let mut file = sample();
     // The second export has the address of the first, so it is no forwarder.
     put(&mut file, 0x2DA, b"\0");
-    assert!(rt; has_plain(rt.alloc(), &file, false));
+    assert!(rt; has_ascii(rt.alloc(), &file, false));
     // The second import is by the name of the first.
     put(&mut file, 0x244, b"\x90\x10\0\0");
-    assert!(rt; has_plain(rt.alloc(), &file, true));
+    assert!(rt; has_ascii(rt.alloc(), &file, true));
 }

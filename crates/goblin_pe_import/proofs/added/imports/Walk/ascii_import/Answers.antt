@@ -1,7 +1,7 @@
 use Rattle.std.proofs.Common.{◌+◌, ℕ, Ok, ap, sym, refl}
 use Rattle.goblin_pe_import.specs.added.ImportWalks.{walk_at}
 use Rattle.goblin_pe_import.proofs.added.ImportSteps.{imports-start, next-one}
-use Rattle.goblin_pe_import.proofs.added.imports.Walk.plain_import.Goals as goal
+use Rattle.goblin_pe_import.proofs.added.imports.Walk.ascii_import.Goals as goal
 
 pub returns-clause-steps : goal.returns-clause-steps
 returns-clause-steps g c =
