@@ -41,12 +41,6 @@ ranges_from-apart p (false ∷ ms) = apart-later p (p + 1) (ranges_from (p + 1) 
 
 -- ---- covers
 
-covered-later : (low p : ℕ) (rs : List Range) → AreApart low rs → p < low → is_covered rs p ≡ false
-covered-later low p [] h lt = refl
-covered-later low p (r ∷ rs) h lt =
-    ap (λ (b : Bool). (b && ltb p r.1) || is_covered rs p) (lt-leb r.0 p (omega (arith, h.0, lt)))
-    ∙ covered-later (r.1 + 1) p rs h.2 (omega (arith, h.0, h.1, lt))
-
 joined_span : (p q begin end : ℕ) → begin ≡ p + 1 → begin < end
     → (leb p q && ltb q end) ≡ (eqb q p || (leb begin q && ltb q end))
 joined_span p q begin end is some = grind (arith, nat_tests)

@@ -1,9 +1,7 @@
 -- What is made of a file's imports and of its exports is made of the file's own tables.
-use Rattle.std.proofs.Common.{◌≡◌, ◌∙◌, ℕ, List, Option, Some, None, refl, ap}
-use Rattle.std.proofs.Common.{option_map, Result, subst}
+use Rattle.std.proofs.Common.{◌≡◌, ◌∙◌, ℕ, List, Some, refl, ap}
 use Rattle.goblin_base.specs.declared.error.ErrorOf.{ErrorOf}
-use Rattle.goblin_base.specs.Answers.{AnswersOrMemory}
-use Rattle.goblin_base.specs.Reading.{IsRefused, Reading, ReadsOrMemory}
+use Rattle.goblin_base.specs.Reading.{IsRefused, Reading}
 use Rattle.goblin_base.proofs.Steps as steps
 use Rattle.readings.specs.Reads.{mapped}
 use Rattle.goblin_pe_sect.specs.declared.options.ParseOptions.{ParseOptions}
@@ -13,20 +11,6 @@ use Rattle.goblin_pe_import.specs.ImportRecords.{NumberedLibrary}
 use Rattle.goblin_pe.specs.declared.whole.Part.{Part}
 use Rattle.goblin_pe.specs.Whole.{TableParts, TablePlaces, collected_tables, export_part}
 use Rattle.goblin_pe.specs.Whole.{numbered_data_part, relocation_part, table_parts}
-
--- ---- parts
-
--- what is made of what was made of a value
-pub twice_read : {R X Y Z : Type 0} (view : R → Z) (f : X → Y) (g : Y → Z) (r : Reading X)
-    (bytes : List ℕ) (result : Result R ErrorOf)
-    → ReadsOrMemory view result (mapped g (mapped f r)) bytes
-    → ReadsOrMemory view result (mapped (λ x. g (f x)) r) bytes
-twice_read {R} {X} {Y} {Z} view f g r bytes result h =
-    subst (λ (o : Option Z). AnswersOrMemory view result o (r.IsCause bytes)) (twice (r.value bytes)) h
-  where
-    twice : (o : Option X) → option_map g (option_map f o) ≡ option_map (λ x. g (f x)) o
-    twice None = refl
-    twice (Some x) = refl
 
 -- ---- the tables, of whose imports and exports something is made
 

@@ -126,13 +126,6 @@ becomes_same r bytes strict asked made h is =
     same_part made (turned (part_of strict) r) bytes
     (becomes_part (λ x. x) r bytes strict asked made h is)
 
--- the reading that is picked
-pub picked : {X Y : Type 0} (view : X → Y) (result : Result X ErrorOf) (bytes : List ℕ)
-    (test : Bool) (r s : Reading Y) → test ≡ true → ReadsOrMemory view result r bytes
-    → ReadsOrMemory view result (pick test r s) bytes
-picked view result bytes true r s is h = h
-picked view result bytes false r s is h = absurd cc
-
 -- ---- where a table was read
 
 -- A table was read: it is asked for, and a directory leads to it.

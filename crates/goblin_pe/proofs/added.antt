@@ -5,7 +5,6 @@ pub mod Walked
 -- The others are the library's own: they change with it.
 pub mod ImportStarts
 pub mod Keys
-pub mod Layouts
 pub mod SectionNames
 pub mod SoundFiles
 pub mod TablesReached

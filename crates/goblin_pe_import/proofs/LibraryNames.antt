@@ -29,12 +29,6 @@ said strict (Some own) name e = ap (λ (n : Option (List ℕ)). unwrap_or n []) 
 said true None name e = absurd cc
 said false None name e = ap (λ (n : Option (List ℕ)). unwrap_or n []) (sym (same_value None name e))
 
-pub unsaid : (strict : Bool) (text : Option (List ℕ))
-    → in_its_place strict None (option_map (λ own. Some own) text) ≡ None
-    → [] ≡ unwrap_or text []
-unsaid strict (Some own) e = absurd cc
-unsaid strict None e = refl
-
 -- the name that a library has
 pub named : (strict : Bool) (text : Option (List ℕ)) (name : List ℕ)
     → in_its_place strict [] text ≡ Some name → name ≡ unwrap_or text []

@@ -38,11 +38,6 @@ module _ {A : Type 0} (P : A → Type 0) where
   each-append [] ys h k = k
   each-append (x ∷ xs) ys h k = (h.0, each-append xs ys h.1 k)
 
-  each-at : (xs : List A) (i : ℕ) (x : A) → Each xs → slice_get xs i ≡ Some x → P x
-  each-at [] i x h e = absurd cc
-  each-at (y ∷ ys) zero x h e = subst P (same_value y x e) h.0
-  each-at (y ∷ ys) (suc i) x h e = each-at ys i x h.1 e
-
   each_below-each : (piece : ℕ → Option (List A)) (n : ℕ) → ((j : ℕ) (xs : List A) → piece j ≡ Some xs → Each xs) → (ys : List A) → each_below piece n ≡ Some ys → Each ys
   each_below-each piece zero own ys e = subst Each (same_value [] ys e) tt
   each_below-each piece (suc n) own ys e =

@@ -26,7 +26,6 @@ use Rattle.goblin_pe.specs.Whole.{relocation_part, sections_after, table_parts, 
 use Rattle.goblin_pe.specs.Whole.{whole_in, whole_of, whole_with}
 use Rattle.goblin_pe.proofs.PermissiveReads.{repeats-table_parts, sections_repeat}
 use Rattle.goblin_pe.proofs.added.UnhiddenImports.{tables_same}
-use Rattle.goblin_pe.proofs.added.Layouts.{tables-value}
 
 there : {A : Type 0} (reading : Reading A) (bytes : List ℕ) (damage : Option ErrorOf) → damage ≡ None → IsDamage reading bytes damage → IsSome (reading.value bytes)
 there reading bytes None is h = h
@@ -155,6 +154,13 @@ module _ (view : View) (opts : ParseOptions) (bytes : List ℕ) where
       sound_reported (whole_in view) (λ h s t. whole_of h s (lists_of (places_in h.optional_header).magic t)) (λ o h s t read. rw (read.header, read.sections, read.tables) refl) result tells
 
 -- ---- what is made of the tables
+
+-- what is read with the header and the sections
+tables-value : {A : Type 0} (opts : ParseOptions) (read : PeHeader → List Section → Reading A) (bytes : List ℕ)
+    (h : PeHeader) → (pe_header (is_strict opts.parse_mode)).value bytes ≡ Some h
+    → (s : List Section) → (sections_after (is_strict opts.parse_mode) h).value bytes ≡ Some s
+    → (by_layout opts read).value bytes ≡ (read h s).value bytes
+tables-value opts read bytes h header s sections = rw (header, sections) refl
 
 module _ {A : Type 0} (make : PeHeader → List Section → NumberedTables → A) (view : View) (opts : ParseOptions) (bytes : List ℕ) where
   abbrev pub made_in : ParseOptions → Reading A

@@ -42,8 +42,3 @@ cursor_left_of m format bytes c it h =
     ∙ ap (λ (k : MapOfAddresses). cursor_left k format (imports_bytes it) (cursor_of it)) h.over.1
     ∙ ap (λ (b : List ℕ). cursor_left m format b (cursor_of it)) h.over.0
     ∙ ap (cursor_left m format bytes) h.at
-
--- a name that was read is the one that a cursor says, if it is in a library
-pub is-named : (place : Option ℕ) (dll name : List ℕ) → dll ≡ name → IsNamedAt place dll name
-is-named None dll name is = tt
-is-named (Some place) dll name is = is

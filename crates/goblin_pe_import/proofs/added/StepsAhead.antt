@@ -202,12 +202,6 @@ module _ (n : ℕ) (old : Option ℕ) (before : ℕ) where
       run-out (Some a) (Some b) (Some d) h more =
           (omega (arith, h.0, more, less), omega (arith, h.0, h.1, more, less), omega (arith, h.0, h.2, more, less))
 
-  -- a slot gives something
-  pub steps-given : (now new : Option ℕ) (x y rest : ℕ) → AtSteps n old now before (x + rest)
-      → HasSteps now → AreCounted now new x y → AreCounted old new before (y + rest)
-  steps-given now new x y rest h has more =
-      counted-then old now new before x y rest (still n old now before (x + rest) has h) more
-
   -- a record is looked at, and perhaps an address table
   pub steps-library : (now : Option ℕ) (ahead count after : ℕ) → AtSteps n old now before ahead
       → HasSteps now → count + after ≡ ahead → count ≤ n + 1
