@@ -1,41 +1,11 @@
--- A loop that makes something of each item of a walk: what it has made so far, and what at each way out.
-use Rattle.std.proofs.Common.{◌≡◌, List, [], ◌∷◌, ◌++◌, map, Option, Some, None, Result, Ok, Err}
-use Rattle.std.proofs.Common.{refl, sym, ap, subst, ◌∙◌, IsSome, option_map}
-use Rattle.std.proofs.lemmas.List.{map-append}
+-- A loop over a walk that makes nothing of its items: what holds at each way out.
+use Rattle.std.proofs.Common.{◌≡◌, List, [], ◌∷◌, ◌++◌, Option, Some, None, Result, Ok, Err}
+use Rattle.std.proofs.Common.{refl, subst, IsSome}
 use Rattle.goblin_base.specs.declared.error.ErrorOf.{ErrorOf}
 use Rattle.goblin_base.specs.Answers.{all_of}
 use Rattle.goblin_pe.specs.Walks.{GivesNext}
 use Rattle.readings.proofs.Walked.{AtWalk, walk-all, walk-fault, walk-more, walk-start}
 
-module _ {S A B : Type 0} (left : S → List (Option A)) (IsCause : S → ErrorOf → Type 0) (item : A → B) (start : S) where
-  -- the walk that began at `start` is now at `now`, and this was made of the items so far
-  pub record AtMade (now : S) (made : List B) : Type 0 where
-    pub items : List A
-    pub at : AtWalk left IsCause start now items
-    pub said : made ≡ map item items
-
-  module _ (now : S) (made : List B) (h : AtMade now made) {X : Type 0} (view : X → A) (next : S) where
-    -- one item more
-    pub made-more : (r : Result X ErrorOf) → GivesNext view left IsCause now (Some r) next → (x : X) → r ≡ Ok x → (more : List B) → more ≡ made ++ item (view x) ∷ [] → AtMade next more
-    made-more r given x is more added =
-        let one = subst (λ (q : Result X ErrorOf). GivesNext view left IsCause now (Some q) next) is given in
-        record {
-          items = h.items ++ view x ∷ [];
-          at = walk-more left IsCause start now h.items h.at view next x one;
-          said = added ∙ ap (λ (xs : List B). xs ++ item (view x) ∷ []) h.said ∙ sym (map-append item h.items (view x ∷ []));
-        }
-
-    -- the walk has ended
-    pub made-all : GivesNext view left IsCause now None next → option_map (map item) (all_of (left start)) ≡ Some made
-    made-all given = ap (option_map (map item)) (walk-all left IsCause start now h.items h.at view next given) ∙ ap (λ (xs : List B). Some xs) (sym h.said)
-
-    -- it ends with a refusal
-    pub made-fault : (r : Result X ErrorOf) → GivesNext view left IsCause now (Some r) next → (e : ErrorOf) → r ≡ Err e → (option_map (map item) (all_of (left start)) ≡ None) × IsCause start e
-    made-fault r given e is =
-        let fault = walk-fault left IsCause start now h.items h.at view next r given e is in
-        (ap (option_map (map item)) fault.0, fault.1)
-
--- A loop that makes nothing of the items of a walk.
 module _ {S A : Type 0} (left : S → List (Option A)) (IsCause : S → ErrorOf → Type 0) (start : S) where
   -- the walk that began at `start` is now at `now`
   pub record IsWalked (now : S) : Type 0 where
