@@ -10,7 +10,7 @@ use Rattle.goblin_base.specs.Bytes.{text_within}
 use Rattle.goblin_base.specs.Reading.{Reading}
 use Rattle.goblin_base.specs.Strtab.{is_in_piece, rest_at}
 use Rattle.readings.specs.Reads as reads
-use Rattle.readings.specs.Reads.{because, bytes_between, given, mapped, needs, number_at, pair_of}
+use Rattle.readings.specs.Reads.{because, bytes_between, given, mapped, needs, number_at}
 use Rattle.readings.specs.Reads.{◌beside◌, pick, slice_at}
 use Rattle.goblin_pe_symbol.specs.declared.symbol.Symbol.{Symbol}
 use Rattle.goblin_pe_symbol.specs.Symbols.{SymbolItem, aux, name_offset_of, stored_offset}

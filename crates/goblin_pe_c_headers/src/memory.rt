@@ -7,7 +7,7 @@ ghost use Rattle.goblin_pe_c_headers.specs.Memory.{SeesFile, available, contents
 ghost use Rattle.goblin_pe_c_headers.specs.Memory.{holder, holder_index, is_among, is_unstored};
 ghost use Rattle.goblin_pe_c_headers.specs.Memory.{known, memory_at, memory_by, memory_in_file};
 ghost use Rattle.goblin_pe_c_headers.specs.Memory.{memory_length, memory_of, memory_size};
-ghost use Rattle.goblin_pe_c_headers.specs.Memory.{memory_model, region_in, region_number};
+ghost use Rattle.goblin_pe_c_headers.specs.Memory.{memory_model, region_in};
 ghost use Rattle.goblin_pe_c_headers.specs.Memory.{section_data, stored_in_memory, stored_size};
 ghost use Rattle.goblin_pe_c_headers.specs.Memory.{unknown, window_size, zeros_after};
 ghost use Rattle.goblin_pe_c_headers.specs.Sections.{section_model};

@@ -1,16 +1,15 @@
 -- The imports of a library, from the cursor of its row on.
-use Rattle.std.proofs.Common.{◌≡◌, ◌∙◌, ℕ, Bool, true, false, ◌&&◌, ◌||◌, ◌==◌, ◌++◌, not, is_none, List, [], Option, None, Some, IsSome, ap, append-nil, refl, sym, unwrap_or}
+use Rattle.std.proofs.Common.{◌≡◌, ◌∙◌, ℕ, Bool, true, false, ◌&&◌, ◌||◌, ◌==◌, not, is_none, List, [], Option, None, Some, IsSome, ap, append-nil, refl, sym, unwrap_or}
 use Rattle.goblin_base.specs.Tables.{Format}
 use Rattle.readings.specs.Reads.{in_its_place}
 use Rattle.readings.specs.Walks.{refusal_of, until_refused}
 use Rattle.goblin_pe_sect.specs.AddressReadings.{name_at}
 use Rattle.goblin_pe_sect.specs.Addresses.{MapOfAddresses, reads_strictly}
 use Rattle.goblin_pe_import.specs.ImportEntries.{EntryValue}
-use Rattle.goblin_pe_import.specs.ImportRecords.{address_table_rva, lookup_offset}
+use Rattle.goblin_pe_import.specs.ImportRecords.{address_table_rva}
 use Rattle.goblin_pe_import.specs.Imports.{NumberedImport}
-use Rattle.goblin_pe_import.specs.added.ImportWalks.{addresses_of, imports_next, imports_of_entries, is_skipped, library_items, library_name, named_items, no_imports, origin, pending_table}
+use Rattle.goblin_pe_import.specs.added.ImportWalks.{addresses_of, imports_next, is_skipped, library_items, library_name, pending_table}
 use Rattle.goblin_pe_import.specs.KeptEntries.{entries_from}
-use Rattle.goblin_pe_import.specs.added.LeftOut.{leads_to_none}
 use Rattle.goblin_pe_import.specs.added.Libraries.{LibraryValue, inside_library, library_at}
 use Rattle.goblin_pe_import.specs.declared.import.directory_entry.ImportDirectoryEntry.{ImportDirectoryEntry}
 use Rattle.goblin_pe_import.specs.declared.added.imports.ImportCursor.{ImportCursor}

@@ -1,5 +1,5 @@
 -- How many name pointers of an export directory give no export.
-use Rattle.std.specs.Prelude.{ℕ, Bool, List, Option, count_by, length, not, is_some}
+use Rattle.std.specs.Prelude.{ℕ, Bool, List, count_by, length, not, is_some}
 use Rattle.std.specs.List.{range_with_len}
 use Rattle.goblin_pe_export.specs.ExportReadings.{reexport_of}
 use Rattle.goblin_pe_export.specs.ExportRecords.{ExportTables}

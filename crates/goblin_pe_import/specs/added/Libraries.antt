@@ -1,5 +1,5 @@
 -- The walk over the libraries of an import directory: what is still to come.
-use Rattle.std.specs.Prelude.{◌≡◌, ℕ, Bool, true, ◌&&◌, not, if◌then◌else◌, List, [], ◌∷◌, Option}
+use Rattle.std.specs.Prelude.{◌≡◌, ℕ, Bool, ◌&&◌, not, if◌then◌else◌, List, [], ◌∷◌, Option}
 use Rattle.std.specs.Prelude.{Some, None, unwrap_or, Result, Err, IfErr, IfOk, IfSome, MatchOption}
 use Rattle.std.specs.Prelude.{◌+◌, ◌==◌}
 use Rattle.std.specs.Option.{ok_or}

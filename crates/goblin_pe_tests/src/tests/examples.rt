@@ -7,7 +7,6 @@ use goblin_pe::export::{
     ExportAddressTable, ExportAddressTableEntry, ExportNamePointerTable, ExportOrdinalTable,
 };
 use goblin_pe::import::{Import, ImportData, ImportDirectoryEntry, SyntheticImportDirectoryEntry};
-use goblin_pe::options::ParseOptions;
 use goblin_pe::relocation::RelocationWord;
 use goblin_pe::section_table::SectionTable;
 use goblin_pe::table::*;

@@ -1,4 +1,4 @@
-use Rattle.std.proofs.Common.{◌≡◌, ◌∙◌, Bool, None, Option, ap, refl}
+use Rattle.std.proofs.Common.{◌∙◌, Option, ap, refl}
 use Rattle.goblin_pe.specs.Whole.{TablePlaces, places_in}
 use Rattle.goblin_pe_head.specs.declared.header.coff.CoffHeader.{CoffHeader}
 use Rattle.goblin_pe_head.specs.declared.header.dos.DosHeader.{DosHeader}
@@ -6,7 +6,7 @@ use Rattle.goblin_pe_head.specs.declared.header.rich.RichHeader.{RichHeader}
 use Rattle.goblin_pe_head.specs.declared.optional_header.OptionalHeader.{OptionalHeader}
 use Rattle.goblin_pe_head.specs.RichHeader.{rich_value}
 use Rattle.goblin_pe_c_headers.specs.Headers.{optional_record}
-use Rattle.goblin_pe_c_tables.specs.PartialImages.{given_or, is_replaced, stub_size}
+use Rattle.goblin_pe_c_tables.specs.PartialImages.{given_or, stub_size}
 use Rattle.goblin_pe_c_headers.specs.RichHeaders.{rich_of}
 use Rattle.goblin_pe_c_tables.proofs.partial.partial_image.Goals as goal
 use Rattle.std.proofs.Common.{option_map}
