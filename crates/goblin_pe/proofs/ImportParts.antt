@@ -12,8 +12,7 @@ use Rattle.goblin_pe_sect.specs.declared.data_directories.DataDirectory.{DataDir
 use Rattle.goblin_pe_sect.specs.declared.options.ParseOptions.{ParseOptions}
 use Rattle.goblin_pe_sect.specs.Options.{is_strict}
 use Rattle.goblin_pe_sect.specs.Addresses.{Addressing}
-use Rattle.goblin_pe_import.specs.ImportReadings.{import_data}
-use Rattle.goblin_pe_import.specs.ImportReadings.{numbered_data}
+use Rattle.goblin_pe_import.specs.ImportReadings.{import_data, numbered_data}
 use Rattle.goblin_pe_import.specs.ImportRecords.{ImportedLibrary, NumberedLibrary}
 use Rattle.goblin_pe_import.specs.Imports.{ImportValue, NumberedImport, at_library, kept_imports}
 use Rattle.goblin_pe_import.specs.Imports.{library_imports, numbered_imports}

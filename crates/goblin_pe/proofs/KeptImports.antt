@@ -16,8 +16,7 @@ use Rattle.goblin_pe_import.proofs.Imports.{imported_at}
 use Rattle.goblin_pe.specs.declared.whole.Part.{Part}
 use Rattle.goblin_pe.specs.declared.whole.Part.TheVariants.{Absent, Refused}
 use Rattle.goblin_pe.specs.declared.whole.Part.TheVariants as part
-use Rattle.goblin_pe.specs.Whole.{TablePlaces, entry_format, listed_imports_part}
-use Rattle.goblin_pe.specs.Whole.{part_map, part_of}
+use Rattle.goblin_pe.specs.Whole.{TablePlaces, entry_format, listed_imports_part, part_map, part_of}
 
 -- the imports of import data that a list can be made from
 unfoldable pub listed_imports : ℕ → Part (List ImportedLibrary) → Part (List ImportValue)

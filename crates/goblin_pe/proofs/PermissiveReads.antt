@@ -1,7 +1,6 @@
 -- What strict mode reads of tables and of whole files, permissive mode reads, too.
-use Rattle.std.proofs.Common.{◌≡◌, ℕ, Bool, true, false, cond, List, [], Option, Some}
-use Rattle.std.proofs.Common.{None, Result, ap, refl, sym, nat_eq, map}
-use Rattle.std.proofs.Common.{flat_map}
+use Rattle.std.proofs.Common.{◌≡◌, ℕ, Bool, true, false, cond, List, [], Option, Some, None, Result}
+use Rattle.std.proofs.Common.{ap, refl, sym, nat_eq, map, flat_map}
 use Rattle.goblin_base.specs.declared.error.ErrorOf.{ErrorOf}
 use Rattle.goblin_base.specs.declared.permissive.ParseMode.{ParseMode}
 use Rattle.goblin_base.specs.declared.permissive.ParseMode.TheVariants.{Permissive, Strict}

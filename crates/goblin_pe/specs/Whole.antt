@@ -15,10 +15,9 @@ use Rattle.goblin_pe_sect.specs.declared.options.View.TheVariants.{Sections}
 use Rattle.goblin_pe_sect.specs.AddressReadings.{relocation_data}
 use Rattle.goblin_pe_sect.specs.BaseRelocations.{relocation_bytes}
 use Rattle.goblin_pe_sect.specs.DataDirectories.{directory_or_zeros, no_directory}
-use Rattle.goblin_pe_sect.specs.Addresses.{table_offset}
+use Rattle.goblin_pe_sect.specs.Addresses.{table_offset, Addressing, with_whole_names}
 use Rattle.goblin_pe_sect.specs.Options.{front_of, is_strict}
 use Rattle.goblin_pe_sect.specs.SectionTable.{MappedSections, Section}
-use Rattle.goblin_pe_sect.specs.Addresses.{Addressing, with_whole_names}
 use Rattle.goblin_pe_head.specs.declared.optional_header.OptionalHeader.{OptionalHeader}
 use Rattle.goblin_pe_head.specs.HeaderReadings.{pe_header}
 use Rattle.goblin_pe_head.specs.PeHeader.{PeHeader}

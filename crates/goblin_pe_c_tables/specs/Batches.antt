@@ -36,7 +36,7 @@ use Rattle.goblin_pe_c_tables.specs.ExportDirectories.{directory_for_c, no_expor
 use Rattle.goblin_pe_c_tables.specs.Exports.{ExportModel, export_for_c, export_model}
 use Rattle.goblin_pe_c_tables.specs.Imports.{GivesHere, ImportModel, import_for_c, import_model}
 use Rattle.goblin_pe_c_tables.specs.Places.{TakesIndexAt, directory_offset, map_at, places_from_c}
-use Rattle.goblin_pe_c_headers.specs.Places.{placed_sections}
+use Rattle.goblin_pe_c_headers.specs.Places.{placed_sections, image_places}
 use Rattle.goblin_pe_c_headers.specs.Items.{without_causes}
 use Rattle.goblin_pe_c_headers.specs.Onward.{AtBatch, Batch, FillsNext, GivesOnward}
 use Rattle.goblin_pe_c_headers.specs.Onward.{IsNextFault, Table, no_batch, unrefused, values_before}
@@ -44,7 +44,6 @@ use Rattle.goblin_pe_c_headers.specs.declared.batch.PeBatch.{PeBatch}
 use Rattle.goblin_pe_c_headers.specs.declared.fault.PeFault.{PeFault}
 use Rattle.goblin_pe_c_headers.specs.declared.image.PeImage.{PeImage}
 use Rattle.goblin_pe_c_headers.specs.Calls.{ReportedAfter}
-use Rattle.goblin_pe_c_headers.specs.Places.{image_places, placed_sections}
 
 -- what a call says that gave `count` records: without room it does not say that it is done
 abbrev pub at_room : ℕ → ℕ → Bool → PeBatch

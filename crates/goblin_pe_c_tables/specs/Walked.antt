@@ -29,12 +29,11 @@ use Rattle.goblin_pe.specs.Whole.{imports_in, IfRead, TablePlaces, export_part, 
 use Rattle.goblin_pe.specs.Whole.{places_in, relocation_part, tables_with}
 use Rattle.goblin_pe_c_tables.specs.Batches.{exports_in, import_table}
 use Rattle.goblin_pe_c_tables.specs.Places.{map_at, places_record, places_from_c}
-use Rattle.goblin_pe_c_headers.specs.Places.{placed_sections}
+use Rattle.goblin_pe_c_headers.specs.Places.{placed_sections, image_places}
 use Rattle.goblin_pe_c_tables.specs.declared.next.PeImportCursor.{PeImportCursor}
 use Rattle.goblin_pe_c_tables.specs.Damages.{IsDamagedBy, damage_map, damage_record}
 use Rattle.goblin_pe_c_tables.specs.ReadImages.{image_of}
 use Rattle.goblin_pe_c_headers.specs.Onward.{unrefused}
-use Rattle.goblin_pe_c_headers.specs.Places.{image_places}
 use Rattle.goblin_pe_c_headers.specs.declared.image.PeImage.{PeImage}
 use Rattle.goblin_pe_c_headers.specs.Options.{alignment_in, alignment_of, header_options}
 use Rattle.goblin_pe_c_headers.specs.Options.{longest_of, options_at, options_in, view_of}

@@ -9,11 +9,10 @@ ghost use Rattle.goblin_pe_export.specs.added.ExportWalks.{KeepsOver, exports_le
 ghost use Rattle.goblin_pe_export.specs.added.ExportWalks.{exports_position, pointer_count};
 ghost use Rattle.goblin_pe.specs.added.Layouts.{IsFileImportsCause, file_imports_left, layout_map};
 ghost use Rattle.goblin_pe.specs.added.Layouts.{layout_bytes, layout_places};
-ghost use Rattle.goblin_pe_c_tables.specs.Batches.{ExportWalkBatch, Fills, GivesExports};
-ghost use Rattle.goblin_pe_c_tables.specs.Batches.{GivesImports, GivesInFile, GoesOn, ImportBatch};
-ghost use Rattle.goblin_pe_c_tables.specs.Batches.{export_walk, IsExportBatchFault, IsImportsFault};
-ghost use Rattle.goblin_pe_c_tables.specs.Batches.{cursor_for_c, cursor_from_c, import_cursor};
-ghost use Rattle.goblin_pe_c_tables.specs.Batches.{is_over};
+ghost use Rattle.goblin_pe_c_tables.specs.Batches.{ExportWalkBatch, IsExportBatchFault, is_over};
+ghost use Rattle.goblin_pe_c_tables.specs.Batches.{Fills, GivesExports, GivesImports, cursor_for_c};
+ghost use Rattle.goblin_pe_c_tables.specs.Batches.{GivesInFile, GoesOn, ImportBatch, export_walk};
+ghost use Rattle.goblin_pe_c_tables.specs.Batches.{IsImportsFault, cursor_from_c, import_cursor};
 ghost use Rattle.goblin_pe_c_tables.specs.Imports.{GivesHere};
 ghost use Rattle.goblin_pe_c_headers.specs.Onward.{FillsFrom, IsRefusedNext, unrefused};
 

@@ -22,10 +22,9 @@ use Rattle.goblin_pe_head.specs.declared.optional_header.windows_fields.WindowsF
 use Rattle.goblin_pe_head.specs.CoffHeader.{coff_header}
 use Rattle.goblin_pe_head.specs.DosHeader.{dos_record}
 use Rattle.goblin_pe_head.specs.DosStub.{IsStubFault, default_stub}
-use Rattle.goblin_pe_head.specs.OptionalHeader.{IsBadMagic, fields_size, standard_32_record}
-use Rattle.goblin_pe_head.specs.OptionalHeader.{standard_64_record, standard_from_32}
-use Rattle.goblin_pe_head.specs.OptionalHeader.{standard_from_64, windows_from_32}
-use Rattle.goblin_pe_head.specs.OptionalHeader.{windows_32_record, windows_64_record}
+use Rattle.goblin_pe_head.specs.OptionalHeader.{IsBadMagic, windows_32_record, windows_64_record}
+use Rattle.goblin_pe_head.specs.OptionalHeader.{fields_size, standard_32_record, standard_64_record}
+use Rattle.goblin_pe_head.specs.OptionalHeader.{standard_from_32, standard_from_64, windows_from_32}
 use Rattle.goblin_pe_head.specs.PeHeader.{PeHeader, zero_dos_header}
 use Rattle.goblin_pe_head.specs.RichHeader.{Rich}
 use Rattle.goblin_pe_head.specs.RichReadings.{rich_at}

@@ -12,15 +12,14 @@ ghost use Rattle.goblin_base.specs.Record.{ReadsBack};
 ghost use Rattle.goblin_pe_head.specs.declared.optional_header.OptionalHeader.{OptionalHeader};
 ghost use Rattle.goblin_pe_head.specs.HeaderLaws.{FieldsReadBack, OptionalWritesBack};
 ghost use Rattle.goblin_pe_head.specs.HeaderReadings as reading;
-ghost use Rattle.goblin_pe_head.specs.OptionalHeader.{IsBadMagic, IsTooWide, IsUnwritten, bytes_32};
-ghost use Rattle.goblin_pe_head.specs.OptionalHeader.{bytes_64, container_of, fields_size};
-ghost use Rattle.goblin_pe_head.specs.OptionalHeader.{optional_bytes};
+ghost use Rattle.goblin_pe_head.specs.OptionalHeader.{IsBadMagic, IsUnwritten, fields_size};
+ghost use Rattle.goblin_pe_head.specs.OptionalHeader.{IsTooWide, bytes_32, bytes_64};
+ghost use Rattle.goblin_pe_head.specs.OptionalHeader.{container_of, optional_bytes, standard_to_32};
 ghost use Rattle.goblin_pe_head.specs.OptionalHeader.{standard_32_fields, standard_32_record};
 ghost use Rattle.goblin_pe_head.specs.OptionalHeader.{standard_64_fields, standard_64_record};
-ghost use Rattle.goblin_pe_head.specs.OptionalHeader.{standard_to_32, standard_to_64};
+ghost use Rattle.goblin_pe_head.specs.OptionalHeader.{standard_to_64, windows_to_32, written_bytes};
 ghost use Rattle.goblin_pe_head.specs.OptionalHeader.{windows_32_fields, windows_32_record};
 ghost use Rattle.goblin_pe_head.specs.OptionalHeader.{windows_64_fields, windows_64_record};
-ghost use Rattle.goblin_pe_head.specs.OptionalHeader.{windows_to_32, written_bytes};
 ghost use Rattle.goblin_pe_head.specs.OptionalHeaderLaws.{optional_header-within};
 
 use goblin_base::{

@@ -15,10 +15,9 @@ use Rattle.goblin_pe_sect.specs.Addresses.{Addressing}
 use Rattle.readings.proofs.WalkValues.{range-next}
 use Rattle.goblin_pe_import.specs.declared.import.directory_entry.ImportDirectoryEntry.{ImportDirectoryEntry}
 use Rattle.goblin_pe_import.specs.ImportEntries.{EntryValue}
-use Rattle.goblin_pe_import.specs.ImportReadings.{at_index, kept_library}
-use Rattle.goblin_pe_import.specs.ImportReadings.{first_record_offset, import_data, indexed_at, libraries_at}
-use Rattle.goblin_pe_import.specs.ImportReadings.{library_of, numbered, numbered_data}
-use Rattle.goblin_pe_import.specs.ImportReadings.{numbered_libraries_at, read_if, read_past_front}
+use Rattle.goblin_pe_import.specs.ImportReadings.{at_index, indexed_at, library_of, numbered, read_if}
+use Rattle.goblin_pe_import.specs.ImportReadings.{kept_library, import_data, libraries_at, read_past_front}
+use Rattle.goblin_pe_import.specs.ImportReadings.{first_record_offset, numbered_data, numbered_libraries_at}
 use Rattle.goblin_pe_import.specs.ImportRecords.{ImportedLibrary, NumberedLibrary, import_slots}
 use Rattle.goblin_base.proofs.Kept.{without_test}
 use Rattle.goblin_pe_import.proofs.ImportBound.{left_out-or, with_slots-kept, with_slots-value}

@@ -5,8 +5,7 @@ use Rattle.goblin_base.specs.Tables.{SlotFormat, ends_table, slot_at, slot_place
 use Rattle.goblin_base.proofs.Below.{least-before}
 use Rattle.goblin_base.proofs.SlotTables.{ends, reads, stop-after, stop-is}
 use Rattle.goblin_pe_import.specs.TableSums.{amount_of, sum_below, sum_of_slots}
-use Rattle.goblin_pe_import.specs.Steps.{AreCounted, HasNotGrown, HasSteps}
-use Rattle.goblin_pe_import.specs.Steps.{spent}
+use Rattle.goblin_pe_import.specs.Steps.{AreCounted, HasNotGrown, HasSteps, spent}
 
 module _ {V : Type 0} (slots : SlotFormat V) (bytes : List ℕ) (o : ℕ)
     (wide : 1 ≤ slots.entry.width) where

@@ -10,9 +10,8 @@ use Rattle.readings.specs.Reads.{record_at, table, table_with_slots}
 use Rattle.goblin_pe_sect.specs.AddressReadings.{at_address, name_at, offset_at}
 use Rattle.goblin_pe_sect.specs.Addresses.{Addressing}
 use Rattle.goblin_pe_import.specs.ImportEntries.{EntryValue, LookupEntry}
-use Rattle.goblin_pe_import.specs.ImportRecords.{ImportedLibrary, NumberedLibrary}
-use Rattle.goblin_pe_import.specs.ImportRecords.{address_table_rva, import_record, import_slots}
-use Rattle.goblin_pe_import.specs.ImportRecords.{lookup_offset}
+use Rattle.goblin_pe_import.specs.ImportRecords.{ImportedLibrary, address_table_rva, import_record}
+use Rattle.goblin_pe_import.specs.ImportRecords.{NumberedLibrary, import_slots, lookup_offset}
 use Rattle.goblin_pe_import.specs.LookupReadings.{address_table, lookup_with_slots}
 use Rattle.goblin_pe_import.specs.declared.import.directory_entry.ImportDirectoryEntry.{ImportDirectoryEntry}
 

@@ -1,7 +1,6 @@
 -- If no library is left out, both modes have the same imports.
 use Rattle.std.proofs.Common.{◌≡◌, ◌==◌, ◌⊎◌, ◌∙◌, ℕ, Bool, true, false, cond, List, [], Option, Some}
-use Rattle.std.proofs.Common.{None, ap, refl, sym, inl, inr, ◌∷◌, map}
-use Rattle.std.proofs.Common.{option_map}
+use Rattle.std.proofs.Common.{None, ap, refl, sym, inl, inr, ◌∷◌, map, option_map}
 use Rattle.goblin_base.specs.declared.permissive.ParseMode.TheVariants.{Strict}
 use Rattle.goblin_base.specs.Answers.{◌>>=◌}
 use Rattle.goblin_base.specs.Tables.{Format}
@@ -14,8 +13,7 @@ use Rattle.goblin_pe.specs.declared.whole.Part.{Part}
 use Rattle.goblin_pe.specs.declared.whole.Part.TheVariants.{Absent, Refused}
 use Rattle.goblin_pe.specs.declared.whole.Part.TheVariants as part
 use Rattle.goblin_pe_import.specs.ImportEntries.{EntryValue}
-use Rattle.goblin_pe_import.specs.ImportReadings.{import_data, libraries_at}
-use Rattle.goblin_pe_import.specs.ImportReadings.{read_past_front}
+use Rattle.goblin_pe_import.specs.ImportReadings.{import_data, libraries_at, read_past_front}
 use Rattle.goblin_pe_import.specs.ImportRecords.{ImportedLibrary, NumberedLibrary}
 use Rattle.goblin_pe_import.specs.TableSums.{amount_of}
 use Rattle.goblin_pe_import.specs.added.LeftOut.{libraries_of_directory}
@@ -24,10 +22,8 @@ use Rattle.goblin_pe_import.proofs.added.LeftOutLibraries.{front_has_none, none_
 use Rattle.goblin_pe_import.proofs.LibraryIndexes.{unnumbered}
 use Rattle.goblin_pe.specs.added.Damages.{imports_left_out_at, left_out_of}
 use Rattle.goblin_pe.specs.Modes.{in_mode, is_front, unless_front}
-use Rattle.goblin_pe.specs.Whole.{IfRead, NumberedTables, TablePlaces, directory_at}
-use Rattle.goblin_pe.specs.Whole.{entry_format}
-use Rattle.goblin_pe.specs.Whole.{numbered_data_part, part_at, part_map}
-use Rattle.goblin_pe.specs.Whole.{table_parts}
+use Rattle.goblin_pe.specs.Whole.{IfRead, NumberedTables, TablePlaces, directory_at, entry_format}
+use Rattle.goblin_pe.specs.Whole.{numbered_data_part, part_at, part_map, table_parts}
 use Rattle.goblin_pe.proofs.Parts.{read_from}
 use Rattle.goblin_pe.proofs.PermissiveReads.{place_by, libraries_of, permissive_tables}
 

@@ -6,7 +6,7 @@ use Rattle.readings.specs.Walks.{IsWalkOf}
 use Rattle.goblin_pe_sect.specs.declared.options.ParseOptions.{ParseOptions}
 use Rattle.goblin_pe_sect.specs.declared.options.View.{View}
 use Rattle.goblin_pe_head.specs.declared.header.pe_header.Header.{Header}
-use Rattle.goblin_pe_sect.specs.Addresses.{MapOfAddresses, map_in, map_of}
+use Rattle.goblin_pe_sect.specs.Addresses.{MapOfAddresses, map_in, map_of, Addressing}
 use Rattle.goblin_pe_export.specs.declared.added.exports.Exports.{Exports}
 use Rattle.goblin_pe_export.specs.added.ExportAddresses.{export_addresses}
 use Rattle.goblin_pe_export.specs.ExportRecords.{ExportTables, NumberedExport}
@@ -23,7 +23,6 @@ use Rattle.goblin_pe.specs.declared.added.file_imports.FileImports.TheVariants.{
 use Rattle.goblin_pe.specs.declared.added.layout.Layout.{Layout}
 use Rattle.goblin_pe_sect.specs.Options.{is_strict}
 use Rattle.goblin_pe_sect.specs.SectionTable.{Section, recorded_sections}
-use Rattle.goblin_pe_sect.specs.Addresses.{Addressing}
 use Rattle.goblin_pe_head.specs.PeHeader.{header_value}
 use Rattle.goblin_pe.specs.Whole.{TablePlaces, directory_at, mapped_in, part_at, places_in}
 use Rattle.goblin_pe.specs.Whole.{sections_after, table_places}

@@ -1,7 +1,6 @@
 -- What a search for a Rich header and an optional header reach, as positions in the file.
 use Rattle.std.proofs.Common.{◌≡◌, ◌≢◌, ℕ, rules, ◌+◌, ◌*◌, ◌==◌, false, nat_le, Option, Some, None, List}
-use Rattle.std.proofs.Common.{[], ◌++◌, drop, take, length, append-nil, refl, ap, ◌∙◌, arith}
-use Rattle.std.proofs.Common.{inl, inr}
+use Rattle.std.proofs.Common.{[], ◌++◌, drop, take, length, append-nil, refl, ap, ◌∙◌, arith, inl, inr}
 use Rattle.std.proofs.lemmas.Bool.{cases_Bool}
 use Rattle.goblin_base.specs.declared.endian.Endian.TheVariants.{Little}
 use Rattle.goblin_base.specs.Bytes.{number_at}

@@ -8,17 +8,14 @@ use Rattle.goblin_base.proofs.Readings.{first_no_memory}
 use Rattle.goblin_pe_import.specs.declared.added.imports.Imports.{Imports}
 use Rattle.goblin_pe_import.specs.declared.added.imports.Walk.{Walk}
 use Rattle.goblin_pe_import.specs.declared.added.imports.WalkedImport.{WalkedImport}
-use Rattle.goblin_pe_sect.specs.Addresses.{map_of, reads_strictly}
-use Rattle.goblin_pe_sect.specs.Addresses.{Addressing}
+use Rattle.goblin_pe_sect.specs.Addresses.{map_of, reads_strictly, Addressing}
 use Rattle.goblin_pe_import.specs.ImportEntries.{EntryValue}
 use Rattle.goblin_pe_import.specs.ImportReadings.{libraries_at}
 use Rattle.goblin_pe_import.specs.LookupReadings.{lookup_table}
 use Rattle.goblin_pe_import.specs.added.ImportWalks.{AreImportsOver, GivesImport, HasName, IsImportsCause, imports_left}
-use Rattle.goblin_pe_import.specs.KeptEntries.{IsEntriesCause}
-use Rattle.goblin_pe_import.specs.added.ImportWalks.{IsLaterCause, IsNextCause, IsWalkCause}
-use Rattle.goblin_pe_import.specs.added.ImportWalks.{IsWalkFault}
-use Rattle.goblin_pe_import.specs.KeptEntries.{entries_from}
-use Rattle.goblin_pe_import.specs.added.ImportWalks.{pending_table, walk_left, walked_value}
+use Rattle.goblin_pe_import.specs.added.ImportWalks.{IsLaterCause, IsNextCause, IsWalkCause, IsWalkFault, pending_table}
+use Rattle.goblin_pe_import.specs.added.ImportWalks.{walk_left, walked_value}
+use Rattle.goblin_pe_import.specs.KeptEntries.{IsEntriesCause, entries_from}
 use Rattle.goblin_pe_import.specs.added.StepsAhead.{EndsWithin}
 use Rattle.goblin_pe_import.specs.Steps.{GivesWithin}
 use Rattle.goblin_pe_import.proofs.added.ImportSteps.{ended-left}

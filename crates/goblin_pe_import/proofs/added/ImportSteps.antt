@@ -12,18 +12,13 @@ use Rattle.goblin_pe_import.specs.declared.import.kept.KeptEntry.{KeptEntry}
 use Rattle.goblin_pe_sect.specs.Addresses.{Addressing, map_of, reads_strictly}
 use Rattle.goblin_pe_import.specs.ImportEntries.{EntryValue}
 use Rattle.goblin_pe_import.specs.Imports.{NumberedImport}
-use Rattle.goblin_pe_import.specs.added.ImportWalks.{origin}
-use Rattle.goblin_pe_import.specs.added.ImportWalks.{GivesLibrary, IsLaterCause, IsNamed}
-use Rattle.goblin_pe_import.specs.KeptEntries.{IsEntriesCause}
-use Rattle.goblin_pe_import.specs.added.ImportWalks.{IsCursorCause, IsNamedAt}
-use Rattle.goblin_pe_import.specs.KeptEntries.{slots_bound}
+use Rattle.goblin_pe_import.specs.added.ImportWalks.{origin, GivesLibrary, IsLaterCause, IsNamed, IsCursorCause}
+use Rattle.goblin_pe_import.specs.added.ImportWalks.{IsNamedAt, IsWalkCause, bound_next, no_imports, imports_next}
+use Rattle.goblin_pe_import.specs.added.ImportWalks.{kept_import, later_items, walk_answer, walk_at, walk_bound}
+use Rattle.goblin_pe_import.specs.added.ImportWalks.{walk_left}
+use Rattle.goblin_pe_import.specs.KeptEntries.{IsEntriesCause, slots_bound, KeptValue, entries_from}
+use Rattle.goblin_pe_import.specs.KeptEntries.{kept_value, place_after}
 use Rattle.goblin_pe_import.specs.declared.added.imports.ImportCursor.{ImportCursor}
-use Rattle.goblin_pe_import.specs.added.ImportWalks.{IsWalkCause, bound_next, no_imports}
-use Rattle.goblin_pe_import.specs.KeptEntries.{KeptValue}
-use Rattle.goblin_pe_import.specs.KeptEntries.{entries_from, kept_value}
-use Rattle.goblin_pe_import.specs.added.ImportWalks.{imports_next, kept_import, later_items, walk_answer, walk_at}
-use Rattle.goblin_pe_import.specs.KeptEntries.{place_after}
-use Rattle.goblin_pe_import.specs.added.ImportWalks.{walk_bound, walk_left}
 
 one_before : {A : Type 0} (x : A) (o : Option (List A)) (IsNow IsNext IsLater : ErrorOf → Type 0)
     (e : ErrorOf) → (IsNext e → IsNow e) → FirstFault o IsNext (λ _. IsLater) e

@@ -20,8 +20,7 @@ use Rattle.readings.specs.Reads.{given, in_its_place, mapped, pair_of, pick, wit
 use Rattle.readings.specs.Walks.{IsWalkOf, end_items, items_at, refusal_of, table_walk}
 use Rattle.readings.proofs.WalkValues.{all_of-append, all_of-until, joined-end, walk-holds}
 use Rattle.goblin_pe_import.specs.declared.import.directory_entry.ImportDirectoryEntry.{ImportDirectoryEntry}
-use Rattle.goblin_pe_sect.specs.Addresses.{MapOfAddresses, offset_of, reads_strictly}
-use Rattle.goblin_pe_sect.specs.Addresses.{Addressing}
+use Rattle.goblin_pe_sect.specs.Addresses.{MapOfAddresses, offset_of, reads_strictly, Addressing}
 use Rattle.goblin_pe_import.specs.ImportEntries.{EntryValue, LookupEntry, entry_slots}
 use Rattle.goblin_pe_import.specs.added.ImportCursors.{before_record}
 use Rattle.goblin_pe_import.specs.ImportReadings.{at_index, first_record_offset, kept_library}
@@ -30,14 +29,11 @@ use Rattle.goblin_pe_import.specs.ImportReadings.{read_if, read_past_front}
 use Rattle.goblin_pe_import.specs.ImportRecords.{ImportedLibrary, NumberedLibrary, import_record, import_slots, lookup_offset}
 use Rattle.goblin_pe_import.specs.Imports.{ImportValue, NumberedImport, at_library, import_at, import_of, imports_by}
 use Rattle.goblin_pe_import.specs.Imports.{numbered_imports}
-use Rattle.goblin_pe_import.specs.added.ImportWalks.{Origin, origin}
-use Rattle.goblin_pe_import.specs.added.ImportWalks.{imports_from_record, library_items, addresses_of}
-use Rattle.goblin_pe_import.specs.KeptEntries.{entries_from}
-use Rattle.goblin_pe_import.specs.added.ImportWalks.{imports_next, library_name, record_index}
-use Rattle.goblin_pe_import.specs.added.ImportWalks.{IsCursorCause, IsImportsCause, IsWalkAt, cursor_of, imports_bytes}
-use Rattle.goblin_pe_import.specs.KeptEntries.{KeptValue}
-use Rattle.goblin_pe_import.specs.added.ImportWalks.{imports_left, imports_map, items_left, kept_import, no_imports}
-use Rattle.goblin_pe_import.specs.KeptEntries.{kept_at}
+use Rattle.goblin_pe_import.specs.added.ImportWalks.{Origin, origin, imports_from_record, library_items, addresses_of}
+use Rattle.goblin_pe_import.specs.added.ImportWalks.{imports_next, library_name, record_index, IsCursorCause}
+use Rattle.goblin_pe_import.specs.added.ImportWalks.{IsImportsCause, IsWalkAt, cursor_of, imports_bytes, imports_left}
+use Rattle.goblin_pe_import.specs.added.ImportWalks.{imports_map, items_left, kept_import, no_imports}
+use Rattle.goblin_pe_import.specs.KeptEntries.{entries_from, KeptValue, kept_at}
 use Rattle.goblin_pe_import.specs.declared.added.imports.ImportCursor.{ImportCursor}
 use Rattle.goblin_pe_import.specs.declared.added.imports.Imports.{Imports}
 use Rattle.goblin_pe_import.specs.LookupReadings.{kept_entry}

@@ -20,17 +20,12 @@ use Rattle.goblin_pe_import.specs.ImportReadings.{import_record_at, kept_library
 use Rattle.goblin_pe_import.specs.ImportRecords.{address_table_rva, import_slots, is_last_record}
 use Rattle.goblin_pe_import.specs.ImportRecords.{lookup_offset}
 use Rattle.goblin_pe_import.specs.Imports.{NumberedImport}
-use Rattle.goblin_pe_import.specs.added.ImportWalks.{Origin, origin}
-use Rattle.goblin_pe_import.specs.added.ImportWalks.{GivesLibrary, IsNextCause}
-use Rattle.goblin_pe_import.specs.KeptEntries.{IsEntriesCause}
-use Rattle.goblin_pe_import.specs.added.ImportWalks.{IsLaterCause, IsNamedCause, IsRecordCause, IsRecordsCause}
-use Rattle.goblin_pe_import.specs.KeptEntries.{KeptValue}
-use Rattle.goblin_pe_import.specs.added.ImportWalks.{addresses_of, bound_next}
-use Rattle.goblin_pe_import.specs.KeptEntries.{entries_from, slots_bound}
-use Rattle.goblin_pe_import.specs.added.ImportWalks.{imports_next, is_skipped, one_if}
-use Rattle.goblin_pe_import.specs.added.ImportWalks.{walk_bound}
+use Rattle.goblin_pe_import.specs.added.ImportWalks.{Origin, origin, GivesLibrary, IsNextCause, IsLaterCause}
+use Rattle.goblin_pe_import.specs.added.ImportWalks.{IsNamedCause, IsRecordCause, IsRecordsCause, addresses_of}
+use Rattle.goblin_pe_import.specs.added.ImportWalks.{bound_next, imports_next, is_skipped, one_if, walk_bound}
 use Rattle.goblin_pe_import.specs.added.ImportWalks.{imports_from_record, imports_of_entries, record_index}
 use Rattle.goblin_pe_import.specs.added.ImportWalks.{later_items, library_items, library_name, pending_table}
+use Rattle.goblin_pe_import.specs.KeptEntries.{IsEntriesCause, KeptValue, entries_from, slots_bound}
 use Rattle.goblin_pe_import.proofs.LookupWalk.{in_two, lookup_walked}
 use Rattle.goblin_pe_import.proofs.PermissiveReads.{name_strict}
 use Rattle.goblin_pe_sect.specs.Addresses.{Addressing}

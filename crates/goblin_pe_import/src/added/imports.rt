@@ -24,21 +24,19 @@ ghost use Rattle.goblin_pe_import.specs.added.ImportWalks.{IsRecordsCause, IsWal
 ghost use Rattle.goblin_pe_import.specs.added.ImportWalks.{bound_next, imports_bound, imports_map};
 ghost use Rattle.goblin_pe_import.specs.added.ImportWalks.{imports_bytes, imports_from_record};
 ghost use Rattle.goblin_pe_import.specs.added.ImportWalks.{imports_left, kept_import, no_imports};
-ghost use Rattle.goblin_pe_import.specs.KeptEntries.{kept_value};
+ghost use Rattle.goblin_pe_import.specs.KeptEntries.{kept_value, slots_bound};
 ghost use Rattle.goblin_pe_import.specs.added.ImportWalks.{later_items, library_items};
 ghost use Rattle.goblin_pe_import.specs.added.ImportWalks.{library_name, one_if, origin};
 ghost use Rattle.goblin_pe_import.specs.added.ImportWalks.{records_bound, finder_of, ascii_at};
 ghost use Rattle.goblin_pe_import.specs.added.ImportWalks.{ascii_walk, walk_answer, walk_at};
 ghost use Rattle.goblin_pe_import.specs.added.ImportWalks.{record_index, records_left};
-ghost use Rattle.goblin_pe_import.specs.KeptEntries.{slots_bound};
 ghost use Rattle.goblin_pe_import.specs.added.ImportWalks.{pending_table, walk_bound, walk_left};
 ghost use Rattle.goblin_pe_import.specs.added.ImportWalks.{walked_value};
 ghost use Rattle.goblin_pe_import.specs.ImportRecords.{address_table_rva};
 ghost use Rattle.goblin_pe_import.specs.added.StepsAhead.{EndsWithin, GivesImportWithin};
-ghost use Rattle.goblin_pe_import.specs.Steps.{GivesWithin, HasNotGrown};
+ghost use Rattle.goblin_pe_import.specs.Steps.{GivesWithin, HasNotGrown, slots_ahead};
 ghost use Rattle.goblin_pe_import.specs.added.StepsAhead.{HaveRunOut, LooksAt, imports_ahead};
 ghost use Rattle.goblin_pe_import.specs.added.StepsAhead.{later_ahead, record_steps, tested_ahead};
-ghost use Rattle.goblin_pe_import.specs.Steps.{slots_ahead};
 ghost use Rattle.goblin_pe_import.specs.added.StepsAhead.{pending_ahead, walk_ahead};
 
 use crate::added::ascii::ascii_kept;

@@ -1,4 +1,4 @@
-use Rattle.std.proofs.Common.{◌∙◌, Option, ap, refl}
+use Rattle.std.proofs.Common.{◌∙◌, Option, ap, refl, option_map}
 use Rattle.goblin_pe.specs.Whole.{TablePlaces, places_in}
 use Rattle.goblin_pe_head.specs.declared.header.coff.CoffHeader.{CoffHeader}
 use Rattle.goblin_pe_head.specs.declared.header.dos.DosHeader.{DosHeader}
@@ -9,7 +9,6 @@ use Rattle.goblin_pe_c_headers.specs.Headers.{optional_record}
 use Rattle.goblin_pe_c_tables.specs.PartialImages.{given_or, stub_size}
 use Rattle.goblin_pe_c_headers.specs.RichHeaders.{rich_of}
 use Rattle.goblin_pe_c_tables.proofs.partial.partial_image.Goals as goal
-use Rattle.std.proofs.Common.{option_map}
 
 pub returns : goal.returns
 returns c =

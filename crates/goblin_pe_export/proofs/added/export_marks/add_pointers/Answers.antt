@@ -2,8 +2,7 @@ use Rattle.std.proofs.Common.{◌≡◌, ℕ, List, length, sym, arith}
 use Rattle.goblin_base.specs.Footprints.{Range}
 use Rattle.goblin_base.proofs.Marks.{marked_nil}
 use Rattle.goblin_base.proofs.Ranges.{marked_below}
-use Rattle.goblin_pe_sect.specs.Addresses.{map_of}
-use Rattle.goblin_pe_sect.specs.Addresses.{Addressing}
+use Rattle.goblin_pe_sect.specs.Addresses.{map_of, Addressing}
 use Rattle.goblin_pe_export.specs.ExportReadings.{numbered_row, numbered_rows}
 use Rattle.goblin_pe_export.specs.ExportRecords.{ExportTables}
 use Rattle.goblin_pe_export.proofs.added.export_marks.add_pointers.Goals as goal

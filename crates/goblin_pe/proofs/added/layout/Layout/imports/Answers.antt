@@ -6,8 +6,7 @@ use Rattle.goblin_pe_import.specs.ImportReadings.{numbered_data}
 use Rattle.goblin_pe_import.specs.Imports.{numbered_imports}
 use Rattle.goblin_pe.specs.added.Layouts.{layout_bytes, layout_map, layout_places}
 use Rattle.goblin_pe.specs.Whole.{directory_at, entry_format, import_list, numbered_data_part}
-use Rattle.goblin_pe.proofs.added.WalkedParts.{unasked_mapped}
-use Rattle.goblin_pe.proofs.added.WalkedParts.{list-refused, list-walked}
+use Rattle.goblin_pe.proofs.added.WalkedParts.{unasked_mapped, list-refused, list-walked}
 use Rattle.goblin_pe.proofs.added.ImportStarts.{start-read, start-refused}
 use Rattle.goblin_pe.proofs.added.layout.Layout.imports.Goals as goal
 use Rattle.goblin_pe.proofs.added.layout.Layout.imports.Goals.{in_default-via-in-Some+else-opts, in_default-via-in_default}
