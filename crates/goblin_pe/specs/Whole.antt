@@ -96,13 +96,11 @@ table_places t =
       directories = t.directories;
     }
 
--- a directory, unless it is all zeros
-abbrev pub unless_zeros : DataDirectory → Option DataDirectory
-unless_zeros d = if d.virtual_address == 0 && d.size == 0 then None else Some d
-
 -- the directory at an index, unless it is all zeros
 unfoldable pub directory_at : TablePlaces → ℕ → Option DataDirectory
-directory_at places i = option_and_then unless_zeros (slice_get places.directories i)
+directory_at places i =
+    option_and_then (λ (d : DataDirectory).
+    if d.virtual_address == 0 && d.size == 0 then None else Some d) (slice_get places.directories i)
 
 -- where the tables lie, from an optional header; without one there are no tables
 unfoldable pub places_in : Option OptionalHeader → TablePlaces

@@ -19,10 +19,6 @@ pub record ObjectFile : Type 0 where
   pub header : CoffHeader
   pub sections : List Section
 
--- the header at the front of a file
-abbrev pub object_header : Reading CoffHeader
-object_header = record_at 20 (coff_header Little) 0
-
 -- the sections of an object, which follow the header and what it says of an optional header
 abbrev pub object_sections : Bool → CoffHeader → Reading (List Section)
 object_sections strict h =
@@ -31,7 +27,7 @@ object_sections strict h =
 -- an object: its header is at the front of the file
 unfoldable pub object_file : Bool → Reading ObjectFile
 object_file strict =
-    object_header >>= λ header.
+    record_at 20 (coff_header Little) 0 >>= λ header.
     mapped (λ sections. record { header = header; sections = sections })
     (object_sections strict header)
 

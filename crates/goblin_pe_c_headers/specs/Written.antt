@@ -63,17 +63,14 @@ abbrev pub WritesOut : Option (List ℕ) → (ℕ → Type 0) → (ErrorOf → T
 WritesOut change IsSize IsCause old new (Ok x) = (change ≡ Some new.out) × IsSize new.written
 WritesOut change IsSize IsCause old new (Err e) = (change ≡ None) × IsCause e × (new ≡ old)
 
--- The front of bytes is a header's, where there is room for it; without any room they stay.
-abbrev pub with_header : List ℕ → List ℕ → Option (List ℕ)
-with_header out header = if length out == 0 then Some out else overwritten out 0 header
-
 -- A call has written the header that records say to the front of bytes, and told how many it takes;
 -- without any room it told that alone.
 abbrev pub WritesHeader : PeImage → Output → Output → Result Unit ErrorOf → Type 0
 WritesHeader image old new =
     let stub = (image_stub image).value image.bytes.now in
     let made = option_and_then (λ s. header_bytes Little (header_from_c image s)) stub in
-    WritesOut (option_and_then (with_header old.out) made)
+    WritesOut (option_and_then (λ (header : List ℕ).
+    if length old.out == 0 then Some old.out else overwritten old.out 0 header) made)
     (λ size. IsSomeAnd made (λ header. size ≡ length header))
     (FirstFault stub ((image_stub image).IsCause image.bytes.now) (λ s.
     FirstFault made (IsUnwrittenPart (optional_from_c image))

@@ -199,16 +199,11 @@ export_walk = record {
 abbrev pub ExportWalkBatch : Type 0
 ExportWalkBatch = Batch Exports PeExport
 
--- the export directory is refused
-abbrev pub IsExportsFault : MapOfAddresses → TablePlaces → List ℕ → ErrorOf → Type 0
-IsExportsFault m places bytes e =
-    let read = export_part m.opts m.addressing places in
-    IsRefused read bytes e
-
--- why a batch of exports is refused, wherever it begins
+-- a batch of exports is refused, wherever it begins, if the export directory is
 abbrev pub IsExportBatchFault : {R : Type 0} → MapOfAddresses → TablePlaces → List ℕ → Batch ℕ R
     → ErrorOf → Type 0
-IsExportBatchFault m places bytes old e = IsExportsFault m places bytes e
+IsExportBatchFault m places bytes old e =
+    IsRefused (export_part m.opts m.addressing places) bytes e
 
 -- ---- what the export directory says
 

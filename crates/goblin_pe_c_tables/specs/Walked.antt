@@ -60,12 +60,8 @@ abbrev pub walked_of : PeHeader → List Section → NumberedTables → WalkedFi
 walked_of h sections tables =
     record { header = h; sections = sections; tables = walked_tables h tables }
 
-abbrev pub walked_with : View → ParseOptions → PeHeader → List Section → Reading WalkedFile
-walked_with view opts h sections =
-    mapped (walked_of h sections) (tables_with view opts h sections)
-
 abbrev pub walked_file : View → ParseOptions → Reading WalkedFile
-walked_file view opts = by_layout opts (walked_with view opts)
+walked_file view opts = by_layout opts (λ h s. mapped (walked_of h s) (tables_with view opts h s))
 
 -- ---- by the options that a caller says
 

@@ -51,15 +51,12 @@ export_tables addressing d t =
     beside counted_if ordinals t.number_of_name_pointers (addressing.offset t.ordinal_table_rva)
     beside counted_if (addresses d) t.address_table_entries (addressing.offset t.export_address_table_rva))
 
--- what a record leads to, if its counts fit the file
-abbrev pub tables_if : Addressing → DataDirectory → ExportDirectoryTable
-    → Reading ExportTables
-tables_if addressing d t = fitting t >>= export_tables addressing d
-
--- the export data of a directory: what the record at its address leads to
+-- the export data of a directory: what the record at its address leads to, if its counts fit the
+-- file
 unfoldable pub export_data : Addressing → DataDirectory → Reading ExportTables
 export_data addressing d =
-    at_address addressing.offset d.virtual_address (λ p. export_record_at p >>= tables_if addressing d)
+    at_address addressing.offset d.virtual_address
+    (λ p. export_record_at p >>= λ t. fitting t >>= export_tables addressing d)
 
 -- ---- the address table alone
 

@@ -14,15 +14,12 @@ use Rattle.goblin_pe_head.specs.TeHeader.{te_adjusted, te_record}
 
 -- Source: UEFI Platform Initialization Specification, volume 1, "TE Image".
 
--- the header with its addresses adjusted to the stripped file; none if fewer bytes were stripped
--- than the header has
-abbrev pub adjusted : TeHeader → Option TeHeader
-adjusted header = option_map (λ d. te_adjusted d header) (displacement header)
-
--- the header at p, adjusted
+-- the header at p, with its addresses adjusted to the stripped file; it is refused if fewer bytes
+-- were stripped than the header has
 unfoldable pub te_header : ℕ → Reading TeHeader
 te_header p =
-    checked adjusted IsStrippedFault
+    checked (λ (header : TeHeader). option_map (λ d. te_adjusted d header) (displacement header))
+    IsStrippedFault
     (λ header. malformed-not_memory (StrippedSize header.stripped_size))
     (record_at 40 (te_record Little) p)
 

@@ -22,13 +22,11 @@ at_address offset_of rva read = offset_at offset_of rva >>= read
 unfoldable pub text_at_address : (ℕ → Option ℕ) → ℕ → Reading (List ℕ)
 text_at_address offset_of rva = at_address offset_of rva text_at
 
--- the text at an offset, cut if there is a limit; if there is no text, the cause is `NameRead`
-abbrev pub name_here : Option ℕ → ℕ → Reading (List ℕ)
-name_here longest p = because (NameRead p) (text_within longest p)
-
--- the name at an address
+-- the name at an address: the text there, cut if there is a limit; if there is no text, the cause
+-- is `NameRead`
 unfoldable pub name_at : Addressing → ℕ → Reading (List ℕ)
-name_at addressing rva = at_address addressing.offset rva (name_here addressing.longest)
+name_at addressing rva =
+    at_address addressing.offset rva (λ p. because (NameRead p) (text_within addressing.longest p))
 
 -- the name at an address, as an option; if there is no name, strict mode refuses, and permissive
 -- mode has none

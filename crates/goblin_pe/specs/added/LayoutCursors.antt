@@ -66,12 +66,6 @@ abbrev pub IsImportWalkAt : MapOfAddresses → ℕ → List ℕ → ImportCursor
 IsImportWalkAt m magic bytes c imports =
     IsImportWalk m magic bytes imports × (file_cursor imports ≡ c)
 
--- If the call gave no import, the walk is at the end.
-abbrev pub IsAtFileEnd : Option (Result WalkedImport ErrorOf) → FileImports → Type 0
-IsAtFileEnd result imports =
-    let c = file_cursor imports in
-    MatchOption result (c ≡ no_imports) (λ r. IfErr r (λ e. c ≡ no_imports))
-
 -- A call of `next` gives the next import, or an error that is never Memory, or it has ended the
 -- walk. It keeps the bytes and the map, and what is known of the walk.
 abbrev pub GivesFileImport : FileImports → Option (Result WalkedImport ErrorOf) → FileImports
@@ -81,7 +75,7 @@ GivesFileImport s result t =
     × ((m : MapOfAddresses) (magic : ℕ) (bytes : List ℕ) → IsImportWalk m magic bytes s
     → IsImportWalk m magic bytes t)
     × IfSome result (λ r. IfErr r (λ e. ¬ IsMemory e))
-    × IsAtFileEnd result t
+    × MatchOption result (file_cursor t ≡ no_imports) (λ r. IfErr r (λ e. file_cursor t ≡ no_imports))
     × (file_bytes t ≡ file_bytes s)
     × (file_map t ≡ file_map s)
 

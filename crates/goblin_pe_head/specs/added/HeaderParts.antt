@@ -45,21 +45,18 @@ optional_part read =
     placed_coff
     >>= λ placed. optional_with (λ x. x) read placed.1.size_of_optional_header placed.0
 
--- the data directories, which follow the Windows fields: as many as the last field says, but at
--- most sixteen
-abbrev pub directories_after : ℕ → WindowsFields64 → Reading (List (Option (ℕ × DataDirectory)))
-directories_after magic fields =
-    directories_at (min fields.number_of_rva_and_sizes 16) (fields_size magic)
-
 unfoldable pub standard_front : Reading StandardFields
 standard_front = number_at Little 2 0 >>= standard_by
 
 unfoldable pub windows_front : Reading WindowsFields64
 windows_front = number_at Little 2 0 >>= windows_by
 
+-- the data directories, which follow the Windows fields: as many as the last field says, but at
+-- most sixteen
 unfoldable pub directories_front : Reading (List (Option (ℕ × DataDirectory)))
 directories_front =
-    number_at Little 2 0 >>= λ magic. windows_by magic >>= directories_after magic
+    number_at Little 2 0 >>= λ magic. windows_by magic
+    >>= λ fields. directories_at (min fields.number_of_rva_and_sizes 16) (fields_size magic)
 
 -- ---- the section headers
 

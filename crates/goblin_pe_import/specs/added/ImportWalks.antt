@@ -317,12 +317,6 @@ pub record IsWalkAt {T : Type 0} (m : MapOfAddresses) (bytes : List ℕ) (c : Im
   pub at : cursor_of it ≡ c
   pub named : HasName it
 
--- If the call gave no import, the walk is at the end.
-abbrev pub IsAtEnd : {T : Type 0} → Option (Result WalkedImport ErrorOf) → Imports T → Type 0
-IsAtEnd result it =
-    let c = cursor_of it in
-    MatchOption result (c ≡ no_imports) (λ r. IfErr r (λ e. c ≡ no_imports))
-
 -- an upper bound of the number of imports to come
 abbrev pub imports_bound : {T : Type 0} → Imports T → ℕ
 imports_bound it = walk_bound it.walk
@@ -340,7 +334,7 @@ GivesImport format s result t =
     × (HasName s → HasName t)
     × IfSome result (λ r. IfErr r (IsWalkFault s.walk))
     × AreImportsOver (imports_bytes s) (imports_map s) t
-    × IsAtEnd result t
+    × MatchOption result (cursor_of t ≡ no_imports) (λ r. IfErr r (λ e. cursor_of t ≡ no_imports))
 
 -- the walk at another place of the library that it is in
 abbrev pub walk_at : Walk → ℕ → Walk

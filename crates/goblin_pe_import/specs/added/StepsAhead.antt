@@ -45,17 +45,13 @@ record_steps strict format addressing bytes r =
     else slots_ahead format bytes (lookup_offset addressing r)
     + pending_ahead strict format addressing bytes (Some (address_table_rva r)))
 
--- the steps of the descriptors of a directory, from the next one on
-abbrev pub records_ahead : Bool → Format EntryValue → Addressing → List ℕ → Option ℕ → ℕ
-records_ahead strict format addressing bytes next =
-    amount_of (sum_of_slots import_slots (record_steps strict format addressing bytes) bytes) next
-
--- how many steps are ahead once the entries of a library have come
+-- How many steps are ahead once the entries of a library have come. At last come those of the
+-- directory's descriptors, from the next one on.
 abbrev pub later_ahead : Bool → Format EntryValue → Addressing → List ℕ → Option ℕ → Option ℕ
     → ℕ
 later_ahead strict format addressing bytes pending next =
     pending_ahead strict format addressing bytes pending
-    + records_ahead strict format addressing bytes next
+    + amount_of (sum_of_slots import_slots (record_steps strict format addressing bytes) bytes) next
 
 -- How many steps a walk takes from a cursor to its end.
 abbrev pub cursor_ahead : MapOfAddresses → Format EntryValue → List ℕ → ImportCursor → ℕ
