@@ -1,9 +1,10 @@
 -- The rows of sections that were read have their names from the string table.
-use Rattle.std.proofs.Common.{◌≡◌, ◌∙◌, ℕ, zero, suc, ◌+◌, ◌*◌, ◌/◌, ◌<◌, ◌≤◌, ◌==◌, Bool, true, false, cond, not, List, [], ◌∷◌, length, map, refl, ap, arith, subst, sym, Option, None, Some, slice_get, slice_range, take, min, IsSomeAnd, ne_eqb, length-take}
+use Rattle.std.proofs.Common.{◌≡◌, ◌∙◌, ℕ, zero, suc, ◌+◌, ◌*◌, ◌/◌, ◌<◌, ◌≤◌, ◌==◌, Bool, true, false, not, List, [], ◌∷◌, length, map, refl, ap, arith, subst, sym, Option, None, Some, slice_get, slice_range, take, min, IsSomeAnd, ne_eqb, length-take}
 use Rattle.std.specs.List.{prefix_len, range_with_len}
 use Rattle.std.specs.Str.{is_utf8}
 use Rattle.std.proofs.lemmas.List.{take_all}
 use Rattle.std.proofs.lemmas.Simd.{map-map}
+use Rattle.std.proofs.lemmas.Option.{cond_some}
 use Rattle.goblin_base.specs.declared.endian.Endian.TheVariants.{Little}
 use Rattle.goblin_base.specs.Record.{record_at}
 use Rattle.goblin_base.specs.Answers.{all_at, all_of}
@@ -57,14 +58,10 @@ shorter-take (suc m) zero xs le = absurd (omega (arith, le))
 shorter-take (suc m) (suc k) [] le = refl
 shorter-take (suc m) (suc k) (x ∷ xs) le = ap (λ (ys : List ℕ). x ∷ ys) (shorter-take m k xs (omega (arith, le)))
 
-text-same : (is_text : Bool) (xs s : List ℕ) → cond is_text (Some xs) None ≡ Some s → s ≡ xs
-text-same true xs s is = sym (same_value xs s is)
-text-same false xs s is = absurd (cc is)
-
 name-is : (header name : List ℕ) → length header ≡ 40 → text_at header 0 ≡ Some name → name ≡ before_nul header
 name-is header name size is =
     let here : text_at header 0 ≡ text_of (before_nul header) = rw size refl in
-    text-same (is_utf8 (before_nul header)) (before_nul header) name (sym here ∙ is)
+    sym ((cond_some (is_utf8 (before_nul header)) (before_nul header) name (sym here ∙ is)).1)
 
 -- a text of fewer than eight bytes is a stored name
 pub name_shorter : (header name : List ℕ) → length header ≡ 40 → text_at header 0 ≡ Some name → length name < 8 → name ≡ before_nul (take 8 header)
@@ -144,7 +141,7 @@ headers-there bytes (suc n) p xs read =
     let records = mapped (slice_at bytes p (40 * suc n)) sections_in xs (sym (rw some refl) ∙ read) in
     rw (some, records.is) records.made
 
-some-weaker : {A : Type 0} (v : Option A) (P Q : A → Type 0) → ((a : A) → P a → Q a) → IsSomeAnd v P → IsSomeAnd v Q
+pub some-weaker : {A : Type 0} (v : Option A) (P Q : A → Type 0) → ((a : A) → P a → Q a) → IsSomeAnd v P → IsSomeAnd v Q
 some-weaker None P Q then h = absurd h
 some-weaker (Some a) P Q then h = then a h
 

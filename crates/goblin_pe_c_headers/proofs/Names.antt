@@ -1,20 +1,15 @@
 -- Names in the bytes of a string table.
-use Rattle.std.proofs.Common.{◌≡◌, ◌⊎◌, ◌<◌, ◌≤◌, ℕ, suc, ◌+◌, Bool, true, false, cond, ◌&&◌, List, [], ◌∷◌, length, drop, refl, ap, sym, subst, ◌∙◌, inl, inr, arith, ◌==◌, nat_lt, not, Some, None, slice_index, slice_range}
+use Rattle.std.proofs.Common.{◌≡◌, ◌<◌, ◌≤◌, ℕ, suc, ◌+◌, Bool, true, false, cond, ◌&&◌, List, [], ◌∷◌, length, drop, refl, ap, sym, subst, ◌∙◌, arith, ◌==◌, nat_lt, not, Some, None, slice_index, slice_range}
 use Rattle.std.specs.List.{prefix_len}
-use Rattle.std.specs.Str.{IsCharBoundary, is_utf8}
+use Rattle.std.specs.Str.{is_utf8}
 use Rattle.std.proofs.lemmas.Bool.{false_from_ne_true}
 use Rattle.std.proofs.lemmas.Bool.Decides.{nat_tests}
 use Rattle.std.proofs.lemmas.List.{drop_all, drop_more}
-use Rattle.std.proofs.lemmas.Str.{IsUtf8-between, IsUtf8-nil, IsUtf8-from_is_utf8, is_utf8-from_IsUtf8, IsCharBoundary-before_ascii, IsCharBoundary-end, IsCharBoundary-start}
+use Rattle.std.proofs.lemmas.Str.{IsUtf8-between, IsUtf8-nil, IsUtf8-from_is_utf8, is_utf8-from_IsUtf8, IsCharBoundary-start}
 use Rattle.goblin_base.specs.Bytes.{before_nul, stretch, text_of}
 use Rattle.goblin_base.specs.Strtab.{is_border, is_in_piece, rest_at}
-use Rattle.goblin_base.proofs.Pieces.{rest_by_pieces}
+use Rattle.goblin_base.proofs.Pieces.{ends_before, rest_by_pieces}
 use Rattle.goblin_pe_c_headers.specs.Symbols.{NamesOfText, name_in_piece}
-
--- a table may be cut where a piece ends
-cut_at_end : (table : List ℕ) (end : ℕ) → (end ≡ length table) ⊎ ((end < length table) × (slice_index table end ≡ 0)) → IsCharBoundary table end
-cut_at_end table end (inl at) = subst (IsCharBoundary table) (sym at) (IsCharBoundary-end table)
-cut_at_end table end (inr nul) = IsCharBoundary-before_ascii table end nul.0 (omega (arith, nul.1))
 
 -- what is left of a piece of a text is a text
 rest_is_text : (table : List ℕ) (o : ℕ) (rest : List ℕ) → is_utf8 table ≡ true → rest_at table o ≡ Some rest → is_utf8 rest ≡ true
@@ -22,7 +17,7 @@ rest_is_text table o rest text is =
     let piece = rest_by_pieces table o rest is in
     let whole = IsUtf8-from_is_utf8 table text in
     subst (λ (xs : List ℕ). is_utf8 xs ≡ true) (sym piece.is)
-    (is_utf8-from_IsUtf8 (slice_range table o piece.end) (IsUtf8-between table o piece.end whole piece.after piece.border (cut_at_end table piece.end piece.piece.ends)))
+    (is_utf8-from_IsUtf8 (slice_range table o piece.end) (IsUtf8-between table o piece.end whole piece.after piece.border (ends_before table piece.end piece.piece.ends)))
 
 -- a byte that is no NUL comes before what follows it up to a NUL
 first_kept : (b : ℕ) (rest : List ℕ) → (b == 0) ≡ false → before_nul (b ∷ rest) ≡ b ∷ before_nul rest

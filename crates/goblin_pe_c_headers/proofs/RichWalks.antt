@@ -1,5 +1,5 @@
 -- The walk over the entries of a Rich header that was read gives its own.
-use Rattle.std.proofs.Common.{◌≡◌, ◌∙◌, ℕ, ◌+◌, ◌-◌, ◌*◌, ◌/◌, ◌%◌, ◌^◌, ◌<◌, ◌≤◌, ◌==◌, ◌&&◌, Bool, true, false, cond, List, [], drop, take, length, refl, ap, sym, subst, arith, Option, Some, None, IfSome, nat_le, nat_lt, slice_range, unwrap_or, length-take, length-drop, take-take, length-take-le, leb-true, drop_of_length-le}
+use Rattle.std.proofs.Common.{◌≡◌, ◌∙◌, ℕ, ◌+◌, ◌-◌, ◌*◌, ◌/◌, ◌%◌, ◌^◌, ◌<◌, ◌≤◌, ◌==◌, ◌&&◌, Bool, true, false, cond, List, [], drop, take, length, refl, ap, sym, subst, arith, Option, Some, None, IfSome, nat_le, nat_lt, slice_range, length-take, length-drop, take-take, length-take-le, leb-true, drop_of_length-le}
 use Rattle.std.proofs.lemmas.Bool.{and_parts, ltb-true}
 use Rattle.std.proofs.lemmas.Bool.Decides.{nat_tests}
 use Rattle.std.proofs.lemmas.List.{drop-drop, drop-take}
@@ -19,13 +19,10 @@ use Rattle.goblin_pe_head.specs.RichHeader.{Rich, leading_words, marker_place, o
 use Rattle.goblin_pe_head.specs.RichReadings.{rich_at}
 use Rattle.goblin_pe_head.proofs.PeHeaderRoundTrip.{dos_of, parts_of}
 use Rattle.goblin_pe_head.proofs.RichPlaces.{before_marker, between, in_stretch, long_enough, stored, stored-high}
+use Rattle.goblin_pe_head.proofs.RichLaw.{words_below}
 use Rattle.goblin_pe_c_headers.specs.RichHeaders.{HeaderIsWalked, IsWalked, RichIsWalked}
 
 -- ---- the padding is within the data
-
-words_below : (o : Option ℕ) (n : ℕ) → ((k : ℕ) → o ≡ Some k → k < n) → unwrap_or o n ≤ n
-words_below None n h = omega arith
-words_below (Some k) n h = let lt = h k refl in omega (arith, lt)
 
 padding_fits : (key : ℕ) (bytes : List ℕ) → 4 * leading_words key bytes ≤ length bytes
 unfolding leading_words other_place

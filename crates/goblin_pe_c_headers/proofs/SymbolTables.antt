@@ -1,5 +1,6 @@
 -- Where a symbol table and its string table lie.
 use Rattle.std.proofs.Common.{◌≡◌, ℕ, ◌+◌, ◌-◌, ◌*◌, Bool, true, false, cond, List, [], length, refl, ap, sym, subst, ◌∙◌, arith, inl, inr, ◌⊎◌, ◌==◌, drop, Option, Some, None, nat_le, nat_lt, option_map, slice_range, le-leb, leb-true, length-drop, length-take}
+use Rattle.std.proofs.lemmas.Option.{cond_some}
 use Rattle.std.specs.Option.{unwrap_or}
 use Rattle.goblin_base.specs.declared.endian.Endian.TheVariants.{Little}
 use Rattle.goblin_base.specs.Bytes.{number_at, slice_at, text_of}
@@ -16,21 +17,17 @@ texts_inside : (inside : Bool) (text : Option (List ℕ)) (s : List ℕ) → con
 texts_inside true text s is = (refl, is)
 texts_inside false text s is = absurd (cc is)
 
-texts_same : (is_text : Bool) (xs s : List ℕ) → cond is_text (Some xs) None ≡ Some s → s ≡ xs
-texts_same true xs s is = sym (same_value xs s is)
-texts_same false xs s is = absurd (cc is)
-
 texts_long : (bytes : List ℕ) (p n : ℕ) (s : List ℕ) → string_table bytes p n ≡ Some s → length s ≡ n
 texts_long bytes p n s is =
     let table = texts_inside (nat_le (p + n) (length bytes)) (text_of (slice_range bytes p (p + n))) s is in
-    let same : s ≡ slice_range bytes p (p + n) = texts_same _ _ s table.1 in
+    let same : s ≡ slice_range bytes p (p + n) = sym ((cond_some _ _ s table.1).1) in
     let le = leb-true (p + n) (length bytes) table.0 in
     ap length same ∙ omega (arith, length-take (p + n - p) (drop p bytes), length-drop p bytes, le)
 
 texts_there : (bytes : List ℕ) (p n : ℕ) (s : List ℕ) → string_table bytes p n ≡ Some s → bytes_between bytes p (p + length s) ≡ Some s
 texts_there bytes p n s is =
     let table = texts_inside (nat_le (p + n) (length bytes)) (text_of (slice_range bytes p (p + n))) s is in
-    let same : s ≡ slice_range bytes p (p + n) = texts_same _ _ s table.1 in
+    let same : s ≡ slice_range bytes p (p + n) = sym ((cond_some _ _ s table.1).1) in
     let long = texts_long bytes p n s is in
     let begins : nat_le p (p + n) ≡ true = le-leb p (p + n) (omega arith) in
     rw (long, begins, table.0) (ap (λ (xs : List ℕ). Some xs) (sym same))

@@ -45,6 +45,7 @@ use Rattle.goblin_pe_c_headers.specs.declared.options.PeOptions.{PeOptions}
 use Rattle.goblin_pe_c_tables.specs.Batches.{exports_in, import_table}
 use Rattle.goblin_pe_c_tables.specs.Places.{map_at, places_record, places_from_c}
 use Rattle.goblin_pe_c_headers.specs.Places.{placed_sections}
+use Rattle.goblin_pe_c_headers.proofs.Named.{some-weaker}
 use Rattle.goblin_pe_c_tables.specs.Walked.{AreItems, AreWalked, WalksGive, items_in, walked_of, walked_tables}
 use Rattle.goblin_pe_c_tables.specs.declared.next.PeImportCursor.{PeImportCursor}
 use Rattle.goblin_pe_c_tables.proofs.Placed.{leads_back}
@@ -63,10 +64,6 @@ all-unrefused {A} (Some x ∷ items) xs e =
 some-left : {A B : Type 0} (v : Option A) (f : A → B) (b : B) → IsSomeAnd v (λ a. f a ≡ b) → option_map f v ≡ Some b
 some-left None f b h = absurd h
 some-left {A} {B} (Some a) f b h = ap (λ (x : B). Some x) h
-
-some-weaker : {A : Type 0} (v : Option A) (P Q : A → Type 0) → ((a : A) → P a → Q a) → IsSomeAnd v P → IsSomeAnd v Q
-some-weaker None P Q then h = absurd h
-some-weaker (Some a) P Q then h = then a h
 
 -- ---- imports
 

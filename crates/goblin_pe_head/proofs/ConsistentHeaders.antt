@@ -37,7 +37,7 @@ use Rattle.goblin_pe_head.specs.HeaderReadings.{optional_at, optional_header, pe
 use Rattle.goblin_pe_head.specs.OptionalHeader.{bytes_32, bytes_64, fields_size, narrowed, optional_bytes, standard_32_fields, standard_32_record, standard_64_fields, standard_64_record, standard_from_32, standard_from_64, standard_to_32, standard_to_64, windows_32_fields, windows_32_record, windows_64_fields, windows_64_record, windows_from_32, windows_to_32}
 use Rattle.goblin_pe_head.specs.PeHeader.{PeHeader, header_parts, header_value, written_part}
 use Rattle.goblin_pe_head.specs.RichReadings.{rich_at, rich_in}
-use Rattle.goblin_pe_head.proofs.OptionalHeaderRoundTrip.{bytes_after}
+use Rattle.goblin_pe_head.proofs.OptionalHeaderRoundTrip.{bytes_after, four-bytes}
 use Rattle.goblin_pe_head.proofs.OptionalParts.{IsOptionalOf, magic_32, magic_64, of_optional, optional_of, pick, same_magic}
 use Rattle.goblin_pe_head.proofs.PeHeaderRoundTrip.{dos_of, of_dos, of_parts, parts_of, strict_stub}
 
@@ -414,9 +414,6 @@ record AreConsistent (s : StandardFields) : Type 0 where
   uninitialized : s.size_of_uninitialized_data < 2 ^ 32
   base : s.base_of_code < 2 ^ 32
   no_data : s.magic ≡ 0x20B → s.base_of_data ≡ 0
-
-four-bytes : (own : List ℕ) (p : ℕ) → IsBytes own → number Little 4 own p < 2 ^ 32
-four-bytes own p fits = number-lt Little 4 own p fits
 
 narrow-agrees : (bytes : List ℕ) (x : OptionalHeader × ℕ) → IsBytes bytes → IsOptionalOf 0x10B bytes x → AreConsistent x.0.standard_fields
 unfolding standard_by standard_from_32

@@ -23,21 +23,21 @@ use Rattle.goblin_pe_head.proofs.OptionalParts.{IsOptionalOf, magic_32, magic_64
 use Rattle.goblin_pe_head.proofs.OptionalFieldsRoundTrip.{standard_32_back, standard_64_back, windows_32_back, windows_64_back}
 
 -- a field of four bytes fits 32 bits
-four : (own : List ℕ) (p : ℕ) → IsBytes own → number Little 4 own p < 2 ^ 32
-four own p h = number-lt Little 4 own p h
+pub four-bytes : (own : List ℕ) (p : ℕ) → IsBytes own → number Little 4 own p < 2 ^ 32
+four-bytes own p h = number-lt Little 4 own p h
 
 -- what was widened is narrowed to what it was
 standard_32-same : (own : List ℕ) → IsBytes own → standard_to_32 (standard_from_32 (standard_32_record Little own)) ≡ standard_32_record Little own
 unfolding standard_to_32 standard_from_32
-standard_32-same own h = rw (mod-eq_of_lt (four own 4 h), mod-eq_of_lt (four own 8 h), mod-eq_of_lt (four own 12 h), mod-eq_of_lt (four own 20 h)) refl
+standard_32-same own h = rw (mod-eq_of_lt (four-bytes own 4 h), mod-eq_of_lt (four-bytes own 8 h), mod-eq_of_lt (four-bytes own 12 h), mod-eq_of_lt (four-bytes own 20 h)) refl
 
 standard_64-same : (own : List ℕ) → IsBytes own → standard_to_64 (standard_from_64 (standard_64_record Little own)) ≡ standard_64_record Little own
 unfolding standard_to_64 standard_from_64
-standard_64-same own h = rw (mod-eq_of_lt (four own 4 h), mod-eq_of_lt (four own 8 h), mod-eq_of_lt (four own 12 h), mod-eq_of_lt (four own 20 h)) refl
+standard_64-same own h = rw (mod-eq_of_lt (four-bytes own 4 h), mod-eq_of_lt (four-bytes own 8 h), mod-eq_of_lt (four-bytes own 12 h), mod-eq_of_lt (four-bytes own 20 h)) refl
 
 windows_32-same : (own : List ℕ) → IsBytes own → windows_to_32 (windows_from_32 (windows_32_record Little own)) ≡ Some (windows_32_record Little own)
 unfolding windows_to_32 windows_from_32
-windows_32-same own h = rw (lt-ltb _ _ (four own 0 h), lt-ltb _ _ (four own 44 h), lt-ltb _ _ (four own 48 h), lt-ltb _ _ (four own 52 h), lt-ltb _ _ (four own 56 h)) refl
+windows_32-same own h = rw (lt-ltb _ _ (four-bytes own 0 h), lt-ltb _ _ (four-bytes own 44 h), lt-ltb _ _ (four-bytes own 48 h), lt-ltb _ _ (four-bytes own 52 h), lt-ltb _ _ (four-bytes own 56 h)) refl
 
 form_32 : (h : OptionalHeader) (s : StandardFields32) (w : WindowsFields32) → h.standard_fields.magic ≡ 0x10B → standard_to_32 h.standard_fields ≡ s → windows_to_32 h.windows_fields ≡ Some w
     → optional_bytes Little h ≡ Some (encoding Little (standard_32_fields s) ++ (encoding Little (windows_32_fields w) ++ (encoding Little (entries_fields h.data_directories.data_directories) ++ [])))

@@ -1,7 +1,7 @@
 -- The entries of a Rich header that was read are its data.
 use Rattle.std.proofs.Common.{◌≡◌, ℕ, Bool, zero, suc, ◌+◌, ◌-◌, ◌*◌, ◌/◌, ◌%◌, ◌<◌, ◌≤◌, List, ◌++◌, length, map, take, drop, take_all, refl, sym, ap, subst, ◌∙◌, inl, inr, arith, ◌&&◌, ◌==◌, nat_lt, Option, Some, None, slice_range, flat_map, take-add, unwrap_or}
 use Rattle.std.specs.List.{range_with_len}
-use Rattle.std.specs.Int.Bits.{bit_xor, xor_assoc, xor_self, xor_zero_r}
+use Rattle.std.specs.Int.Bits.{bit_xor}
 use Rattle.std.proofs.lemmas.Bool.{cases_lt, eqb-true, and_parts}
 use Rattle.std.proofs.lemmas.List.{drop-drop, get_or-drop, get_or-take, get_or_past, length-drop, length-take, length-take-le, take-append-drop}
 use Rattle.std.proofs.lemmas.List.Concat.{flat_map-cons}
@@ -19,10 +19,7 @@ use Rattle.goblin_pe_head.specs.RichMetadata.{AreEntriesOf, metadata_at, metadat
 use Rattle.goblin_pe_head.specs.declared.header.rich.RichHeader.{RichHeader}
 use Rattle.goblin_pe_head.specs.declared.header.rich.RichMetadata.{RichMetadata}
 use Rattle.goblin_pe_head.proofs.RichPlaces.{before_marker, between, long_enough, of_file, stored, stored-high}
-
--- a word under the key twice is the word
-under_twice : (word key : ℕ) → bit_xor (bit_xor word key) key ≡ word
-under_twice word key = xor_assoc word key key ∙ ap (bit_xor word) (xor_self key) ∙ xor_zero_r word
+use Rattle.goblin_pe_head.proofs.WordPlaces.{cancelled}
 
 -- an entry is stored as the bytes that it was read from
 stored_entry-metadata_at : (key : ℕ) (bytes : List ℕ) (p : ℕ) → IsBytes bytes → p + 8 ≤ length bytes → stored_entry key (metadata_at key bytes p) ≡ take 8 (drop p bytes)
@@ -30,9 +27,9 @@ stored_entry-metadata_at key bytes p h le =
     let w = word_under key bytes p in
     let whole : w / 65536 * 65536 + w % 65536 ≡ w = omega arith in
     let first : number_bytes Little 4 (bit_xor (w / 65536 * 65536 + w % 65536) key) ≡ slice_range bytes p (p + 4) =
-    ap (λ (x : ℕ). number_bytes Little 4 (bit_xor x key)) whole ∙ ap (number_bytes Little 4) (under_twice (word_at bytes p) key) ∙ number_bytes-number Little 4 bytes p h (omega arith) in
+    ap (λ (x : ℕ). number_bytes Little 4 (bit_xor x key)) whole ∙ ap (number_bytes Little 4) (cancelled (word_at bytes p) key) ∙ number_bytes-number Little 4 bytes p h (omega arith) in
     let second : number_bytes Little 4 (bit_xor (word_under key bytes (p + 4)) key) ≡ slice_range bytes (p + 4) (p + 4 + 4) =
-    ap (number_bytes Little 4) (under_twice (word_at bytes (p + 4)) key) ∙ number_bytes-number Little 4 bytes (p + 4) h (omega arith) in
+    ap (number_bytes Little 4) (cancelled (word_at bytes (p + 4)) key) ∙ number_bytes-number Little 4 bytes (p + 4) h (omega arith) in
     let e1 : p + 4 - p ≡ 4 = omega arith in
     let e2 : p + 4 + 4 - (p + 4) ≡ 4 = omega arith in
     rw (first, second, e1, e2) (sym (take-add 4 4 (drop p bytes) ∙ ap (λ (xs : List ℕ). take 4 (drop p bytes) ++ take 4 xs) (drop-drop 4 p bytes)))
@@ -92,7 +89,7 @@ IsBytes-range bytes p q h = IsBytes-take (q - p) (drop p bytes) (IsBytes-drop p 
 least_below-lt : (n : ℕ) (test : ℕ → Bool) (i : ℕ) → least_below n test ≡ Some i → i < n
 least_below-lt n test i e = let is = find_is test n 0 i e in omega (arith, is.high)
 
-words_below : (o : Option ℕ) (n : ℕ) → ((k : ℕ) → o ≡ Some k → k < n) → unwrap_or o n ≤ n
+pub words_below : (o : Option ℕ) (n : ℕ) → ((k : ℕ) → o ≡ Some k → k < n) → unwrap_or o n ≤ n
 words_below None n h = omega arith
 words_below (Some k) n h = let lt = h k refl in omega (arith, lt)
 

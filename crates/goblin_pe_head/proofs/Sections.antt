@@ -9,7 +9,7 @@ use Rattle.goblin_base.specs.declared.error.ErrorOf.{ErrorOf}
 use Rattle.goblin_base.specs.Reading.{Reading, Reads, ReadsOrMemory}
 use Rattle.goblin_base.specs.Answers as answers
 use Rattle.goblin_base.specs.Answers.{all_at, all_of}
-use Rattle.goblin_base.proofs.Steps.{all_at-none, unmapped}
+use Rattle.goblin_base.proofs.Steps.{all_at-none, all_of-map, unmapped}
 use Rattle.readings.specs.Reads.{◌>>=◌, each, mapped, needs}
 use Rattle.goblin_pe_sect.specs.SectionReadings.{named_section_at}
 use Rattle.goblin_pe_sect.specs.SectionTable.{Section, unnamed}
@@ -102,19 +102,6 @@ by_displacement view (Ok x) shift size d n bytes p is made = rw is made
 by_displacement view (Err e) shift size d n bytes p is made = rw is made
 
 -- ---- records of sections that are moved
-
-made_first : {A B : Type 0} (f : A → B) (a : A) (rest : Option (List A))
-    → answers.◌>>=◌ (option_map (map f) rest) (λ more. Some (f a ∷ more))
-    ≡ option_map (map f) (answers.◌>>=◌ rest (λ more. Some (a ∷ more)))
-made_first f a None = refl
-made_first f a (Some more) = refl
-
--- what is made of each value is made of all
-all_of-map : {A B : Type 0} (f : A → B) (values : List (Option A))
-    → all_of (map (option_map f) values) ≡ option_map (map f) (all_of values)
-all_of-map f [] = refl
-all_of-map f (None ∷ values) = refl
-all_of-map f (Some a ∷ values) = rw (all_of-map f values) (made_first f a (all_of values))
 
 all_at-map : {A B : Type 0} (f : A → B) (value : ℕ → Option A) (n : ℕ)
     → all_at (λ i. option_map f (value i)) n ≡ option_map (map f) (all_at value n)

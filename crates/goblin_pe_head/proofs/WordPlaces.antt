@@ -52,7 +52,8 @@ passed_over bytes at count run word typed inside others within before k low high
       another_word bytes k word (typed k) (λ same. others (k - at) (omega (arith, le, low)) (byte ∙ same))
 ]
 
-cancelled : (a key : ℕ) → bit_xor (bit_xor a key) key ≡ a
+-- a word under the key twice is the word
+pub cancelled : (a key : ℕ) → bit_xor (bit_xor a key) key ≡ a
 cancelled a key = xor_assoc a key key ∙ ap (bit_xor a) (xor_self key) ∙ xor_zero_r a
 
 same_test : (word key marker : ℕ) → (word == bit_xor marker key) ≡ (bit_xor word key == marker)

@@ -1,35 +1,10 @@
 -- The slots before the stop of a table, and what a budget of steps has left.
-use Rattle.std.proofs.Common.{◌≡◌, ◌<◌, ◌≤◌, ◌+◌, ◌-◌, ◌*◌, ℕ, zero, suc, true, false, List, length, Option, Some, None, refl, ap, ◌∙◌, arith, inl, inr}
-use Rattle.std.proofs.lemmas.Bool.{cases_Bool}
-use Rattle.goblin_base.specs.Tables.{SlotFormat, ends_table, slot_at, slot_place, stop}
-use Rattle.goblin_base.proofs.Below.{least-before}
-use Rattle.goblin_base.proofs.SlotTables.{ends, reads, stop-after, stop-is}
+use Rattle.std.proofs.Common.{◌≡◌, ◌≤◌, ◌+◌, ◌-◌, ℕ, zero, suc, false, List, Option, Some, None, refl, ap, ◌∙◌, arith}
+use Rattle.goblin_base.specs.Tables.{SlotFormat, slot_at, slot_place, stop}
+use Rattle.goblin_base.proofs.SlotTables.{reads}
 use Rattle.goblin_pe_import.specs.TableSums.{amount_of, sum_below, sum_of_slots}
 use Rattle.goblin_pe_import.specs.Steps.{AreCounted, HasNotGrown, HasSteps, spent}
-
-module _ {V : Type 0} (slots : SlotFormat V) (bytes : List ℕ) (o : ℕ)
-    (wide : 1 ≤ slots.entry.width) where
-  -- a table that ends at once
-  pub stop-here : (end : Option V) → reads slots bytes o ≡ end
-      → ends_table slots.is_last end ≡ true → stop slots bytes o ≡ 0
-  stop-here end r e =
-      let here : o + slots.entry.width * 0 ≡ o = omega arith in
-      stop-is slots bytes o 0 wide (λ j below. absurd (omega (arith, below)))
-      (ap (λ (p : ℕ). ends_table slots.is_last (reads slots bytes p)) here
-      ∙ ap (ends_table slots.is_last) r ∙ e)
-
-  stop-ends : ends slots bytes o (stop slots bytes o) ≡ true
-  unfolding stop
-  stop-ends =
-      let n = stop slots bytes o in
-      elim (cases_Bool (ends slots bytes o n)) [
-        | inl is ↦ is
-        | inr not ↦
-            let after : n < n =
-            stop-after slots bytes o n wide (least-before (ends slots bytes o) (length bytes))
-            not in
-            absurd (omega (arith, after))
-      ]
+use Rattle.readings.proofs.Walks.{stop-next}
 
 module _ {V : Type 0} (slots : SlotFormat V) (bytes : List ℕ) (o : ℕ)
     (wide : 1 ≤ slots.entry.width) (v : V) (r : reads slots bytes o ≡ Some v)
@@ -45,23 +20,6 @@ module _ {V : Type 0} (slots : SlotFormat V) (bytes : List ℕ) (o : ℕ)
       let at : slot_place slots o 0 ≡ o = omega arith in
       ap (reads slots bytes) at ∙ r
 
-  moved : (i : ℕ) → ends slots bytes o (suc i) ≡ ends slots bytes next i
-  moved i = ap (λ (p : ℕ). ends_table slots.is_last (reads slots bytes p)) (shifted i)
-
-  -- one slot more than from the next one on
-  pub stop-next : stop slots bytes o ≡ suc (stop slots bytes next)
-  unfolding stop
-  stop-next =
-      let n = stop slots bytes next in
-      stop-is slots bytes o (suc n) wide
-      (before n (least-before (ends slots bytes next) (length bytes)))
-      (moved n ∙ stop-ends slots bytes next wide)
-    where
-      before : (n : ℕ) → ((j : ℕ) → j < n → ends slots bytes next j ≡ false)
-          → (j : ℕ) → j < suc n → ends slots bytes o j ≡ false
-      before n later zero below = ap (ends_table slots.is_last) here ∙ going
-      before n later (suc j) below = moved j ∙ later j (omega (arith, below))
-
   first-below : (f g : ℕ → ℕ) (a : ℕ) → f 0 ≡ a → ((i : ℕ) → f (suc i) ≡ g i) → (n : ℕ)
       → sum_below f (suc n) ≡ a + sum_below g n
   unfolding sum_below
@@ -73,7 +31,8 @@ module _ {V : Type 0} (slots : SlotFormat V) (bytes : List ℕ) (o : ℕ)
       → sum_of_slots slots amount bytes o ≡ amount v + sum_of_slots slots amount bytes next
   unfolding sum_of_slots
   sum-first amount =
-      ap (sum_below (λ i. amount_of amount (slot_at slots bytes o i))) stop-next
+      ap (sum_below (λ i. amount_of amount (slot_at slots bytes o i)))
+      (stop-next slots bytes o wide v r going)
       ∙ first-below (λ i. amount_of amount (slot_at slots bytes o i))
       (λ i. amount_of amount (slot_at slots bytes next i)) (amount v)
       (ap (amount_of amount) here)

@@ -101,7 +101,8 @@ module _ {V B : Type 0} (needs_end : Bool) (is_last : V → Bool) (items : V →
 
 module _ {V : Type 0} (slots : SlotFormat V) (bytes : List ℕ) (o : ℕ)
     (wide : 1 ≤ slots.entry.width) where
-  stop-first : (end : Option V) → reads slots bytes o ≡ end
+  -- a table that ends at once
+  pub stop-first : (end : Option V) → reads slots bytes o ≡ end
       → ends_table slots.is_last end ≡ true → stop slots bytes o ≡ 0
   stop-first end r e =
       let here : o + slots.entry.width * 0 ≡ o = omega arith in
@@ -133,7 +134,8 @@ module _ {V : Type 0} (slots : SlotFormat V) (bytes : List ℕ) (o : ℕ)
       let at : slot_place slots o 0 ≡ o = omega arith in
       ap (reads slots bytes) at ∙ r
 
-  stop-next : stop slots bytes o ≡ suc (stop slots bytes (o + slots.entry.width))
+  -- one slot more than from the next one on
+  pub stop-next : stop slots bytes o ≡ suc (stop slots bytes (o + slots.entry.width))
   unfolding stop
   stop-next =
       let next = o + slots.entry.width in

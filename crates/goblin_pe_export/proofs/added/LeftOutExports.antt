@@ -1,5 +1,5 @@
 -- A name pointer gives an export or is left out.
-use Rattle.std.proofs.Common.{◌≡◌, ◌+◌, ◌-◌, ℕ, suc, Bool, true, false, List, [], ◌∷◌, Option, Some, None, cond, map, length, ap, arith, refl, subst, sym, ◌∙◌, count_by, not, option_map, map-id, is_some}
+use Rattle.std.proofs.Common.{◌≡◌, ◌+◌, ◌-◌, ℕ, suc, Bool, true, false, List, [], ◌∷◌, Option, Some, None, cond, map, length, ap, arith, refl, subst, sym, ◌∙◌, count_by, not, map-id, is_some}
 use Rattle.std.specs.Int.{from_bool}
 use Rattle.std.specs.List.{cons_option, filter_map, range_with_len}
 use Rattle.std.proofs.lemmas.List.Sums.{sum_by-append}
@@ -10,10 +10,7 @@ use Rattle.goblin_pe_export.specs.added.ExportWalks.{numbered_from}
 use Rattle.goblin_pe_export.specs.ExportReadings as reading
 use Rattle.goblin_pe_export.specs.added.LeftOutExports.{gives_export, pointers_left_out}
 use Rattle.goblin_pe_sect.specs.Addresses.{Addressing}
-
-some-mapped : {A B : Type 0} (f : A → B) (o : Option A) → is_some o ≡ is_some (option_map f o)
-some-mapped f (Some x) = refl
-some-mapped f None = refl
+use Rattle.readings.proofs.added.Questions.{is_some-seen}
 
 as-number : (b : Bool) → cond b 1 0 ≡ from_bool b
 as-number true = refl
@@ -41,7 +38,7 @@ module _ {X Y : Type 0} (f : X → Option Y) (p : X → Bool) (same : (x : X) �
 
 numbered-some : (addressing : Addressing) (bytes : List ℕ) (tables : ExportTables) (x : ℕ) → gives_export addressing bytes tables x ≡ is_some (numbered_export addressing bytes tables x)
 unfolding reading.export_row
-numbered-some addressing bytes tables x = sym (some-mapped (λ n. n.row) (numbered_export addressing bytes tables x))
+numbered-some addressing bytes tables x = sym (is_some-seen (λ n. n.row) (numbered_export addressing bytes tables x))
 
 -- each name pointer is listed or left out
 pub listed_or_left_out : (addressing : Addressing) (bytes : List ℕ) (tables : ExportTables)

@@ -15,7 +15,7 @@ use Rattle.goblin_base.specs.Tables.{or_left_out, slot_at, slot_place, slot_tabl
 use Rattle.goblin_base.proofs.Below.{each_below-there, least-before}
 use Rattle.goblin_base.proofs.Records.{record_at-some}
 use Rattle.goblin_base.proofs.Footprints.{same-all_at}
-use Rattle.goblin_base.proofs.Steps.{all_at-more, all_at-zero, same_value, step}
+use Rattle.goblin_base.proofs.Steps.{all_at-more, all_at-zero, all_of-map, same_value, step}
 use Rattle.readings.specs.Reads.{given, in_its_place, mapped, pair_of, pick, with_slots}
 use Rattle.readings.specs.Walks.{IsWalkOf, end_items, items_at, refusal_of, table_walk}
 use Rattle.readings.proofs.WalkValues.{all_of-append, all_of-until, joined-end, walk-holds}
@@ -202,20 +202,6 @@ same_refusal false table bytes kept = none_missing (table.value bytes) kept
     none_missing None is = absurd cc
     none_missing (Some x) is = refl
 
-all_of-mapped : {A B : Type 0} (f : A → B) (items : List (Option A))
-    → all_of (map (option_map f) items) ≡ option_map (map f) (all_of items)
-all_of-mapped f [] = refl
-all_of-mapped f (None ∷ items) = refl
-all_of-mapped {A} {B} f (Some x ∷ items) =
-    ap (λ (o : Option (List B)). o >>= λ others. Some (f x ∷ others)) (all_of-mapped f items)
-    ∙ later (all_of items)
-  where
-    later : (o : Option (List A))
-        → (option_map (map f) o >>= λ others. Some (f x ∷ others))
-        ≡ option_map (map f) (o >>= λ others. Some (x ∷ others))
-    later None = refl
-    later (Some xs) = refl
-
 library-value : {W A B L R X : Type 0} (strict : Bool) (make : (A × B) × R → L) (g : W → B)
     (imports_in : W → List X) (f : L → List X) (text : A) (walked : Option W)
     (addresses : Option R) → (not strict && is_none addresses) ≡ false
@@ -350,7 +336,7 @@ module _ (strict : Bool) (format : Format EntryValue) (addressing : Addressing)
                   ∙ ap
                   (λ (o : Option (List NumberedImport)). join o
                   (all_of {A = NumberedImport} (refusal_of (table.value bytes))))
-                  (all_of-mapped (import_in dll) entries)
+                  (all_of-map (import_in dll) entries)
                   ∙ library-value strict _ (in_two_if at) (map (import_in dll)) imports_here dll
                   (all_of entries) (table.value bytes) kept
                   (λ permissive.

@@ -6,6 +6,7 @@ use Rattle.goblin_base.specs.Tables.{Format, SlotFormat, ends_table, slot_at, st
 use Rattle.goblin_base.proofs.Below.{least-le}
 use Rattle.goblin_base.proofs.SlotTables.{ends, reach-stop, reads}
 use Rattle.readings.proofs.Loops.{AtRead}
+use Rattle.readings.proofs.Walks.{stop-first}
 use Rattle.goblin_pe_import.specs.ImportEntries.{EntryValue, entry_slots}
 use Rattle.goblin_pe_import.specs.LookupReadings.{entry_number}
 use Rattle.goblin_pe_import.proofs.LookupWalk.{in_slot}
@@ -20,7 +21,7 @@ use Rattle.goblin_pe_import.specs.declared.import.directory_entry.ImportDirector
 use Rattle.goblin_pe_import.specs.declared.added.imports.Walk.{Walk}
 use Rattle.goblin_pe_sect.specs.Addresses.{map_of, reads_strictly, Addressing}
 use Rattle.goblin_pe_sect.specs.declared.address_map.AddressMap.{AddressMap}
-use Rattle.goblin_pe_import.proofs.SlotSteps.{stop-here, sum-first}
+use Rattle.goblin_pe_import.proofs.SlotSteps.{sum-first}
 
 -- ---- the slots before a stop
 
@@ -36,7 +37,7 @@ pub sum-here : {V : Type 0} (slots : SlotFormat V) (amount : V → ℕ) (bytes :
     → ends_table slots.is_last end ≡ true → sum_of_slots slots amount bytes o ≡ 0
 unfolding sum_of_slots sum_below
 sum-here slots amount bytes o wide end r e =
-    ap (sum_below (λ i. amount_of amount (slot_at slots bytes o i))) (stop-here slots bytes o wide end r e)
+    ap (sum_below (λ i. amount_of amount (slot_at slots bytes o i))) (stop-first slots bytes o wide end r e)
 
 -- ---- an address table
 

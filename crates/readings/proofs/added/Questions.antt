@@ -11,7 +11,7 @@ unfolding has_any
 is_some-find p [] = refl
 is_some-find p (x ∷ xs) = one-or-later (p x) x (find p xs) ∙ ap (λ (b : Bool). p x || b) (is_some-find p xs)
 
-is_some-seen : {X A : Type 0} (view : X → A) (found : Option X) → is_some found ≡ is_some (option_map view found)
+pub is_some-seen : {X A : Type 0} (view : X → A) (found : Option X) → is_some found ≡ is_some (option_map view found)
 is_some-seen view None = refl
 is_some-seen view (Some x) = refl
 

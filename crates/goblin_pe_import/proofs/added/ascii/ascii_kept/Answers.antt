@@ -1,7 +1,7 @@
 use Rattle.std.proofs.Common.{◌≤◌, Some, arith, refl}
 use Rattle.goblin_pe_import.proofs.LookupWalk.{rest-kept, rest-start}
 use Rattle.goblin_pe_import.specs.ImportEntries.{entry_slots}
-use Rattle.goblin_pe_import.proofs.SlotSteps.{stop-next}
+use Rattle.readings.proofs.Walks.{stop-next}
 use Rattle.goblin_pe_import.proofs.added.ascii.ascii_kept.Goals as goal
 
 pub returns-clause-steps : goal.returns-clause-steps

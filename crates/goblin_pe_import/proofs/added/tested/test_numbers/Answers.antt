@@ -5,7 +5,7 @@ use Rattle.goblin_base.specs.declared.error.ReadFault.TheVariants.{BadOffset}
 use Rattle.goblin_pe_import.specs.ImportEntries.{entry_slots}
 use Rattle.goblin_pe_import.specs.LookupReadings.{entry_number, entry_value_at}
 use Rattle.goblin_pe_import.proofs.added.AddressTables.{entry_there, record_past}
-use Rattle.goblin_pe_import.proofs.SlotSteps.{stop-here}
+use Rattle.readings.proofs.Walks.{stop-first}
 use Rattle.goblin_pe_import.proofs.added.StepsAhead.{stop-reached}
 use Rattle.goblin_pe_import.proofs.added.tested.test_numbers.Goals as goal
 
@@ -14,7 +14,7 @@ returns-then-bytes-offset-clause-counted g c =
     let wide : 1 ≤ g.T.Bitfield.format.width = omega (arith, c.size_of-size.ensures.width, c.size_of-size.ensures.positive) in
     let past : length c.args.bytes.now ≤ c.args.offset = omega (arith, c.if-bytes-offset.true) in
     let none = record_past g.T.Bitfield.format.width g.T.Bitfield.format.value_of c.args.bytes.now c.args.offset past in
-    sym (stop-here (entry_slots g.T.Bitfield.format) c.args.bytes.now c.args.offset wide None none refl)
+    sym (stop-first (entry_slots g.T.Bitfield.format) c.args.bytes.now c.args.offset wide None none refl)
 
 pub returns-then-bytes-offset-clause-tested : goal.returns-then-bytes-offset-clause-tested
 returns-then-bytes-offset-clause-tested g c =

@@ -6,8 +6,8 @@ use Rattle.goblin_pe_import.specs.Steps.{AreCounted, slots_ahead}
 use Rattle.goblin_pe_import.proofs.LookupWalk.{refused-strictly, rest-end, rest-kept}
 use Rattle.goblin_pe_import.proofs.LookupWalk.{rest-missing, rest-refused, rest-skip, rest-start}
 use Rattle.goblin_pe_import.proofs.Modes.{ends, lacks_end}
-use Rattle.goblin_pe_import.proofs.SlotSteps.{counted-given, counted-one, counted-start, grown_none}
-use Rattle.goblin_pe_import.proofs.SlotSteps.{grown_spent, stop-here, stop-next}
+use Rattle.goblin_pe_import.proofs.SlotSteps.{counted-given, counted-one, counted-start, grown_none, grown_spent}
+use Rattle.readings.proofs.Walks.{stop-first, stop-next}
 use Rattle.goblin_pe_import.proofs.import.kept.next_kept_within.Goals as goal
 
 pub slots-init : goal.slots-init
@@ -25,7 +25,7 @@ returns-then-may_end-clause-counted g c =
     let wide : 1 ≤ g.T.Bitfield.format.width = omega (arith, c.size_of-size.ensures.width, c.size_of-size.ensures.positive) in
     let format = g.T.Bitfield.format in
     subst (λ (n : ℕ). AreCounted c.args.steps.now c.slots.steps (slots_ahead format c.args.bytes.now c.args.place.now) n)
-    (stop-here (entry_slots format) c.args.bytes.now c.slots.at wide _ refl c.in_default-next_entry.ensures) c.slots.invariant.2
+    (stop-first (entry_slots format) c.args.bytes.now c.slots.at wide _ refl c.in_default-next_entry.ensures) c.slots.invariant.2
 
 pub returns-in_default-next_entry-clause-steps : goal.returns-in_default-next_entry-clause-steps
 returns-in_default-next_entry-clause-steps g c =
