@@ -1,5 +1,5 @@
 -- A text that is cut behind its first character that reaches past a limit.
-use Rattle.std.proofs.Common.{◌≡◌, ◌<◌, ◌≤◌, ℕ, ◌+◌, ◌-◌, min, List, [], ◌∷◌, length, drop, take, take_all, refl, inl, inr, add-zero, ap, sym, ◌∙◌, arith, slice_range, position, Some, None, nat_lt, length-drop, length-take}
+use Rattle.std.proofs.Common.{◌≡◌, ◌<◌, ◌≤◌, ℕ, ◌+◌, ◌-◌, min, List, length, drop, take, take_all, refl, inl, inr, add-zero, ap, sym, ◌∙◌, arith, slice_range, position, Some, None, nat_lt, length-drop, length-take}
 use Rattle.std.specs.List.{position_or_len}
 use Rattle.std.proofs.lemmas.Bool.{cases_lt, le-ltb, lt-ltb, ltb-false, ltb-true}
 use Rattle.std.proofs.lemmas.Option.{cond_some}
@@ -11,6 +11,7 @@ use Rattle.goblin_base.proofs.Texts.{test_fails}
 use Rattle.std.proofs.Common.{Bool, true, false, cond, not, ◌==◌, Option, option_and_then, take-take, get_or-take, slice_index}
 use Rattle.std.specs.Str.{is_utf8}
 use Rattle.std.proofs.lemmas.List.Sums.{fails_before_first, passes_at_first, position_or_len_is, prefix_len-le-length}
+use Rattle.std.proofs.lemmas.List.{nil_from_length}
 use Rattle.goblin_base.specs.declared.error.ErrorOf.{ErrorOf}
 use Rattle.goblin_base.specs.Answers.{FirstFault, IsMemory, IsNoText, IsOffsetFault, IsTextFaultWithin}
 use Rattle.goblin_base.specs.Bytes.{stretch, stretch_at, text_at, text_of, text_within}
@@ -72,12 +73,8 @@ pub window_none : (bytes : List ℕ) (p n : ℕ) → length bytes ≤ p
     → cut_window bytes p n ≡ slice_range bytes 0 0
 window_none bytes p n past =
     let width : p + n + 4 - p ≡ n + 4 = omega arith in
-    empty (cut_window bytes p n)
+    nil_from_length (cut_window bytes p n)
     (omega (arith, past, length-take (p + n + 4 - p) (drop p bytes), length-drop p bytes))
-  where
-    empty : (xs : List ℕ) → length xs ≡ 0 → xs ≡ []
-    empty [] none = refl
-    empty (x ∷ xs) none = absurd (omega (arith, none))
 
 pub ruleset window = (window_all, window_part, window_none)
 

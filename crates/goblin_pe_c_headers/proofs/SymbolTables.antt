@@ -1,32 +1,30 @@
 -- Where a symbol table and its string table lie.
-use Rattle.std.proofs.Common.{◌≡◌, ℕ, ◌+◌, ◌-◌, ◌*◌, Bool, true, false, cond, List, [], length, refl, ap, sym, subst, ◌∙◌, arith, inl, inr, ◌⊎◌, ◌==◌, drop, Option, Some, None, nat_le, nat_lt, option_map, slice_range, le-leb, leb-true, length-drop, length-take}
+use Rattle.std.proofs.Common.{◌≡◌, ℕ, ◌+◌, ◌-◌, ◌*◌, Bool, true, false, cond, List, [], length, refl, ap, sym, subst, ◌∙◌, arith, inl, inr, ◌==◌, drop, Option, Some, None, nat_le, nat_lt, option_map, slice_range, le-leb, leb-true, length-drop, length-take}
 use Rattle.std.proofs.lemmas.Option.{cond_some}
+use Rattle.std.proofs.lemmas.Bool.{cases_Bool}
 use Rattle.std.specs.Option.{unwrap_or}
 use Rattle.goblin_base.specs.declared.endian.Endian.TheVariants.{Little}
 use Rattle.goblin_base.specs.Bytes.{number_at, slice_at, text_of}
 use Rattle.goblin_base.specs.Parts.{bytes_between}
 use Rattle.goblin_base.specs.Strtab.{string_table}
 use Rattle.goblin_base.proofs.Steps.{mapped, same_value, step}
+use Rattle.goblin_base.proofs.TextEnds.{cond_some_by}
 use Rattle.goblin_pe_head.specs.declared.header.coff.CoffHeader.{CoffHeader}
 use Rattle.goblin_pe_head.specs.CoffHeader.{string_table_offset, symbols_end}
 use Rattle.goblin_pe_head.specs.CoffReadings.{strings_at, strings_of, symbols_of}
 use Rattle.goblin_pe_c_headers.specs.Symbols.{FindsTables, found_tables, symbol_tables, tables_with, texts_at, texts_of}
 
 -- the texts of a string table are the bytes where they lie
-texts_inside : (inside : Bool) (text : Option (List ℕ)) (s : List ℕ) → cond inside text None ≡ Some s → (inside ≡ true) × (text ≡ Some s)
-texts_inside true text s is = (refl, is)
-texts_inside false text s is = absurd (cc is)
-
 texts_long : (bytes : List ℕ) (p n : ℕ) (s : List ℕ) → string_table bytes p n ≡ Some s → length s ≡ n
 texts_long bytes p n s is =
-    let table = texts_inside (nat_le (p + n) (length bytes)) (text_of (slice_range bytes p (p + n))) s is in
+    let table = cond_some_by (nat_le (p + n) (length bytes)) (text_of (slice_range bytes p (p + n))) s is in
     let same : s ≡ slice_range bytes p (p + n) = sym ((cond_some _ _ s table.1).1) in
     let le = leb-true (p + n) (length bytes) table.0 in
     ap length same ∙ omega (arith, length-take (p + n - p) (drop p bytes), length-drop p bytes, le)
 
 texts_there : (bytes : List ℕ) (p n : ℕ) (s : List ℕ) → string_table bytes p n ≡ Some s → bytes_between bytes p (p + length s) ≡ Some s
 texts_there bytes p n s is =
-    let table = texts_inside (nat_le (p + n) (length bytes)) (text_of (slice_range bytes p (p + n))) s is in
+    let table = cond_some_by (nat_le (p + n) (length bytes)) (text_of (slice_range bytes p (p + n))) s is in
     let same : s ≡ slice_range bytes p (p + n) = sym ((cond_some _ _ s table.1).1) in
     let long = texts_long bytes p n s is in
     let begins : nat_le p (p + n) ≡ true = le-leb p (p + n) (omega arith) in
@@ -79,14 +77,10 @@ with_tables header bytes x some is =
     (subst (λ (symbols : Option (List ℕ)). Leads header bytes (symbols, both.value)) records.made
     (subst (λ (texts : Option (List ℕ)). Leads header bytes (Some records.value, texts)) strings.made holds))
 
-either : (b : Bool) → (b ≡ true) ⊎ (b ≡ false)
-either true = inl refl
-either false = inr refl
-
 -- tables that were read are led to
 leads : (header : CoffHeader) (bytes : List ℕ) (x : Option (List ℕ) × Option (List ℕ)) → (symbol_tables header).value bytes ≡ Some x → Leads header bytes x
 leads header bytes x is =
-    elim (either (header.pointer_to_symbol_table == 0)) [
+    elim (cases_Bool (header.pointer_to_symbol_table == 0)) [
       | inl none ↦ without_tables header bytes x none is
       | inr some ↦ with_tables header bytes x some is
     ]
@@ -127,7 +121,7 @@ some_texts header bytes strings some is =
 
 has_texts : (header : CoffHeader) (bytes : List ℕ) (strings : Option (List ℕ)) → (strings_of header).value bytes ≡ Some strings → HasTexts header bytes strings
 has_texts header bytes strings is =
-    elim (either (header.pointer_to_symbol_table == 0)) [
+    elim (cases_Bool (header.pointer_to_symbol_table == 0)) [
       | inl none ↦ no_texts header bytes strings none is
       | inr some ↦ some_texts header bytes strings some is
     ]

@@ -1,5 +1,6 @@
 -- A header that strict mode read is written back from its record.
 use Rattle.std.proofs.Common.{◌≡◌, ◌∙◌, ◌++◌, ◌+◌, ◌-◌, ◌≤◌, ◌==◌, ◌&&◌, ℕ, zero, suc, Bool, true, false, cond, length, List, [], ◌∷◌, map, drop, refl, sym, ap, arith, rules, tests, Option, Some, None, nat_le, nat_lt, slice_range, leb-true, length-drop, length-take, ne_eqb}
+use Rattle.std.proofs.lemmas.List.{nil_from_length}
 use Rattle.std.specs.Option.{is_some}
 use Rattle.goblin_base.specs.declared.endian.Endian.TheVariants.{Little}
 use Rattle.goblin_base.specs.Parts.{bytes_between}
@@ -56,11 +57,6 @@ both-true true true xs s is = (refl, refl, same_value xs s is)
 both-true true false xs s is = absurd (cc is)
 both-true false b xs s is = absurd (cc is)
 
--- no bytes
-empty : (xs : List ℕ) → length xs ≡ 0 → xs ≡ []
-empty [] none = refl
-empty (x ∷ xs) none = absurd (omega (arith, none))
-
 -- the stub that strict mode read is in the file
 stub-there : (bytes : List ℕ) (p : ℕ) (stub : List ℕ) → bytes_between bytes 64 p ≡ Some stub
     → (nat_lt p 64 ≡ false) × ((pick (length stub == 0) (given []) (slice_at 64 (length stub))).value bytes ≡ Some stub)
@@ -74,7 +70,7 @@ stub-there bytes p stub is =
   where
     by : (n : ℕ) → length stub ≡ n → 64 ≤ p → p ≤ length bytes → length stub ≡ p - 64 → slice_range bytes 64 p ≡ stub
         → (pick (length stub == 0) (given []) (slice_at 64 (length stub))).value bytes ≡ Some stub
-    by zero none begins ends size same = rw none (ap (λ (xs : List ℕ). Some xs) (sym (empty stub none)))
+    by zero none begins ends size same = rw none (ap (λ (xs : List ℕ). Some xs) (sym (nil_from_length stub none)))
     by (suc n) some begins ends size same =
         let end : 64 + suc n ≡ p = omega (arith, some, size, begins) in
         let more : (suc n == 0) ≡ false = ne_eqb (suc n) 0 (λ e. omega (arith, e)) in

@@ -1,24 +1,16 @@
 -- The slots before the stop of a table, and what a budget of steps has left.
 use Rattle.std.proofs.Common.{◌≡◌, ◌≤◌, ◌+◌, ◌-◌, ℕ, zero, suc, false, List, Option, Some, None, refl, ap, ◌∙◌, arith}
-use Rattle.goblin_base.specs.Tables.{SlotFormat, slot_at, slot_place, stop}
+use Rattle.goblin_base.specs.Tables.{SlotFormat, slot_at, stop}
 use Rattle.goblin_base.proofs.SlotTables.{reads}
 use Rattle.goblin_pe_import.specs.TableSums.{amount_of, sum_below, sum_of_slots}
 use Rattle.goblin_pe_import.specs.Steps.{AreCounted, HasNotGrown, HasSteps, spent}
-use Rattle.readings.proofs.Walks.{stop-next}
+use Rattle.readings.proofs.Walks.{here, shifted, stop-next}
 
 module _ {V : Type 0} (slots : SlotFormat V) (bytes : List ℕ) (o : ℕ)
     (wide : 1 ≤ slots.entry.width) (v : V) (r : reads slots bytes o ≡ Some v)
     (going : slots.is_last v ≡ false) where
   abbrev next : ℕ
   next = o + slots.entry.width
-
-  shifted : (i : ℕ) → slot_place slots o (suc i) ≡ slot_place slots next i
-  shifted i = omega arith
-
-  here : slot_at slots bytes o 0 ≡ Some v
-  here =
-      let at : slot_place slots o 0 ≡ o = omega arith in
-      ap (reads slots bytes) at ∙ r
 
   first-below : (f g : ℕ → ℕ) (a : ℕ) → f 0 ≡ a → ((i : ℕ) → f (suc i) ≡ g i) → (n : ℕ)
       → sum_below f (suc n) ≡ a + sum_below g n
@@ -35,8 +27,9 @@ module _ {V : Type 0} (slots : SlotFormat V) (bytes : List ℕ) (o : ℕ)
       (stop-next slots bytes o wide v r going)
       ∙ first-below (λ i. amount_of amount (slot_at slots bytes o i))
       (λ i. amount_of amount (slot_at slots bytes next i)) (amount v)
-      (ap (amount_of amount) here)
-      (λ i. ap (λ (p : ℕ). amount_of amount (reads slots bytes p)) (shifted i)) (stop slots bytes next)
+      (ap (amount_of amount) (here slots bytes o wide v r going))
+      (λ i. ap (λ (p : ℕ). amount_of amount (reads slots bytes p)) (shifted slots bytes o wide v r going i))
+      (stop slots bytes next)
 
 pub counted-start : (steps : Option ℕ) (n : ℕ) → AreCounted steps steps n n
 counted-start None n = refl

@@ -1,7 +1,7 @@
 -- Directories that were read are written as they stood, with zeros after the last, and one that was written is read again.
-use Rattle.std.proofs.Common.{◌≡◌, ℕ, zero, suc, ◌+◌, ◌-◌, ◌*◌, ◌≤◌, true, false, nat_le, List, ◌∷◌, ◌++◌, length, drop, map, Option, Some, None, refl, sym, ap, ◌∙◌, inl, inr, arith, Bool, cond, take, replicate, ◌⊎◌, ◌==◌, ◌&&◌, ◌||◌, slice_range, flat_map, option_map, take-add}
+use Rattle.std.proofs.Common.{◌≡◌, ℕ, zero, suc, ◌+◌, ◌-◌, ◌*◌, ◌≤◌, true, false, nat_le, List, ◌∷◌, ◌++◌, length, drop, map, Option, Some, None, refl, sym, ap, ◌∙◌, inl, inr, arith, Bool, cond, take, replicate, ◌==◌, ◌&&◌, ◌||◌, slice_range, flat_map, option_map, take-add}
 use Rattle.std.specs.List.{range_with_len}
-use Rattle.std.proofs.lemmas.Bool.{and_parts, eqb-true, leb-true}
+use Rattle.std.proofs.lemmas.Bool.{and_parts, eqb-true, leb-true, or_cases}
 use Rattle.std.proofs.lemmas.Option.{cond_some}
 use Rattle.std.proofs.lemmas.List.{drop-drop, map-append, replicate-append-replicate}
 use Rattle.std.proofs.lemmas.List.Concat.{flat_map-append}
@@ -111,10 +111,6 @@ split count bytes p n m =
 none_read : (count n : ℕ) (bytes : List ℕ) (p : ℕ) → n ≡ 0 → bytes_of count bytes p 0 n ≡ take (8 * n) (drop p bytes)
 none_read count n bytes p none = rw none refl
 
-either : (a b : Bool) → (a || b) ≡ true → (a ≡ true) ⊎ (b ≡ true)
-either true b h = inl refl
-either false b h = inr h
-
 pub entries_back : EntriesWriteBack
 unfolding entries_in_room
 entries_back count bytes p entries h read =
@@ -126,7 +122,7 @@ entries_back count bytes p entries h read =
     let start : p + 8 * 0 ≡ p = omega arith in
     let width : p + 8 * count - p ≡ 8 * count = omega arith in
     let front : bytes_of count bytes p 0 count ≡ slice_range bytes p (p + 8 * count) =
-    elim (either (count == 0) (nat_le (p + 8 * count) (length bytes)) tests.1) [
+    elim (or_cases (count == 0) (nat_le (p + 8 * count) (length bytes)) tests.1) [
       | inl none ↦ none_read count count bytes p (eqb-true count 0 none) ∙ ap (λ (k : ℕ). take k (drop p bytes)) (sym width)
       | inr room ↦
           let fits = leb-true (p + 8 * count) (length bytes) room in

@@ -3,7 +3,8 @@ use Rattle.std.proofs.Common.{suc, ◌-◌, ◌/◌, ◌%◌, ◌≡◌, ℕ, �
 use Rattle.std.specs.List.{list_all, position_or_len}
 use Rattle.std.proofs.lemmas.List.{length-append, map-append, take-set-le, drop-set, append-nil, take-append-drop}
 use Rattle.std.proofs.lemmas.List.Folds.{list_all_at, list_all_more}
-use Rattle.std.proofs.Math.Nat.{pow-le-pow_right, pow-suc, pow-zero}
+use Rattle.std.proofs.lemmas.Grind.{pow_more}
+use Rattle.std.proofs.Math.Nat.{pow-le-pow_right, pow-zero}
 use Rattle.goblin_pe_sect.specs.declared.digits.Digits.{Digits}
 use Rattle.goblin_pe_sect.specs.declared.digits.Digits.TheVariants.{Decimal, Base64}
 use Rattle.goblin_pe_sect.specs.Digits.{alphabet, digits_sum, digit, numeral, radix, digit_byte, last_digits}
@@ -16,18 +17,13 @@ alone r d =
 digit_after : (x p s r d : ℕ) → x * (p * r) + (s * r + d) ≡ (x * p + s) * r + d
 digit_after x p s r d = grind arith
 
-power : (r n : ℕ) → r ^ (n + 1) ≡ r ^ n * r
-power r n =
-    let next : n + 1 ≡ suc n = omega arith in
-    ap (λ (k : ℕ). r ^ k) next ∙ pow-suc r n
-
 -- one more digit
 pub digits_sum-more : (r : ℕ) (ds : List ℕ) (d : ℕ) → digits_sum r (ds ++ d ∷ []) ≡ digits_sum r ds * r + d
 unfolding digits_sum
 digits_sum-more r [] d = alone r d
 digits_sum-more r (x ∷ xs) d =
     let rest = digits_sum-more r xs d in
-    let long : r ^ length (xs ++ d ∷ []) ≡ r ^ length xs * r = ap (λ (k : ℕ). r ^ k) (length-append xs (d ∷ [])) ∙ power r (length xs) in
+    let long : r ^ length (xs ++ d ∷ []) ≡ r ^ length xs * r = ap (λ (k : ℕ). r ^ k) (length-append xs (d ∷ [])) ∙ pow_more r (length xs) in
     rw (long, rest) (digit_after x (r ^ length xs) (digits_sum r xs) r d)
 
 -- there are at most 64 digits, and one at least
@@ -46,7 +42,7 @@ grows p n r d small few digit =
 pub number_fits : (s : Digits) (i n d r : ℕ) → r ≡ radix s → i ≤ 6 → n < 64 ^ i → d < radix s → (n * r + d < 64 ^ (i + 1)) × (n * r + d < 4398046511104)
 number_fits s i n d r same most small digit =
     let few = (radix_range s).1 in
-    let next = power 64 i in
+    let next = pow_more 64 i in
     let top : 64 ^ i ≤ 64 ^ 6 = pow-le-pow_right (omega arith) most in
     let fits : n * r + d < 64 ^ i * 64 = grows (64 ^ i) n r d small (omega (arith, same, few)) (omega (arith, same, digit)) in
     (omega (arith, next, fits), omega (arith, top, fits))

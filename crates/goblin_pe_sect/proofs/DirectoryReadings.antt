@@ -2,7 +2,7 @@
 use Rattle.std.proofs.Common.{◌≡◌, ◌≢◌, ◌/◌, ◌%◌, ◌+◌, ◌-◌, ◌*◌, ◌<◌, ◌≤◌, ◌&&◌, ◌||◌, ℕ, zero, suc, Bool, true, false, cond, get_or, nat_eq, nat_le, List, length, map, Option, Some, None, refl, replicate, set, subst, sym, ap, ◌∙◌, inl, inr, arith, option_and_then, option_map, slice_range}
 use Rattle.std.specs.List.{range_with_len, slice_get}
 use Rattle.std.proofs.lemmas.Bool.{cases_eq, cases_lt, eq-eqb, eqb-false, le-leb, leb-false}
-use Rattle.std.proofs.lemmas.Bool.{leb-true, lt-leb, ne_eqb}
+use Rattle.std.proofs.lemmas.Bool.{leb-true, lt-leb, ne_eqb, or_parts}
 use Rattle.std.proofs.lemmas.List.FromFn.{get_or-map-range_with_len, length-map-range_with_len}
 use Rattle.std.proofs.lemmas.Option.{slice_get_past, slice_get_read}
 use Rattle.goblin_base.specs.declared.endian.Endian.TheVariants.{Little}
@@ -30,10 +30,6 @@ all_some : {A : Type 0} (g : ℕ → A) (n a : ℕ)
     → all_of (map (λ i. Some (g i)) (range_with_len a n)) ≡ Some (map g (range_with_len a n))
 all_some g zero a = refl
 all_some g (suc n) a = rw (all_some g n (a + 1)) refl
-
-no_room : (none room : Bool) → (none || room) ≡ false → (none ≡ false) × (room ≡ false)
-no_room true room e = absurd cc
-no_room false room e = (refl, e)
 
 room_for : (none room : Bool) → (none || room) ≡ true → none ≡ false → room ≡ true
 room_for true room e h = absurd cc
@@ -108,7 +104,7 @@ module _ (count : ℕ) (bytes : List ℕ) (p : ℕ) where
   made_none : (nat_eq count 0 || nat_le (p + 8 * count) (length bytes)) ≡ false
       → option_map (sixteen p) (all_at directory count) ≡ None
   made_none short =
-      let parts = no_room (nat_eq count 0) (nat_le (p + 8 * count) (length bytes)) short in
+      let parts = or_parts (nat_eq count 0) (nat_le (p + 8 * count) (length bytes)) short in
       let some : 0 < count = elim (cases_lt 0 count) [
         | inl lt ↦ lt
         | inr none ↦ absurd (eqb-false count 0 parts.0 (omega (arith, none)))

@@ -126,10 +126,10 @@ module _ {V : Type 0} (slots : SlotFormat V) (bytes : List ℕ) (o : ℕ)
 module _ {V : Type 0} (slots : SlotFormat V) (bytes : List ℕ) (o : ℕ)
     (wide : 1 ≤ slots.entry.width) (v : V) (r : reads slots bytes o ≡ Some v)
     (going : slots.is_last v ≡ false) where
-  shifted : (i : ℕ) → slot_place slots o (suc i) ≡ slot_place slots (o + slots.entry.width) i
+  pub shifted : (i : ℕ) → slot_place slots o (suc i) ≡ slot_place slots (o + slots.entry.width) i
   shifted i = omega arith
 
-  here : slot_at slots bytes o 0 ≡ Some v
+  pub here : slot_at slots bytes o 0 ≡ Some v
   here =
       let at : slot_place slots o 0 ≡ o = omega arith in
       ap (reads slots bytes) at ∙ r

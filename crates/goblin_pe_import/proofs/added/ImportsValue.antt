@@ -5,6 +5,7 @@ use Rattle.std.proofs.lemmas.List.{get_or_append_left, length-append, length-map
 use Rattle.std.proofs.lemmas.List.Concat.{flat_map-append}
 use Rattle.std.proofs.lemmas.Simd.{map-map}
 use Rattle.std.proofs.lemmas.Option.{slice_get-get_or}
+use Rattle.std.proofs.lemmas.Iterator.Adapters.{option_map_id}
 use Rattle.std.proofs.Math.Seq.{get_or-append_seam}
 use Rattle.goblin_base.specs.declared.endian.Endian.TheVariants.{Little}
 use Rattle.goblin_base.specs.Answers.{◌>>=◌, all_at, all_of}
@@ -420,10 +421,6 @@ module _ (strict : Bool) (format : Format EntryValue) (addressing : Addressing)
         ∙ test-mapped (flat_map imports_in) (strict && not (is_some end)) (each_below pieces n)
         ∙ ap (option_map (flat_map imports_in)) (sym (libraries-value strict format addressing bytes o))
 
-same_option : {A : Type 0} (o : Option A) → option_map (λ x. x) o ≡ o
-same_option None = refl
-same_option (Some x) = refl
-
 -- the same of a walk that begins at a directory
 module _ (m : MapOfAddresses) (format : Format EntryValue) (bytes : List ℕ) (o : ℕ)
     (wide : 1 ≤ format.width) (short : length bytes < 2 ^ 63) (octets : IsBytes bytes) where
@@ -441,7 +438,7 @@ module _ (m : MapOfAddresses) (format : Format EntryValue) (bytes : List ℕ) (o
       rw (by, over, at)
       (record {
         value =
-            same_option _ ∙ ap all_of (imports-once (reads_strictly m) format m.addressing bytes o o)
+            option_map_id _ ∙ ap all_of (imports-once (reads_strictly m) format m.addressing bytes o o)
             ∙ imports-value (reads_strictly m) format m.addressing bytes wide short octets o;
         cause = λ e fault. fault.1;
       })
