@@ -3,11 +3,11 @@ use Rattle.std.specs.Prelude.{◌≡◌, ℕ, List, [], ◌∷◌, false, replic
 use Rattle.goblin_pe_head.specs.added.HeaderParts.{no_windows_fields}
 use Rattle.goblin_pe_head.specs.PeHeader.{zero_dos_header}
 use Rattle.goblin_pe_head.specs.declared.header.coff.CoffHeader.{CoffHeader}
-use Rattle.goblin_pe_sect.specs.declared.data_directories.DataDirectory.{DataDirectory}
 use Rattle.goblin_pe_c_headers.specs.declared.image.PeImage.{PeImage}
 use Rattle.goblin_pe_c_headers.specs.declared.image.PeRichHeader.{PeRichHeader}
 use Rattle.goblin_pe_c_headers.specs.declared.options.PeOptions.{PeOptions}
 use Rattle.goblin_pe_c_headers.specs.Headers.{no_standard_fields}
+use Rattle.goblin_pe_sect.specs.DataDirectories.{no_directory}
 
 -- a COFF header of zeros
 abbrev pub zero_coff_header : CoffHeader
@@ -31,9 +31,6 @@ no_rich_header = record {
   reserved = 0 ∷ 0 ∷ 0 ∷ [];
 }
 
-abbrev pub zero_directory : DataDirectory
-zero_directory = record { virtual_address = 0; size = 0 }
-
 -- An image of zeros, except its bytes, its options and its kind. (Its bytes are those of the given
 -- record.)
 abbrev pub zero_image : PeOptions → ℕ → PeImage → PeImage
@@ -51,7 +48,7 @@ zero_image options kind image = record image {
     standard_fields = no_standard_fields;
     windows_fields = no_windows_fields;
   };
-  directories = replicate 16 zero_directory;
+  directories = replicate 16 no_directory;
   dos_stub_size = 0;
   rich_header = no_rich_header;
   reserved = 0;

@@ -54,7 +54,8 @@ place_after width None = None
 place_after width (Some (Ok kept)) = Some (kept.place + width)
 place_after width (Some (Err e)) = None
 
--- an upper bound of what comes from a slot on: an entry for each byte that is left, and one refusal
+-- an upper bound of what comes from a slot or a descriptor on: one for each byte that is left, and
+-- one refusal
 abbrev pub slots_bound : List ℕ → Option ℕ → ℕ
 slots_bound bytes None = 0
 slots_bound bytes (Some place) = length bytes - place + 1

@@ -256,12 +256,6 @@ walk_bound w =
     slots_bound w.bytes.now w.at.place + one_if w.at.pending
     + bound_next w.bytes.now w.at.next_record
 
--- an upper bound of the number of descriptors from the next one on: the bytes that are left, and
--- one
-abbrev pub records_left : List ℕ → Option ℕ → ℕ
-records_left bytes None = 0
-records_left bytes (Some p) = length bytes - p + 1
-
 -- Once the entries of a library have come, the walk goes on at t. `later` is what is to come then,
 -- and `IsCause` says which cause is true if a refusal is among it.
 abbrev pub GivesLibrary : {S A : Type 0} → (S → List (Option A)) → (S → ErrorOf → Type 0)

@@ -16,12 +16,13 @@ use Rattle.goblin_pe_sect.specs.Addresses.{Addressing, MapOfAddresses, map_of, r
 use Rattle.goblin_pe_import.specs.ImportEntries.{EntryValue, entries_32, entries_64}
 use Rattle.goblin_pe_import.specs.ImportReadings.{import_record_at}
 use Rattle.goblin_pe_import.specs.ImportRecords.{address_table_rva, import_slots, lookup_offset}
-use Rattle.goblin_pe_import.specs.added.ImportWalks.{no_imports, record_index, records_left}
+use Rattle.goblin_pe_import.specs.added.ImportWalks.{no_imports, record_index}
 use Rattle.goblin_pe_import.specs.added.LeftOut.{is_library_left_out}
 use Rattle.goblin_pe_import.specs.declared.import.directory_entry.ImportDirectoryEntry.{ImportDirectoryEntry}
 use Rattle.goblin_pe_import.specs.declared.added.imports.ImportCursor.{ImportCursor}
 use Rattle.goblin_pe_import.specs.declared.added.library_walk.Libraries.{Libraries}
 use Rattle.goblin_pe_import.specs.declared.added.library_walk.WalkedLibrary.{WalkedLibrary}
+use Rattle.goblin_pe_import.specs.KeptEntries.{slots_bound}
 
 -- ---- a library
 
@@ -154,7 +155,7 @@ IsLibrariesCause it e =
 
 -- an upper bound of the number of libraries to come
 abbrev pub libraries_bound : Libraries → ℕ
-libraries_bound it = records_left (libraries_bytes it) (libraries_cursor it).next_record
+libraries_bound it = slots_bound (libraries_bytes it) (libraries_cursor it).next_record
 
 -- the walk over these bytes, with this map of addresses and such entries
 pub record AreLibrariesOver (m : MapOfAddresses) (format : Format EntryValue) (bytes : List ℕ)

@@ -29,7 +29,7 @@ ghost use Rattle.goblin_pe_import.specs.added.ImportWalks.{later_items, library_
 ghost use Rattle.goblin_pe_import.specs.added.ImportWalks.{library_name, one_if, origin};
 ghost use Rattle.goblin_pe_import.specs.added.ImportWalks.{records_bound, finder_of, ascii_at};
 ghost use Rattle.goblin_pe_import.specs.added.ImportWalks.{ascii_walk, walk_answer, walk_at};
-ghost use Rattle.goblin_pe_import.specs.added.ImportWalks.{record_index, records_left};
+ghost use Rattle.goblin_pe_import.specs.added.ImportWalks.{record_index};
 ghost use Rattle.goblin_pe_import.specs.added.ImportWalks.{pending_table, walk_bound, walk_left};
 ghost use Rattle.goblin_pe_import.specs.added.ImportWalks.{walked_value};
 ghost use Rattle.goblin_pe_import.specs.ImportRecords.{address_table_rva};
@@ -385,7 +385,7 @@ impl<'a, 'm> Walk<'a, 'm> {
         ensures finder { self.new.finder ≡ self.old.finder }
         ensures nearer { let bytes = self.old.bytes.now in
             IfSome (option_map (walk_answer self.new) result) (λ r. IfOk r (λ t.
-            records_left bytes t.at.next_record < records_left bytes self.old.at.next_record)) }
+            slots_bound bytes t.at.next_record < slots_bound bytes self.old.at.next_record)) }
         ensures bound { IfSome (option_map (walk_answer self.new) result) (λ r. IfOk r (λ t.
             walk_bound t ≤ bound_next self.old.bytes.now self.old.at.next_record)) }
         ensures there { let c = self.old.at in

@@ -1,25 +1,22 @@
-use Rattle.std.proofs.Common.{◌≡◌, ℕ, Ok, Option, Some, None, IsSomeAnd, ap, inl, true}
+use Rattle.std.proofs.Common.{◌≡◌, ℕ, Ok, Some, None, IsSomeAnd, ap, inl, true}
 use Rattle.std.proofs.lemmas.Result.{err_from_is_err_and}
 use Rattle.goblin_pe_sect.specs.Addresses.{reads_strictly}
 use Rattle.goblin_pe.specs.declared.added.damage.Damage.{Damage}
 use Rattle.goblin_pe_c_headers.specs.Places.{image_places, placed_sections}
 use Rattle.goblin_pe_c_headers.specs.declared.image.PeImage.{PeImage}
 use Rattle.goblin_pe_c_headers.specs.declared.options.PeOptions.{PeOptions}
+use Rattle.goblin_pe_c_headers.proofs.Named.{some-weaker}
 use Rattle.goblin_pe_c_tables.specs.Damages.{AnswersDamage, DamageSteps, IsDamagedBy, damage_map, damage_record}
 use Rattle.goblin_pe_c_tables.specs.Places.{places_from_c}
 use Rattle.goblin_pe_c_tables.proofs.InPlaces.{IsAt, given-at}
 use Rattle.goblin_pe_c_tables.proofs.damage.damage_within.Goals as goal
-
-each : {A : Type 0} (o : Option A) (P Q : A → Type 0) → ((x : A) → P x → Q x) → IsSomeAnd o P → IsSomeAnd o Q
-each None P Q f h = h
-each (Some x) P Q f h = f x h
 
 -- too few steps for the walks of permissive mode
 too-few : (image : PeImage) (steps : ℕ)
     → IsSomeAnd ((placed_sections (image_places image)).value image.bytes.now)
     (λ sections. DamageSteps (damage_map image sections) (places_from_c (image_places image)) image.bytes.now steps None)
     → AnswersDamage image steps (Ok None)
-too-few image steps few = each ((placed_sections (image_places image)).value image.bytes.now) _ _ (λ sections h. inl h) few
+too-few image steps few = some-weaker ((placed_sections (image_places image)).value image.bytes.now) _ _ (λ sections h. inl h) few
 
 pub returns-in_err-layout : goal.returns-in_err-layout
 returns-in_err-layout c =

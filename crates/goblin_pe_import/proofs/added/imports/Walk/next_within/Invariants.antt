@@ -1,5 +1,5 @@
 use Rattle.std.proofs.Common.{length}
-use Rattle.goblin_pe_import.specs.added.ImportWalks.{records_left}
+use Rattle.goblin_pe_import.specs.KeptEntries.{slots_bound}
 use Rattle.goblin_pe_import.specs.added.StepsAhead.{AtSteps, walk_ahead}
 use Rattle.goblin_pe_import.specs.Steps.{HasNotGrown}
 use Rattle.goblin_pe_import.proofs.added.ImportSteps.{AtImports}
@@ -13,4 +13,4 @@ invariant-libraries g l =
     × HasNotGrown l.initial.steps l.steps
 
 abbrev pub decreases-libraries : goal.decreases-libraries
-decreases-libraries g l = records_left l.self.bytes.now l.self.at.next_record
+decreases-libraries g l = slots_bound l.self.bytes.now l.self.at.next_record
