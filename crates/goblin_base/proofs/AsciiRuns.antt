@@ -1,6 +1,5 @@
 -- Runs of bytes that are ASCII and no NUL.
-use Rattle.std.proofs.Common.{◌≡◌, ℕ, ◌+◌, ◌-◌, ◌<◌, List, length, sym, ap, ◌∙◌, arith, inl, inr}
-use Rattle.std.proofs.Common.{slice_index, slice_range, get_or-drop}
+use Rattle.std.proofs.Common.{◌≡◌, ℕ, ◌+◌, ◌-◌, ◌<◌, List, length, sym, ap, ◌∙◌, arith, inl, inr, slice_index, slice_range, get_or-drop}
 use Rattle.std.proofs.lemmas.Bool.{cases_lt}
 use Rattle.goblin_base.proofs.Numbers.{rest_is_drop}
 

@@ -3,7 +3,7 @@ use Rattle.std.proofs.Common.{◌≡◌, ◌<◌, ◌≤◌, ℕ, ◌+◌, ◌-�
 use Rattle.std.specs.List.{position_or_len}
 use Rattle.std.proofs.lemmas.Bool.{cases_lt, le-ltb, lt-ltb, ltb-false, ltb-true}
 use Rattle.std.proofs.lemmas.Option.{cond_some}
-use Rattle.goblin_base.specs.Bytes.{before_nul, begins_character, cut_text, cut_window}
+use Rattle.goblin_base.specs.Bytes.{before_nul, begins_character, cut_text, cut_window, stretch, stretch_at, text_at, text_of, text_within}
 use Rattle.goblin_base.specs.Footprints.{positions, stretch_footprint, Agree}
 use Rattle.goblin_base.specs.Parts.{moved_by, text_footprint}
 use Rattle.goblin_base.proofs.Numbers.{rest_is_drop}
@@ -14,7 +14,6 @@ use Rattle.std.proofs.lemmas.List.Sums.{fails_before_first, passes_at_first, pos
 use Rattle.std.proofs.lemmas.List.{nil_from_length}
 use Rattle.goblin_base.specs.declared.error.ErrorOf.{ErrorOf}
 use Rattle.goblin_base.specs.Answers.{FirstFault, IsMemory, IsNoText, IsOffsetFault, IsTextFaultWithin}
-use Rattle.goblin_base.specs.Bytes.{stretch, stretch_at, text_at, text_of, text_within}
 use Rattle.goblin_base.proofs.Footprints.{same-stretch_at, same-text_at}
 use Rattle.goblin_base.proofs.Inside.{AreInside, stretch-in}
 use Rattle.goblin_base.proofs.Parts.{agree-moved_slice, slice-moved-in}

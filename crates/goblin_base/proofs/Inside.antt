@@ -1,16 +1,11 @@
 -- What is reached lies in the file: one lemma for each form of footprint.
-use Rattle.std.proofs.Common.{◌≡◌, ◌<◌, ◌≤◌, ◌+◌, ◌*◌, ℕ, zero, suc, min, Bool, true, false, cond}
-use Rattle.std.proofs.Common.{nat_le, nat_lt, Option, Some, None, List, [], ◌∷◌, ◌++◌, length}
-use Rattle.std.proofs.Common.{subst, refl, arith, inl, inr, is_none, All, is_some}
+use Rattle.std.proofs.Common.{◌≡◌, ◌<◌, ◌≤◌, ◌+◌, ◌*◌, ℕ, zero, suc, min, Bool, true, false, cond, nat_le, nat_lt, Option, Some, None, List, [], ◌∷◌, ◌++◌, length, subst, refl, arith, inl, inr, is_none, All, is_some}
 use Rattle.std.proofs.lemmas.Bool.{cases_lt, leb-true, ltb-true}
 use Rattle.std.proofs.lemmas.List.Elements.{All-append, All-cons, All-nil}
 use Rattle.goblin_base.specs.Bytes.{stretch}
-use Rattle.goblin_base.specs.Footprints.{Range, counted_footprint, led_to, positions}
-use Rattle.goblin_base.specs.Footprints.{rest_footprint, slice_footprint, slot_footprint}
-use Rattle.goblin_base.specs.Footprints.{slots_reached, stretch_footprint}
+use Rattle.goblin_base.specs.Footprints.{Range, counted_footprint, led_to, positions, rest_footprint, slice_footprint, slot_footprint, slots_reached, stretch_footprint}
 use Rattle.goblin_base.specs.Reading.{IsInFile}
-use Rattle.goblin_base.specs.Tables.{Format, SlotFormat, concat_below, ends_table, entry_at}
-use Rattle.goblin_base.specs.Tables.{least, slot_at, slot_place, stop, whole_entries}
+use Rattle.goblin_base.specs.Tables.{Format, SlotFormat, concat_below, ends_table, entry_at, least, slot_at, slot_place, stop, whole_entries}
 use Rattle.goblin_base.proofs.Below.{least-before}
 use Rattle.goblin_base.proofs.Records.{record_at-some}
 

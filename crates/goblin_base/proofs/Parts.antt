@@ -1,8 +1,6 @@
 -- Files that agree on what a read of a part reaches have the same part, and what it reaches lies in
 -- the file.
-use Rattle.std.proofs.Common.{◌≡◌, ◌<◌, ◌≤◌, ◌⊎◌, ◌+◌, ◌-◌, ℕ, zero, suc, Bool, true, false, cond}
-use Rattle.std.proofs.Common.{◌&&◌, nat_le, List, [], ◌∷◌, length, drop, take, Option, Some, None}
-use Rattle.std.proofs.Common.{refl, sym, ap, subst, ◌∙◌, inl, inr, arith}
+use Rattle.std.proofs.Common.{◌≡◌, ◌<◌, ◌≤◌, ◌⊎◌, ◌+◌, ◌-◌, ℕ, zero, suc, Bool, true, false, cond, ◌&&◌, nat_le, List, [], ◌∷◌, length, drop, take, Option, Some, None, refl, sym, ap, subst, ◌∙◌, inl, inr, arith}
 use Rattle.std.specs.Prelude.{option_map, slice_index, slice_range}
 use Rattle.std.specs.List.{find, range_with_len}
 use Rattle.std.proofs.lemmas.Bool.{and_parts, cases_Bool, cases_eq, cases_lt, cond-false, leb-true}
@@ -14,12 +12,10 @@ use Rattle.goblin_base.specs.declared.error.ErrorOf.{ErrorOf}
 use Rattle.goblin_base.specs.Answers.{IsMemory}
 use Rattle.goblin_base.specs.Bytes.{number, text_of}
 use Rattle.goblin_base.specs.Footprints.{Agree, Covers, Range, led_to, positions, slice_footprint}
-use Rattle.goblin_base.specs.Parts.{between_footprint, bytes_between, front_through, least_place}
-use Rattle.goblin_base.specs.Parts.{moved_by, search_footprint}
+use Rattle.goblin_base.specs.Parts.{between_footprint, bytes_between, front_through, least_place, moved_by, search_footprint}
 use Rattle.goblin_base.specs.Reading.{IsInFile}
 use Rattle.goblin_base.specs.Strtab.{IsStringTableFault, string_table}
-use Rattle.goblin_base.proofs.Footprints.{agree-led, agree-slice, same-byte, same-number}
-use Rattle.goblin_base.proofs.Footprints.{same-slice_range, same-within}
+use Rattle.goblin_base.proofs.Footprints.{agree-led, agree-slice, same-byte, same-number, same-slice_range, same-within}
 use Rattle.goblin_base.proofs.Inside.{AreInside, positions-in}
 use Rattle.goblin_base.proofs.Readings.{by_cases-not_memory}
 

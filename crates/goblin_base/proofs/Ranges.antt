@@ -1,13 +1,10 @@
 -- Ranges that are marked: those of a text, those of a part of the bytes, and those of pieces one
 -- after the other.
-use Rattle.std.proofs.Common.{Bool, ◌≡◌, ℕ, zero, suc, ◌+◌, ◌-◌, min, true, false, nat_le, nat_lt}
-use Rattle.std.proofs.Common.{Option, Some, None, List, [], ◌++◌, length, take, drop, ap, sym, ◌∙◌}
-use Rattle.std.proofs.Common.{refl, arith, inl, inr, lt-ltb, ltb-false, ltb-true}
+use Rattle.std.proofs.Common.{Bool, ◌≡◌, ℕ, zero, suc, ◌+◌, ◌-◌, min, true, false, nat_le, nat_lt, Option, Some, None, List, [], ◌++◌, length, take, drop, ap, sym, ◌∙◌, refl, arith, inl, inr, lt-ltb, ltb-false, ltb-true}
 use Rattle.std.proofs.lemmas.Bool.{cases_Bool, le-leb, le-ltb, leb-false, leb-true}
 use Rattle.std.proofs.lemmas.List.{length-drop, map-append}
 use Rattle.goblin_base.specs.Bytes.{before_nul}
-use Rattle.goblin_base.specs.Footprints.{Range, led_to, positions, slice_footprint}
-use Rattle.goblin_base.specs.Footprints.{stretch_footprint}
+use Rattle.goblin_base.specs.Footprints.{Range, led_to, positions, slice_footprint, stretch_footprint}
 use Rattle.goblin_base.specs.Marks.{marked}
 use Rattle.goblin_base.specs.Parts.{moved_by}
 use Rattle.goblin_base.specs.Tables.{concat_below}

@@ -1,23 +1,17 @@
 -- The laws of readings, once for each way to put them together; and what they give for two files.
-use Rattle.std.proofs.Common.{◌≡◌, ◌<◌, ◌+◌, ◌-◌, ◌++◌, ℕ, Bool, cond, nat_lt, length, drop, List}
-use Rattle.std.proofs.Common.{Option, Some, None, Result, ap, subst, sym, inl, inr, ◌∙◌, arith}
-use Rattle.std.proofs.Common.{take_all, IsSomeAnd, option_map, slice_range, length-drop}
+use Rattle.std.proofs.Common.{◌≡◌, ◌<◌, ◌+◌, ◌-◌, ◌++◌, ℕ, Bool, cond, nat_lt, length, drop, List, Option, Some, None, Result, ap, subst, sym, inl, inr, ◌∙◌, arith, take_all, IsSomeAnd, option_map, slice_range, length-drop}
 use Rattle.std.proofs.lemmas.Bool.{cases_Bool, cond-false, ltb-true}
 use Rattle.std.specs.declared.alloc.AllocError.{AllocError}
 use Rattle.goblin_base.specs.declared.endian.Endian.{Endian}
 use Rattle.goblin_base.specs.declared.error.CauseOf.{CauseOf}
 use Rattle.goblin_base.specs.declared.error.ErrorOf.{ErrorOf}
-use Rattle.goblin_base.specs.declared.error.ErrorOf.TheVariants.{BadMagic, BufferTooShort}
-use Rattle.goblin_base.specs.declared.error.ErrorOf.TheVariants.{Malformed, Memory, Read}
+use Rattle.goblin_base.specs.declared.error.ErrorOf.TheVariants.{BadMagic, BufferTooShort, Malformed, Memory, Read}
 use Rattle.goblin_base.specs.Answers.{◌>>=◌, FirstFault, IsMemory, IsSliceFault, IsNoText, IsOffsetFault, IsTextFault}
 use Rattle.goblin_base.specs.Footprints.{Agree, led_to, rest_footprint, slot_footprint}
 use Rattle.goblin_base.specs.Reading.{IsRefused, Reading, Reads, ReadsOrMemory, Twins, TwinsOrMemory}
-use Rattle.goblin_base.specs.Tables.{IsTableFault, SlotFormat, kept_slots, slot_at}
-use Rattle.goblin_base.specs.Tables.{slot_place, slot_table, stop}
+use Rattle.goblin_base.specs.Tables.{IsTableFault, SlotFormat, kept_slots, slot_at, slot_place, slot_table, stop}
 use Rattle.goblin_base.specs.Values.{value_at}
-use Rattle.goblin_base.proofs.Footprints.{agree-left, agree-right, alike_answers}
-use Rattle.goblin_base.proofs.Footprints.{alike_or_memory_answers, same-kept_slots, same-led}
-use Rattle.goblin_base.proofs.Footprints.{same-slot_table, same-within}
+use Rattle.goblin_base.proofs.Footprints.{agree-left, agree-right, alike_answers, alike_or_memory_answers, same-kept_slots, same-led, same-slot_table, same-within}
 use Rattle.goblin_base.proofs.Inside.{AreInside, both-in, led-in, slots-in}
 
 -- ---- a read, and one that depends on its value

@@ -9,8 +9,7 @@ use Rattle.goblin_pe_sect.specs.Addresses.{Addressing}
 use Rattle.goblin_pe_export.specs.ExportRecords.{ExportTables, NumberedExport}
 use Rattle.goblin_pe_import.specs.ImportRecords.{NumberedLibrary}
 use Rattle.goblin_pe.specs.declared.whole.Part.{Part}
-use Rattle.goblin_pe.specs.Whole.{TableParts, TablePlaces, collected_tables, export_part}
-use Rattle.goblin_pe.specs.Whole.{numbered_data_part, relocation_part, table_parts}
+use Rattle.goblin_pe.specs.Whole.{TableParts, TablePlaces, collected_tables, export_part, numbered_data_part, relocation_part, table_parts}
 
 -- ---- the tables, of whose imports and exports something is made
 

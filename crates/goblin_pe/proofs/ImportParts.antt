@@ -14,15 +14,12 @@ use Rattle.goblin_pe_sect.specs.Options.{is_strict}
 use Rattle.goblin_pe_sect.specs.Addresses.{Addressing}
 use Rattle.goblin_pe_import.specs.ImportReadings.{import_data, numbered_data}
 use Rattle.goblin_pe_import.specs.ImportRecords.{ImportedLibrary, NumberedLibrary}
-use Rattle.goblin_pe_import.specs.Imports.{ImportValue, NumberedImport, at_library, kept_imports}
-use Rattle.goblin_pe_import.specs.Imports.{library_imports, numbered_imports}
+use Rattle.goblin_pe_import.specs.Imports.{ImportValue, NumberedImport, at_library, kept_imports, library_imports, numbered_imports}
 use Rattle.goblin_pe_import.proofs.LibraryIndexes.{unnumbered, unnumbered-cause}
 use Rattle.goblin_pe.specs.declared.whole.Part.{Part}
 use Rattle.goblin_pe.specs.declared.whole.Part.TheVariants.{Absent, Refused}
 use Rattle.goblin_pe.specs.declared.whole.Part.TheVariants as part
-use Rattle.goblin_pe.specs.Whole.{TablePlaces, both_lists, directory_at, entry_format, import_data_part}
-use Rattle.goblin_pe.specs.Whole.{imports_in, listed_imports_part, numbered_data_part, part_at, part_map}
-use Rattle.goblin_pe.specs.Whole.{part_of, without_indexes, without_numbers}
+use Rattle.goblin_pe.specs.Whole.{TablePlaces, both_lists, directory_at, entry_format, import_data_part, imports_in, listed_imports_part, numbered_data_part, part_at, part_map, part_of, without_indexes, without_numbers}
 use Rattle.goblin_pe.proofs.KeptImports.{listed_imports, part-kept}
 use Rattle.goblin_pe.proofs.ListedImports.{data-listed}
 use Rattle.goblin_pe.proofs.Parts.{part_of-mapped}

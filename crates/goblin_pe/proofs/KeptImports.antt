@@ -1,7 +1,5 @@
 -- What is kept of each library's imports is what is kept of the list of all imports.
-use Rattle.std.proofs.Common.{◌≡◌, ◌∙◌, ◌≤◌, ◌++◌, ◌∷◌, ℕ, zero, suc, List, [], Bool, true, false}
-use Rattle.std.proofs.Common.{IsSome, None, Option, Some, ap, append-nil, arith, length, map, refl}
-use Rattle.std.proofs.Common.{sym, take_all, get_or, slice_get, take, unwrap_or, take-suc, flat_map}
+use Rattle.std.proofs.Common.{◌≡◌, ◌∙◌, ◌≤◌, ◌++◌, ◌∷◌, ℕ, zero, suc, List, [], Bool, true, false, IsSome, None, Option, Some, ap, append-nil, arith, length, map, refl, sym, take_all, get_or, slice_get, take, unwrap_or, take-suc, flat_map}
 use Rattle.std.proofs.lemmas.List.{map-append}
 use Rattle.std.proofs.lemmas.List.Concat.{flat_map-append}
 use Rattle.std.proofs.lemmas.Option.{get_or_from_slice_get}

@@ -1,6 +1,5 @@
 -- What strict mode reads of tables and of whole files, permissive mode reads, too.
-use Rattle.std.proofs.Common.{◌≡◌, ℕ, Bool, true, false, cond, List, [], Option, Some, None, Result}
-use Rattle.std.proofs.Common.{ap, refl, sym, nat_eq, map, flat_map}
+use Rattle.std.proofs.Common.{◌≡◌, ℕ, Bool, true, false, cond, List, [], Option, Some, None, Result, ap, refl, sym, nat_eq, map, flat_map}
 use Rattle.goblin_base.specs.declared.error.ErrorOf.{ErrorOf}
 use Rattle.goblin_base.specs.declared.permissive.ParseMode.{ParseMode}
 use Rattle.goblin_base.specs.declared.permissive.ParseMode.TheVariants.{Permissive, Strict}
@@ -29,17 +28,13 @@ use Rattle.goblin_pe.specs.declared.whole.Part.TheVariants.{Absent, Refused}
 use Rattle.goblin_pe.specs.declared.whole.Part.TheVariants as part
 use Rattle.goblin_pe_export.specs.ExportReadings.{numbered_read}
 use Rattle.goblin_pe_import.specs.ImportEntries.{EntryValue}
-use Rattle.goblin_pe_import.specs.ImportReadings.{import_data, numbered_data, read_if}
-use Rattle.goblin_pe_import.specs.ImportReadings.{read_past_front}
+use Rattle.goblin_pe_import.specs.ImportReadings.{import_data, numbered_data, read_if, read_past_front}
 use Rattle.goblin_pe_import.specs.ImportRecords.{NumberedLibrary}
 use Rattle.goblin_pe_import.specs.Imports.{numbered_imports}
 use Rattle.goblin_pe_import.proofs.PermissiveReads.{libraries_at-repeats, numbered_libraries_at-repeats}
 use Rattle.goblin_pe.specs.Modes.{ReadsInModes, in_mode, in_permissive_mode, is_front, unless_front}
-use Rattle.goblin_pe.specs.Whole.{ListedParts, NumberedTables, TablePlaces, WholeFile, directory_at}
-use Rattle.goblin_pe.specs.Whole.{entry_format, export_part, imports_in, listed_tables, lists_of}
-use Rattle.goblin_pe.specs.Whole.{mapped_in, numbered_data_part, addressing_by, part_at, part_map, part_of}
-use Rattle.goblin_pe.specs.Whole.{places_in, relocation_part, section_table_offset, sections_after}
-use Rattle.goblin_pe.specs.Whole.{table_parts, whole_file, whole_in, whole_of, whole_with}
+use Rattle.goblin_pe.specs.Whole.{ListedParts, NumberedTables, TablePlaces, WholeFile, directory_at, entry_format, export_part, imports_in, listed_tables, lists_of, mapped_in, numbered_data_part, addressing_by, part_at, part_map, part_of, places_in}
+use Rattle.goblin_pe.specs.Whole.{relocation_part, section_table_offset, sections_after, table_parts, whole_file, whole_in, whole_of, whole_with}
 
 -- ---- answers
 

@@ -27,8 +27,7 @@ use Rattle.goblin_pe_import.specs.LookupReadings.{lookup_table}
 use Rattle.goblin_pe_import.proofs.PermissiveReads.{lookup_table-repeats}
 use Rattle.goblin_pe.specs.Modes.{in_mode, unless_front}
 use Rattle.goblin_pe.specs.TableRuns.{AreAlike, AreInModes, AreTables}
-use Rattle.goblin_pe.proofs.PermissiveReads.{in_modes, map-mode, reads_in_modes}
-use Rattle.goblin_pe.proofs.PermissiveReads.{repeats-import_data}
+use Rattle.goblin_pe.proofs.PermissiveReads.{in_modes, map-mode, reads_in_modes, repeats-import_data}
 
 -- what permissive mode takes for a name that is missing, strict mode refuses
 repeats-name_or_none : (addressing : Addressing) (rva : ℕ)

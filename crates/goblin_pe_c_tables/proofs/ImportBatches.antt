@@ -8,8 +8,7 @@ use Rattle.goblin_pe.specs.Addresses.{MapOfAddresses}
 use Rattle.goblin_pe.specs.Imports.{NumberedImport}
 use Rattle.goblin_pe.specs.KeptEntries.{entries_from}
 use Rattle.goblin_pe.specs.added.ImportWalks.{imports_next, walked_value}
-use Rattle.goblin_pe.specs.added.LayoutCursors.{GivesFileWithin, IsImportWalk, IsImportWalkAt, file_ahead}
-use Rattle.goblin_pe.specs.added.LayoutCursors.{file_bytes, file_cursor, file_cursor_ahead, file_cursor_left}
+use Rattle.goblin_pe.specs.added.LayoutCursors.{GivesFileWithin, IsImportWalk, IsImportWalkAt, file_ahead, file_bytes, file_cursor, file_cursor_ahead, file_cursor_left}
 use Rattle.goblin_pe.specs.TableSums.{amount_of}
 use Rattle.goblin_pe.specs.Steps.{AreCounted}
 use Rattle.goblin_pe.specs.added.StepsAhead.{AtSteps, HaveRunOut}
@@ -20,8 +19,7 @@ use Rattle.goblin_pe.specs.declared.added.file_imports.FileImports.{FileImports}
 use Rattle.goblin_pe.specs.declared.added.file_imports.FileImports.TheVariants.{Narrow, Wide}
 use Rattle.goblin_pe_c_tables.specs.declared.import.PeImport.{PeImport}
 use Rattle.goblin_pe_c_tables.specs.declared.next.PeImportCursor.{PeImportCursor}
-use Rattle.goblin_pe_c_tables.specs.Batches.{Fills, GivesImports, GivesInFile, GoesOn, ImportBatch, cursor_for_c, cursor_from_c, import_cursor}
-use Rattle.goblin_pe_c_tables.specs.Batches.{import_table, is_over, option_from_c, position_ahead}
+use Rattle.goblin_pe_c_tables.specs.Batches.{Fills, GivesImports, GivesInFile, GoesOn, ImportBatch, cursor_for_c, cursor_from_c, import_cursor, import_table, is_over, option_from_c, position_ahead}
 use Rattle.goblin_pe_c_tables.specs.Imports.{import_for_c, import_model}
 use Rattle.goblin_pe_c_headers.specs.Onward.{AtBatch, IsRefusedNext, TellsEnd, unrefused}
 use Rattle.goblin_pe_c_headers.proofs.Batches.{AtItems, batch-more, items-cut, items-end, items-fault, items-full, items-gives, items-refused, items-start, items-then, done-cut, done-end, done-full, done-refused}

@@ -1,6 +1,5 @@
 -- The exports, row by row.
-use Rattle.std.proofs.Common.{◌≡◌, ◌++◌, ◌+◌, ℕ, List, [], ◌∷◌, Option, Some, None, length, refl}
-use Rattle.std.proofs.Common.{sym, ap, ◌∙◌, append-nil, ◌==◌, false, map, option_map, option_to_list, zero, suc}
+use Rattle.std.proofs.Common.{◌≡◌, ◌++◌, ◌+◌, ℕ, List, [], ◌∷◌, Option, Some, None, length, refl, sym, ap, ◌∙◌, append-nil, ◌==◌, false, map, option_map, option_to_list, zero, suc}
 use Rattle.std.proofs.lemmas.List.{map-append}
 use Rattle.goblin_base.specs.Tables.{concat_below}
 use Rattle.goblin_base.proofs.Below.{concat_below-next}

@@ -1,17 +1,13 @@
 -- The whole entries of a table of a given count: as bytes, and as values.
-use Rattle.std.proofs.Common.{◌≡◌, ◌<◌, ◌≤◌, ◌+◌, ◌-◌, ◌*◌, ◌/◌, ℕ, zero, suc, List, [], drop}
-use Rattle.std.proofs.Common.{length, map, Option, Some, None, refl, sym, ap, ◌∙◌, arith, add-one}
-use Rattle.std.proofs.Common.{inl, inr, length-drop, length-take, is_none, min, option_map}
-use Rattle.std.proofs.Common.{option_to_list, slice_get, slice_range}
+use Rattle.std.proofs.Common.{◌≡◌, ◌<◌, ◌≤◌, ◌+◌, ◌-◌, ◌*◌, ◌/◌, ℕ, zero, suc, List, [], drop, length, map, Option, Some, None, refl, sym, ap, ◌∙◌, arith, add-one, inl, inr, length-drop, length-take, is_none, min, option_map, option_to_list, slice_get}
+use Rattle.std.proofs.Common.{slice_range}
 use Rattle.std.specs.List.{range_with_len}
 use Rattle.std.proofs.Math.Nat.{mul-div_cancel_left, mul-le-mul_left, zero-div}
 use Rattle.std.proofs.lemmas.Bool.{cases_lt}
-use Rattle.std.proofs.lemmas.List.FromFn.{get_or-map-range_with_len, length-map-range_with_len}
-use Rattle.std.proofs.lemmas.List.FromFn.{map-range_with_len_more}
+use Rattle.std.proofs.lemmas.List.FromFn.{get_or-map-range_with_len, length-map-range_with_len, map-range_with_len_more}
 use Rattle.std.proofs.lemmas.Option.{slice_get-get_or, slice_get_past}
 use Rattle.goblin_base.specs.Bytes.{slice_at}
-use Rattle.goblin_base.specs.Tables.{Format, concat_below, counted_table, counted_table_if, entry_at}
-use Rattle.goblin_base.specs.Tables.{records_in, whole_entries}
+use Rattle.goblin_base.specs.Tables.{Format, concat_below, counted_table, counted_table_if, entry_at, records_in, whole_entries}
 use Rattle.goblin_base.proofs.Below.{least-is}
 use Rattle.goblin_base.proofs.Numbers.{slice-of_slice, slice_at-inside, slice_at-past}
 use Rattle.goblin_base.proofs.RecordItems.{length-records_in, records_in-none}

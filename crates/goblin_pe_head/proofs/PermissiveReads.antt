@@ -3,8 +3,7 @@ use Rattle.std.proofs.Common.{ℕ, ◌+◌, ◌*◌, true, false, List, Option}
 use Rattle.goblin_base.specs.Reading.{Repeats}
 use Rattle.goblin_base.proofs.Kept.{Keeps, all_at-kept}
 use Rattle.readings.specs.Reads.{◌beside◌}
-use Rattle.readings.proofs.Modes.{repeats-beside, repeats-mapped, repeats-or_else, repeats-same}
-use Rattle.readings.proofs.Modes.{repeats-then}
+use Rattle.readings.proofs.Modes.{repeats-beside, repeats-mapped, repeats-or_else, repeats-same, repeats-then}
 use Rattle.goblin_pe_sect.specs.SectionReadings.{named_section_at}
 use Rattle.goblin_pe_sect.proofs.PermissiveReads.{repeats-named_section_at}
 use Rattle.goblin_pe_head.specs.CoffReadings as coff

@@ -1,7 +1,5 @@
 -- What is listed of a hint and of an entry.
-use Rattle.std.proofs.Common.{◌≡◌, ℕ, ◌+◌, Bool, true, false, nat_le, Option, Some, None, List, []}
-use Rattle.std.proofs.Common.{◌++◌, ◌-◌, ◌≤◌, ap, drop, length, length-drop, length-take, refl, arith}
-use Rattle.std.proofs.Common.{inl, inr, slice_range}
+use Rattle.std.proofs.Common.{◌≡◌, ℕ, ◌+◌, Bool, true, false, nat_le, Option, Some, None, List, [], ◌++◌, ◌-◌, ◌≤◌, ap, drop, length, length-drop, length-take, refl, arith, inl, inr, slice_range}
 use Rattle.std.proofs.lemmas.Bool.{cases_Bool, le-leb, leb-false, leb-true}
 use Rattle.goblin_base.specs.Bytes.{slice_at}
 use Rattle.goblin_base.specs.Footprints.{Range, positions, slice_footprint}

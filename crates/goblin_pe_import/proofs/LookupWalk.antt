@@ -5,26 +5,22 @@ use Rattle.std.proofs.Math.Nat.{mul-div_cancel_left}
 use Rattle.goblin_base.specs.declared.error.ErrorOf.{ErrorOf}
 use Rattle.goblin_base.specs.Answers.{◌>>=◌, all_of}
 use Rattle.goblin_base.specs.Reading.{IsRefused}
-use Rattle.goblin_base.specs.Tables.{Format, SlotFormat, concat_below, kept_slots, made_of, slot_at, slot_place, slot_table}
-use Rattle.goblin_base.specs.Tables.{ends_table, stop}
+use Rattle.goblin_base.specs.Tables.{Format, SlotFormat, concat_below, kept_slots, made_of, slot_at, slot_place, slot_table, ends_table, stop}
 use Rattle.goblin_base.proofs.SlotTables.{reads}
 use Rattle.goblin_base.proofs.Steps.{step}
 use Rattle.goblin_pe_import.specs.ImportEntries.{EntryValue, LookupEntry, entry_slots}
 use Rattle.goblin_pe_import.specs.declared.import.lookup_table.SyntheticImportLookupTableEntry.{SyntheticImportLookupTableEntry}
 use Rattle.goblin_pe_import.specs.declared.import.kept.KeptEntry.{KeptEntry}
 use Rattle.goblin_pe_import.specs.ImportLookup.{entry_model, kept_model}
-use Rattle.goblin_pe_import.specs.KeptEntries.{IsEntriesCause, KeptValue, entries_from, entry_items, kept_at}
-use Rattle.goblin_pe_import.specs.KeptEntries.{kept_value, place_after}
+use Rattle.goblin_pe_import.specs.KeptEntries.{IsEntriesCause, KeptValue, entries_from, entry_items, kept_at, kept_value, place_after}
 use Rattle.goblin_pe_import.specs.Steps.{AreCounted, GivesWithin, IsOut, UnlessErr}
-use Rattle.readings.specs.Walks.{GivesNext, IsWalkOf, from_slot, end_items, items_at, items_of, table_walk}
-use Rattle.readings.specs.Walks.{until_refused}
+use Rattle.readings.specs.Walks.{GivesNext, IsWalkOf, from_slot, end_items, items_at, items_of, table_walk, until_refused}
 use Rattle.readings.proofs.Walked.{AtWalk, walk-all, walk-fault, walk-more, walk-start}
 use Rattle.goblin_pe_import.specs.LookupReadings.{kept_entry, lookup_entry_at, lookup_with_slots}
 use Rattle.goblin_pe_import.proofs.ImportBound.{kept_entry-few}
 use Rattle.goblin_pe_import.proofs.PermissiveReads.{entry-never}
 use Rattle.readings.proofs.WalkValues.{walk-value}
-use Rattle.readings.proofs.Walks.{IsSlotCause, cause-slot, concat_below-same, slot-end, slot-going}
-use Rattle.readings.proofs.Walks.{slot-missing, until_refused-later, until_refused-made, walk-slot}
+use Rattle.readings.proofs.Walks.{IsSlotCause, cause-slot, concat_below-same, slot-end, slot-going, slot-missing, until_refused-later, until_refused-made, walk-slot}
 use Rattle.goblin_pe_sect.specs.Addresses.{Addressing}
 
 -- the kept entries, and the indexes of their slots

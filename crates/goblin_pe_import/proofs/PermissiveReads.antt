@@ -1,22 +1,17 @@
 -- What strict mode reads of imports, permissive mode reads, too; and what it refuses not.
-use Rattle.std.proofs.Common.{◌+◌, ◌≡◌, ℕ, Bool, true, false, cond, List, [], ◌∷◌, Option, None}
-use Rattle.std.proofs.Common.{Some, refl}
+use Rattle.std.proofs.Common.{◌+◌, ◌≡◌, ℕ, Bool, true, false, cond, List, [], ◌∷◌, Option, None, Some, refl}
 use Rattle.goblin_base.specs.Reading.{Reading, Repeats}
 use Rattle.goblin_base.specs.Tables as tables
 use Rattle.goblin_base.specs.Tables.{Format}
 use Rattle.readings.specs.Reads.{given, in_its_place, text_within}
-use Rattle.readings.proofs.Modes.{repeats-beside, repeats-mapped, repeats-or_else}
-use Rattle.readings.proofs.Modes.{repeats-or_left_out, repeats-pick, repeats-same, repeats-table}
-use Rattle.readings.proofs.Modes.{repeats-table_with_slots}
+use Rattle.readings.proofs.Modes.{repeats-beside, repeats-mapped, repeats-or_else, repeats-or_left_out, repeats-pick, repeats-same, repeats-table, repeats-table_with_slots}
 use Rattle.goblin_pe_import.specs.ImportRecords.{address_table_rva, import_slots, lookup_offset}
 use Rattle.goblin_pe_import.specs.ImportLookup.{EntryValue, entry_slots}
 use Rattle.goblin_pe_import.specs.ImportEntries.LookupEntry.{ByOrdinal}
 use Rattle.goblin_pe_sect.specs.AddressReadings.{at_address, name_at}
 use Rattle.goblin_pe_sect.specs.Addresses.{Addressing}
-use Rattle.goblin_pe_import.specs.ImportReadings.{kept_library, libraries_at}
-use Rattle.goblin_pe_import.specs.ImportReadings.{import_record_at, library_of, lookup_if, numbered_libraries_at}
-use Rattle.goblin_pe_import.specs.LookupReadings.{address_table, hint_name, kept_entry, kept_name}
-use Rattle.goblin_pe_import.specs.LookupReadings.{lookup_entry_at, lookup_table, lookup_with_slots}
+use Rattle.goblin_pe_import.specs.ImportReadings.{kept_library, libraries_at, import_record_at, library_of, lookup_if, numbered_libraries_at}
+use Rattle.goblin_pe_import.specs.LookupReadings.{address_table, hint_name, kept_entry, kept_name, lookup_entry_at, lookup_table, lookup_with_slots}
 use Rattle.goblin_pe_import.specs.declared.import.directory_entry.ImportDirectoryEntry.{ImportDirectoryEntry}
 
 hint_repeats : (longest : Option ℕ) (p : ℕ)

@@ -1,8 +1,7 @@
 -- The data directories by the room in the file: what they are, and which cause is true of them.
 use Rattle.std.proofs.Common.{◌≡◌, ◌≢◌, ◌/◌, ◌%◌, ◌+◌, ◌-◌, ◌*◌, ◌<◌, ◌≤◌, ◌&&◌, ◌||◌, ℕ, zero, suc, Bool, true, false, cond, get_or, nat_eq, nat_le, List, length, map, Option, Some, None, refl, replicate, set, subst, sym, ap, ◌∙◌, inl, inr, arith, option_and_then, option_map, slice_range}
 use Rattle.std.specs.List.{range_with_len, slice_get}
-use Rattle.std.proofs.lemmas.Bool.{cases_eq, cases_lt, eq-eqb, eqb-false, le-leb, leb-false}
-use Rattle.std.proofs.lemmas.Bool.{leb-true, lt-leb, ne_eqb, or_parts}
+use Rattle.std.proofs.lemmas.Bool.{cases_eq, cases_lt, eq-eqb, eqb-false, le-leb, leb-false, leb-true, lt-leb, ne_eqb, or_parts}
 use Rattle.std.proofs.lemmas.List.FromFn.{get_or-map-range_with_len, length-map-range_with_len}
 use Rattle.std.proofs.lemmas.Option.{slice_get_past, slice_get_read}
 use Rattle.goblin_base.specs.declared.endian.Endian.TheVariants.{Little}
@@ -20,9 +19,7 @@ use Rattle.goblin_base.proofs.Steps.{all_at-none, unmapped}
 use Rattle.goblin_pe_sect.specs.declared.data_directories.DataDirectory.{DataDirectory}
 use Rattle.goblin_pe_sect.specs.DataDirectories.{directory_record, entry_ending}
 use Rattle.goblin_pe_sect.specs.DirectoryReadings.{directories_at, sixteen}
-use Rattle.goblin_pe_sect.proofs.Entries.{directory_entry_at, directory_entry_at-below}
-use Rattle.goblin_pe_sect.proofs.Entries.{directory_entry_at-past, entries_in_room, entries_more}
-use Rattle.goblin_pe_sect.proofs.Entries.{entry_unread, one_missing}
+use Rattle.goblin_pe_sect.proofs.Entries.{directory_entry_at, directory_entry_at-below, directory_entry_at-past, entries_in_room, entries_more, entry_unread, one_missing}
 
 -- ---- the value
 

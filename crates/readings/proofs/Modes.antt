@@ -1,14 +1,11 @@
 -- A read in strict mode, and again in permissive mode: once for each way to put readings together.
-use Rattle.std.proofs.Common.{ap, ◌∙◌, ◌≡◌, ℕ, Bool, true, false, cond, List, Option, Some, None}
-use Rattle.std.proofs.Common.{refl}
+use Rattle.std.proofs.Common.{ap, ◌∙◌, ◌≡◌, ℕ, Bool, true, false, cond, List, Option, Some, None, refl}
 use Rattle.goblin_base.specs.Reading.{Reading, Repeats, RepeatsAs}
 use Rattle.goblin_base.specs.Tables.{SlotFormat, kept_slots, slot_table}
-use Rattle.goblin_base.proofs.Kept.{Keeps, kept_slots-kept, map-kept, or_left_out-kept}
-use Rattle.goblin_base.proofs.Kept.{slot_table-kept, then-kept}
+use Rattle.goblin_base.proofs.Kept.{Keeps, kept_slots-kept, map-kept, or_left_out-kept, slot_table-kept, then-kept}
 use Rattle.goblin_base.proofs.Steps.{mapped as mapped_value, same_value, step}
 use Rattle.readings.specs.Reads as reads
-use Rattle.readings.specs.Reads.{◌beside◌, in_its_place, mapped, or_else, or_left_out}
-use Rattle.readings.specs.Reads.{pair_of, table, table_with_slots, with_slots}
+use Rattle.readings.specs.Reads.{◌beside◌, in_its_place, mapped, or_else, or_left_out, pair_of, table, table_with_slots, with_slots}
 
 -- the same read in both modes
 pub repeats-same : {A : Type 0} (r : Reading A) → Repeats r r

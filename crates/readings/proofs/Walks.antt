@@ -4,8 +4,7 @@ use Rattle.std.proofs.lemmas.Bool.{cases_Bool}
 use Rattle.goblin_base.specs.declared.error.ErrorOf.{ErrorOf}
 use Rattle.goblin_base.specs.Answers.{FirstFault, ◌>>=◌}
 use Rattle.goblin_base.specs.Reading.{IsRefused, Reading}
-use Rattle.goblin_base.specs.Tables.{AreMade, IsTableFault, SlotFormat, concat_below, ends_table, slot_at}
-use Rattle.goblin_base.specs.Tables.{slot_place, stop}
+use Rattle.goblin_base.specs.Tables.{AreMade, IsTableFault, SlotFormat, concat_below, ends_table, slot_at, slot_place, stop}
 use Rattle.goblin_base.proofs.Below.{least-before}
 use Rattle.goblin_base.proofs.SlotTables.{ends, reads, stop-after, stop-is}
 use Rattle.readings.specs.Reads.{table}

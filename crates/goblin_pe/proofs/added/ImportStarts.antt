@@ -11,8 +11,7 @@ use Rattle.goblin_pe_sect.specs.Addresses.{MapOfAddresses, reads_strictly}
 use Rattle.goblin_pe_import.specs.ImportEntries.{EntryValue}
 use Rattle.goblin_pe_import.specs.ImportLookup.{entries_32, entries_64}
 use Rattle.goblin_pe_import.specs.added.ImportCursors.{first_import}
-use Rattle.goblin_pe_import.specs.added.ImportWalks.{AreImportsOver, GivesImport, HasName, cursor_left, cursor_of, imports_bytes, imports_left, imports_map, no_imports, walked_value}
-use Rattle.goblin_pe_import.specs.added.ImportWalks.{IsImportsCause, IsWalkFault}
+use Rattle.goblin_pe_import.specs.added.ImportWalks.{AreImportsOver, GivesImport, HasName, cursor_left, cursor_of, imports_bytes, imports_left, imports_map, no_imports, walked_value, IsImportsCause, IsWalkFault}
 use Rattle.goblin_pe_import.specs.added.StepsAhead.{GivesImportWithin, cursor_ahead, imports_ahead}
 use Rattle.goblin_pe_import.specs.Steps.{GivesWithin}
 use Rattle.goblin_pe_import.specs.declared.added.imports.ImportCursor.{ImportCursor}

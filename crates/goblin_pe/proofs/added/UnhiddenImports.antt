@@ -1,6 +1,5 @@
 -- If no library is left out, both modes have the same imports.
-use Rattle.std.proofs.Common.{◌≡◌, ◌==◌, ◌⊎◌, ◌∙◌, ℕ, Bool, true, false, cond, List, [], Option, Some}
-use Rattle.std.proofs.Common.{None, ap, refl, sym, inl, inr, ◌∷◌, map, option_map}
+use Rattle.std.proofs.Common.{◌≡◌, ◌==◌, ◌⊎◌, ◌∙◌, ℕ, Bool, true, false, cond, List, [], Option, Some, None, ap, refl, sym, inl, inr, ◌∷◌, map, option_map}
 use Rattle.goblin_base.specs.declared.permissive.ParseMode.TheVariants.{Strict}
 use Rattle.goblin_base.specs.Answers.{◌>>=◌}
 use Rattle.goblin_base.specs.Tables.{Format}
@@ -22,8 +21,7 @@ use Rattle.goblin_pe_import.proofs.added.LeftOutLibraries.{front_has_none, none_
 use Rattle.goblin_pe_import.proofs.LibraryIndexes.{unnumbered}
 use Rattle.goblin_pe.specs.added.Damages.{imports_left_out_at, left_out_of}
 use Rattle.goblin_pe.specs.Modes.{in_mode, is_front, unless_front}
-use Rattle.goblin_pe.specs.Whole.{IfRead, NumberedTables, TablePlaces, directory_at, entry_format}
-use Rattle.goblin_pe.specs.Whole.{numbered_data_part, part_at, part_map, table_parts}
+use Rattle.goblin_pe.specs.Whole.{IfRead, NumberedTables, TablePlaces, directory_at, entry_format, numbered_data_part, part_at, part_map, table_parts}
 use Rattle.goblin_pe.proofs.Parts.{read_from}
 use Rattle.goblin_pe.proofs.PermissiveReads.{place_by, libraries_of, permissive_tables}
 

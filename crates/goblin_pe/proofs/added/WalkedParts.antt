@@ -1,7 +1,6 @@
 -- The tables of a file as walks: permissive mode refuses no import data, and a part has what a walk over it
 -- collects.
-use Rattle.std.proofs.Common.{◌≡◌, ℕ, Bool, true, false, cond, List, Option, Some, None, IsSome, refl, subst, ap, length, not, ◌&&◌, ◌==◌, option_map, Result, Ok, Err, flat_map}
-use Rattle.std.proofs.Common.{inl, inr, ◌⊎◌}
+use Rattle.std.proofs.Common.{◌≡◌, ℕ, Bool, true, false, cond, List, Option, Some, None, IsSome, refl, subst, ap, length, not, ◌&&◌, ◌==◌, option_map, Result, Ok, Err, flat_map, inl, inr, ◌⊎◌}
 use Rattle.goblin_base.specs.declared.error.ErrorOf.{ErrorOf}
 use Rattle.goblin_base.specs.Answers.{◌>>=◌, all_of}
 use Rattle.goblin_base.specs.Reading.{IsRefused, Reading}
@@ -17,8 +16,7 @@ use Rattle.goblin_pe_sect.specs.Options.{is_strict}
 use Rattle.goblin_pe_sect.specs.Addresses.{Addressing}
 use Rattle.goblin_pe_import.specs.declared.import.directory_entry.ImportDirectoryEntry.{ImportDirectoryEntry}
 use Rattle.goblin_pe_import.specs.ImportEntries.{EntryValue}
-use Rattle.goblin_pe_import.specs.ImportReadings.{import_data, kept_library, libraries_at}
-use Rattle.goblin_pe_import.specs.ImportReadings.{library_of, numbered_data, read_if, read_past_front}
+use Rattle.goblin_pe_import.specs.ImportReadings.{import_data, kept_library, libraries_at, library_of, numbered_data, read_if, read_past_front}
 use Rattle.goblin_pe_import.specs.ImportRecords.{NumberedLibrary, import_slots}
 use Rattle.goblin_pe_import.specs.Imports.{NumberedImport, numbered_imports}
 use Rattle.goblin_pe_import.proofs.LibraryIndexes.{unnumbered}
@@ -27,11 +25,9 @@ use Rattle.goblin_pe.specs.declared.whole.Part.TheVariants.{Absent}
 use Rattle.goblin_pe.specs.declared.whole.Part.TheVariants as part
 use Rattle.goblin_pe.specs.declared.added.file_imports.FileImports.{FileImports}
 use Rattle.goblin_pe.specs.added.Layouts.{IsFileImportsCause, file_imports_left}
-use Rattle.goblin_pe.specs.Whole.{TablePlaces, directory_at, entry_format, numbered_data_part}
-use Rattle.goblin_pe.specs.Whole.{import_list, part_at, part_map, part_of, BecomesPart, IfRead}
+use Rattle.goblin_pe.specs.Whole.{TablePlaces, directory_at, entry_format, numbered_data_part, import_list, part_at, part_map, part_of, BecomesPart, IfRead}
 use Rattle.std.specs.Prelude.{IfOk, Result, Ok, Err}
-use Rattle.goblin_base.specs.declared.error.ErrorOf.TheVariants.{BadMagic, BufferTooShort}
-use Rattle.goblin_base.specs.declared.error.ErrorOf.TheVariants.{Malformed, Memory, Read}
+use Rattle.goblin_base.specs.declared.error.ErrorOf.TheVariants.{BadMagic, BufferTooShort, Malformed, Memory, Read}
 
 left-there : {A : Type 0} (o : Option A) → IsSome (tables.or_left_out false o)
 left-there None = refl

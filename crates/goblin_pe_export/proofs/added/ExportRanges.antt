@@ -1,6 +1,5 @@
 -- What the tables of an export directory reach, by how many whole entries they have.
-use Rattle.std.proofs.Common.{◌≡◌, ◌<◌, ◌+◌, ◌-◌, ◌*◌, ◌/◌, ℕ, Option, None, Some, List, ◌++◌}
-use Rattle.std.proofs.Common.{length, refl, ap, arith, min}
+use Rattle.std.proofs.Common.{◌≡◌, ◌<◌, ◌+◌, ◌-◌, ◌*◌, ◌/◌, ℕ, Option, None, Some, List, ◌++◌, length, refl, ap, arith, min}
 use Rattle.goblin_base.specs.Footprints.{Range, counted_footprint, led_to, positions}
 use Rattle.readings.specs.Reads.{text_within}
 use Rattle.goblin_base.specs.Tables.{Format}

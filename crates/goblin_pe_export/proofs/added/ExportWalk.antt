@@ -1,7 +1,5 @@
 -- What comes of a walk over exports.
-use Rattle.std.proofs.Common.{◌≡◌, ◌<◌, ◌≤◌, ◌++◌, ◌+◌, ◌-◌, ℕ, zero, suc, List, [], ◌∷◌, Option}
-use Rattle.std.proofs.Common.{Some, None, length, refl, sym, ap, ◌∙◌, arith, ◌==◌, false}
-use Rattle.std.proofs.Common.{filter_map, option_to_list, ne_eqb}
+use Rattle.std.proofs.Common.{◌≡◌, ◌<◌, ◌≤◌, ◌++◌, ◌+◌, ◌-◌, ℕ, zero, suc, List, [], ◌∷◌, Option, Some, None, length, refl, sym, ap, ◌∙◌, arith, ◌==◌, false, filter_map, option_to_list, ne_eqb}
 use Rattle.std.specs.List.{cons_option, range_with_len}
 use Rattle.std.proofs.lemmas.List.Elements.{filter_map-append}
 use Rattle.std.proofs.lemmas.List.FromFn.{length-range_with_len}
@@ -13,9 +11,8 @@ use Rattle.readings.proofs.WalkValues.{range-next}
 use Rattle.goblin_pe_sect.specs.declared.data_directories.DataDirectory.{DataDirectory}
 use Rattle.goblin_pe_sect.specs.Addresses.{Addressing}
 use Rattle.goblin_pe_export.specs.ExportReadings as reading
-use Rattle.goblin_pe_export.specs.ExportRecords.{ExportTables, export_directory_record}
+use Rattle.goblin_pe_export.specs.ExportRecords.{ExportTables, export_directory_record, name_pointers}
 use Rattle.goblin_pe_export.specs.Exports.{export_data}
-use Rattle.goblin_pe_export.specs.ExportRecords.{name_pointers}
 use Rattle.goblin_pe_export.specs.added.ExportWalks.{GivesExport, GivesExportBefore, NumberedExport, exports_position, numbered_from, walked_tables}
 use Rattle.goblin_pe_export.specs.ExportReadings.{numbered_export}
 use Rattle.goblin_pe_export.specs.declared.added.exports.Exports.{Exports}

@@ -5,9 +5,7 @@ use Rattle.readings.specs.Walks.{until_refused}
 use Rattle.goblin_pe_sect.specs.Addresses.{MapOfAddresses, map_of, reads_strictly}
 use Rattle.goblin_pe_import.specs.ImportEntries.{EntryValue}
 use Rattle.goblin_pe_import.specs.Imports.{NumberedImport}
-use Rattle.goblin_pe_import.specs.added.ImportWalks.{origin, IsNamed, IsNamedAt, IsWalkAt, cursor_left}
-use Rattle.goblin_pe_import.specs.added.ImportWalks.{cursor_of, imports_bytes, imports_left}
-use Rattle.goblin_pe_import.specs.added.ImportWalks.{imports_of_entries, cursor_dll, walk_left}
+use Rattle.goblin_pe_import.specs.added.ImportWalks.{origin, IsNamed, IsNamedAt, IsWalkAt, cursor_left, cursor_of, imports_bytes, imports_left, imports_of_entries, cursor_dll, walk_left}
 use Rattle.goblin_pe_import.specs.KeptEntries.{entries_from}
 use Rattle.goblin_pe_import.specs.declared.added.imports.ImportCursor.{ImportCursor}
 use Rattle.goblin_pe_import.specs.declared.added.imports.Imports.{Imports}

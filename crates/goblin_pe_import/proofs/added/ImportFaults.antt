@@ -1,6 +1,5 @@
 -- The error that ends a walk over imports.
-use Rattle.std.proofs.Common.{ℕ, Bool, List, Option, Some, None, Err, Ok, Result, ◌∙◌, inl, inr}
-use Rattle.std.proofs.Common.{IfErr, IfSome}
+use Rattle.std.proofs.Common.{ℕ, Bool, List, Option, Some, None, Err, Ok, Result, ◌∙◌, inl, inr, IfErr, IfSome}
 use Rattle.goblin_base.specs.declared.error.ErrorOf.{ErrorOf}
 use Rattle.goblin_base.specs.Answers.{IsMemory, all_of}
 use Rattle.goblin_base.specs.Tables.{Format}
@@ -12,9 +11,7 @@ use Rattle.goblin_pe_sect.specs.Addresses.{map_of, reads_strictly, Addressing}
 use Rattle.goblin_pe_import.specs.ImportEntries.{EntryValue}
 use Rattle.goblin_pe_import.specs.ImportReadings.{libraries_at}
 use Rattle.goblin_pe_import.specs.LookupReadings.{lookup_table}
-use Rattle.goblin_pe_import.specs.added.ImportWalks.{AreImportsOver, GivesImport, HasName, IsImportsCause, imports_left}
-use Rattle.goblin_pe_import.specs.added.ImportWalks.{IsLaterCause, IsNextCause, IsWalkCause, IsWalkFault, pending_table}
-use Rattle.goblin_pe_import.specs.added.ImportWalks.{walk_left, walked_value}
+use Rattle.goblin_pe_import.specs.added.ImportWalks.{AreImportsOver, GivesImport, HasName, IsImportsCause, imports_left, IsLaterCause, IsNextCause, IsWalkCause, IsWalkFault, pending_table, walk_left, walked_value}
 use Rattle.goblin_pe_import.specs.KeptEntries.{IsEntriesCause, entries_from}
 use Rattle.goblin_pe_import.specs.added.StepsAhead.{EndsWithin}
 use Rattle.goblin_pe_import.specs.Steps.{GivesWithin}

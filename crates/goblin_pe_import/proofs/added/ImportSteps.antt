@@ -1,6 +1,5 @@
 -- The loop that looks for the next import.
-use Rattle.std.proofs.Common.{◌≡◌, ◌≤◌, ◌+◌, ℕ, Bool, true, List, [], ◌∷◌, Option, Some, None, refl}
-use Rattle.std.proofs.Common.{sym, subst, ◌∙◌, arith, Err, IfErr, IfOk, Ok, Result}
+use Rattle.std.proofs.Common.{◌≡◌, ◌≤◌, ◌+◌, ℕ, Bool, true, List, [], ◌∷◌, Option, Some, None, refl, sym, subst, ◌∙◌, arith, Err, IfErr, IfOk, Ok, Result}
 use Rattle.goblin_base.specs.declared.error.ErrorOf.{ErrorOf}
 use Rattle.goblin_base.specs.Answers.{FirstFault, ◌>>=◌, all_of}
 use Rattle.goblin_base.specs.Tables.{Format}
@@ -12,12 +11,8 @@ use Rattle.goblin_pe_import.specs.declared.import.kept.KeptEntry.{KeptEntry}
 use Rattle.goblin_pe_sect.specs.Addresses.{Addressing, map_of, reads_strictly}
 use Rattle.goblin_pe_import.specs.ImportEntries.{EntryValue}
 use Rattle.goblin_pe_import.specs.Imports.{NumberedImport}
-use Rattle.goblin_pe_import.specs.added.ImportWalks.{origin, GivesLibrary, IsLaterCause, IsNamed, IsCursorCause}
-use Rattle.goblin_pe_import.specs.added.ImportWalks.{IsNamedAt, IsWalkCause, bound_next, no_imports, imports_next}
-use Rattle.goblin_pe_import.specs.added.ImportWalks.{kept_import, later_items, walk_answer, walk_at, walk_bound}
-use Rattle.goblin_pe_import.specs.added.ImportWalks.{walk_left}
-use Rattle.goblin_pe_import.specs.KeptEntries.{IsEntriesCause, slots_bound, KeptValue, entries_from}
-use Rattle.goblin_pe_import.specs.KeptEntries.{kept_value, place_after}
+use Rattle.goblin_pe_import.specs.added.ImportWalks.{origin, GivesLibrary, IsLaterCause, IsNamed, IsCursorCause, IsNamedAt, IsWalkCause, bound_next, no_imports, imports_next, kept_import, later_items, walk_answer, walk_at, walk_bound, walk_left}
+use Rattle.goblin_pe_import.specs.KeptEntries.{IsEntriesCause, slots_bound, KeptValue, entries_from, kept_value, place_after}
 use Rattle.goblin_pe_import.specs.declared.added.imports.ImportCursor.{ImportCursor}
 
 one_before : {A : Type 0} (x : A) (o : Option (List A)) (IsNow IsNext IsLater : ErrorOf → Type 0)

@@ -11,8 +11,7 @@ use Rattle.goblin_base.specs.declared.endian.Endian.TheVariants.{Little}
 use Rattle.goblin_base.specs.Answers.{◌>>=◌, all_at, all_of}
 use Rattle.goblin_base.specs.Bytes.{IsBytes}
 use Rattle.goblin_base.specs.Reading.{Reading}
-use Rattle.goblin_base.specs.Tables.{Format, concat_below, each_below, ends_table, join, made_of}
-use Rattle.goblin_base.specs.Tables.{or_left_out, slot_at, slot_place, slot_table, stop}
+use Rattle.goblin_base.specs.Tables.{Format, concat_below, each_below, ends_table, join, made_of, or_left_out, slot_at, slot_place, slot_table, stop}
 use Rattle.goblin_base.proofs.Below.{each_below-there, least-before}
 use Rattle.goblin_base.proofs.Records.{record_at-some}
 use Rattle.goblin_base.proofs.Footprints.{same-all_at}
@@ -24,16 +23,11 @@ use Rattle.goblin_pe_import.specs.declared.import.directory_entry.ImportDirector
 use Rattle.goblin_pe_sect.specs.Addresses.{MapOfAddresses, offset_of, reads_strictly, Addressing}
 use Rattle.goblin_pe_import.specs.ImportEntries.{EntryValue, LookupEntry, entry_slots}
 use Rattle.goblin_pe_import.specs.added.ImportCursors.{before_record}
-use Rattle.goblin_pe_import.specs.ImportReadings.{at_index, first_record_offset, kept_library}
-use Rattle.goblin_pe_import.specs.ImportReadings.{library_of, lookup_if, numbered_data, numbered_libraries_at}
-use Rattle.goblin_pe_import.specs.ImportReadings.{read_if, read_past_front}
+use Rattle.goblin_pe_import.specs.ImportReadings.{at_index, first_record_offset, kept_library, library_of, lookup_if, numbered_data, numbered_libraries_at, read_if, read_past_front}
 use Rattle.goblin_pe_import.specs.ImportRecords.{ImportedLibrary, NumberedLibrary, import_record, import_slots, lookup_offset}
-use Rattle.goblin_pe_import.specs.Imports.{ImportValue, NumberedImport, at_library, import_at, import_of, imports_by}
-use Rattle.goblin_pe_import.specs.Imports.{numbered_imports}
-use Rattle.goblin_pe_import.specs.added.ImportWalks.{Origin, origin, imports_from_record, library_items, addresses_of}
-use Rattle.goblin_pe_import.specs.added.ImportWalks.{imports_next, library_name, record_index, IsCursorCause}
-use Rattle.goblin_pe_import.specs.added.ImportWalks.{IsImportsCause, IsWalkAt, cursor_of, imports_bytes, imports_left}
-use Rattle.goblin_pe_import.specs.added.ImportWalks.{imports_map, items_left, kept_import, no_imports}
+use Rattle.goblin_pe_import.specs.Imports.{ImportValue, NumberedImport, at_library, import_at, import_of, imports_by, numbered_imports}
+use Rattle.goblin_pe_import.specs.added.ImportWalks.{Origin, origin, imports_from_record, library_items, addresses_of, imports_next, library_name, record_index, IsCursorCause, IsImportsCause, IsWalkAt, cursor_of, imports_bytes, imports_left, imports_map}
+use Rattle.goblin_pe_import.specs.added.ImportWalks.{items_left, kept_import, no_imports}
 use Rattle.goblin_pe_import.specs.KeptEntries.{entries_from, KeptValue, kept_at}
 use Rattle.goblin_pe_import.specs.declared.added.imports.ImportCursor.{ImportCursor}
 use Rattle.goblin_pe_import.specs.declared.added.imports.Imports.{Imports}

@@ -1,8 +1,6 @@
 -- The walk over all imports: from one library to the next.
-use Rattle.std.proofs.Common.{◌≡◌, ◌≤◌, ◌+◌, ◌-◌, ◌*◌, ℕ, Bool, true, false, not, ◌&&◌, List, []}
-use Rattle.std.proofs.Common.{◌∷◌, ◌++◌, length, Option, Some, None, refl, sym, ap, subst, ◌∙◌}
-use Rattle.std.proofs.Common.{append_assoc, lit≤, arith, Err, IfOk, MatchResult, Ok}
-use Rattle.std.proofs.Common.{Result, option_map, unwrap_or, mul-le-mul_left, is_some}
+use Rattle.std.proofs.Common.{◌≡◌, ◌≤◌, ◌+◌, ◌-◌, ◌*◌, ℕ, Bool, true, false, not, ◌&&◌, List, [], ◌∷◌, ◌++◌, length, Option, Some, None, refl, sym, ap, subst, ◌∙◌, append_assoc, lit≤, arith, Err, IfOk, MatchResult, Ok, Result, option_map, unwrap_or}
+use Rattle.std.proofs.Common.{mul-le-mul_left, is_some}
 use Rattle.goblin_base.specs.declared.error.ErrorOf.{ErrorOf}
 use Rattle.goblin_base.specs.Answers.{FirstFault, all_of}
 use Rattle.goblin_base.specs.Reading.{IsRefused, Reading}
@@ -11,20 +9,15 @@ use Rattle.goblin_base.proofs.SlotTables.{reads}
 use Rattle.goblin_base.proofs.Steps.{unmapped}
 use Rattle.readings.specs.Reads.{given, pair_of, pick}
 use Rattle.readings.specs.Walks.{from_slot, refusal_of, until_refused}
-use Rattle.readings.proofs.Walks.{IsSlotCause, cause-slot, slot-end, slot-going, slot-missing, slot-once}
-use Rattle.readings.proofs.Walks.{walk-slot}
+use Rattle.readings.proofs.Walks.{IsSlotCause, cause-slot, slot-end, slot-going, slot-missing, slot-once, walk-slot}
 use Rattle.goblin_pe_import.specs.declared.import.directory_entry.ImportDirectoryEntry.{ImportDirectoryEntry}
 use Rattle.goblin_pe_import.specs.declared.added.imports.Walk.{Walk}
 use Rattle.goblin_pe_import.specs.ImportEntries.{EntryValue, LookupEntry}
 use Rattle.goblin_pe_import.specs.ImportReadings.{import_record_at, kept_library, library_of, lookup_if}
-use Rattle.goblin_pe_import.specs.ImportRecords.{address_table_rva, import_slots, is_last_record}
-use Rattle.goblin_pe_import.specs.ImportRecords.{lookup_offset}
+use Rattle.goblin_pe_import.specs.ImportRecords.{address_table_rva, import_slots, is_last_record, lookup_offset}
 use Rattle.goblin_pe_import.specs.Imports.{NumberedImport}
-use Rattle.goblin_pe_import.specs.added.ImportWalks.{Origin, origin, GivesLibrary, IsNextCause, IsLaterCause}
-use Rattle.goblin_pe_import.specs.added.ImportWalks.{IsNamedCause, IsRecordCause, IsRecordsCause, addresses_of}
-use Rattle.goblin_pe_import.specs.added.ImportWalks.{bound_next, imports_next, is_skipped, one_if, walk_bound}
-use Rattle.goblin_pe_import.specs.added.ImportWalks.{imports_from_record, imports_of_entries, record_index}
-use Rattle.goblin_pe_import.specs.added.ImportWalks.{later_items, library_items, library_name, pending_table}
+use Rattle.goblin_pe_import.specs.added.ImportWalks.{Origin, origin, GivesLibrary, IsNextCause, IsLaterCause, IsNamedCause, IsRecordCause, IsRecordsCause, addresses_of, bound_next, imports_next, is_skipped, one_if, walk_bound, imports_from_record}
+use Rattle.goblin_pe_import.specs.added.ImportWalks.{imports_of_entries, record_index, later_items, library_items, library_name, pending_table}
 use Rattle.goblin_pe_import.specs.KeptEntries.{IsEntriesCause, KeptValue, entries_from, slots_bound}
 use Rattle.goblin_pe_import.proofs.LookupWalk.{in_two, lookup_walked}
 use Rattle.goblin_pe_import.proofs.PermissiveReads.{name_strict}

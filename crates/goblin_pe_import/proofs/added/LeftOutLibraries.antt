@@ -1,7 +1,6 @@
 -- Which libraries permissive mode leaves out: those whose address table cannot be read, and those of a
 -- directory at the front of the file.
-use Rattle.std.proofs.Common.{◌≡◌, ◌≤◌, ◌==◌, ◌||◌, ℕ, Bool, true, false, Option, None, Some, List, []}
-use Rattle.std.proofs.Common.{refl, subst, sym, arith, IsSome, is_none, option_map, not, ◌&&◌, cond, is_some}
+use Rattle.std.proofs.Common.{◌≡◌, ◌≤◌, ◌==◌, ◌||◌, ℕ, Bool, true, false, Option, None, Some, List, [], refl, subst, sym, arith, IsSome, is_none, option_map, not, ◌&&◌, cond, is_some}
 use Rattle.std.specs.Int.{from_bool}
 use Rattle.goblin_base.specs.Tables.{Format, each_below, made_of, slot_at, slot_table, stop}
 use Rattle.readings.specs.Reads.{in_its_place, pair_of}

@@ -11,8 +11,7 @@ use Rattle.goblin_pe_import.specs.ImportEntries.{EntryValue}
 use Rattle.goblin_pe_import.specs.ImportReadings.{import_record_at}
 use Rattle.goblin_pe_import.specs.ImportRecords.{import_slots, is_last_record}
 use Rattle.goblin_pe_import.specs.added.ImportWalks.{no_imports}
-use Rattle.goblin_pe_import.specs.added.Libraries.{IsEndCause, IsLibrariesCause, LibraryValue, at_record, libraries_bytes, libraries_format}
-use Rattle.goblin_pe_import.specs.added.Libraries.{libraries_from_record, libraries_left, libraries_map, libraries_next, library_at, library_value}
+use Rattle.goblin_pe_import.specs.added.Libraries.{IsEndCause, IsLibrariesCause, LibraryValue, at_record, libraries_bytes, libraries_format, libraries_from_record, libraries_left, libraries_map, libraries_next, library_at, library_value}
 use Rattle.goblin_pe_import.specs.declared.import.directory_entry.ImportDirectoryEntry.{ImportDirectoryEntry}
 use Rattle.goblin_pe_import.specs.declared.added.library_walk.Libraries.{Libraries}
 use Rattle.goblin_pe_import.specs.declared.added.library_walk.WalkedLibrary.{WalkedLibrary}

@@ -1,6 +1,5 @@
 -- Tables of slots: the loop that adds up what the entries before the stop amount to.
-use Rattle.std.proofs.Common.{◌≡◌, ◌≤◌, ◌<◌, ◌+◌, ℕ, zero, suc, Bool, true, false, Option, Some}
-use Rattle.std.proofs.Common.{None, List, length, sym, ap, ◌∙◌, refl, arith, add-one, mul-le-mul_left}
+use Rattle.std.proofs.Common.{◌≡◌, ◌≤◌, ◌<◌, ◌+◌, ℕ, zero, suc, Bool, true, false, Option, Some, None, List, length, sym, ap, ◌∙◌, refl, arith, add-one, mul-le-mul_left}
 use Rattle.std.specs.Int.{from_bool}
 use Rattle.goblin_base.specs.Tables.{SlotFormat, ends_table, slot_at, stop}
 use Rattle.goblin_base.proofs.Below.{least-before}

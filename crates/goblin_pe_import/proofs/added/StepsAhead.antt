@@ -11,10 +11,8 @@ use Rattle.goblin_pe_import.specs.ImportEntries.{EntryValue, entry_slots}
 use Rattle.goblin_pe_import.specs.LookupReadings.{entry_number}
 use Rattle.goblin_pe_import.proofs.LookupWalk.{in_slot}
 use Rattle.goblin_pe_import.specs.TableSums.{amount_of, sum_below, sum_of_slots}
-use Rattle.goblin_pe_import.specs.Steps.{AreCounted, HasNotGrown, HasSteps, IsOut, slots_ahead}
-use Rattle.goblin_pe_import.specs.Steps.{spent}
-use Rattle.goblin_pe_import.specs.added.StepsAhead.{AtSteps, HaveRunOut, later_ahead, record_steps}
-use Rattle.goblin_pe_import.specs.added.StepsAhead.{tested_ahead, pending_ahead, walk_ahead}
+use Rattle.goblin_pe_import.specs.Steps.{AreCounted, HasNotGrown, HasSteps, IsOut, slots_ahead, spent}
+use Rattle.goblin_pe_import.specs.added.StepsAhead.{AtSteps, HaveRunOut, later_ahead, record_steps, tested_ahead, pending_ahead, walk_ahead}
 use Rattle.goblin_pe_import.specs.ImportRecords.{address_table_rva, import_slots, is_last_record, lookup_offset}
 use Rattle.goblin_pe_import.specs.added.ImportWalks.{is_skipped, no_imports}
 use Rattle.goblin_pe_import.specs.declared.import.directory_entry.ImportDirectoryEntry.{ImportDirectoryEntry}

@@ -1,6 +1,5 @@
 -- What is reached at an offset that is cut to the greatest: no file is that long.
-use Rattle.std.proofs.Common.{◌≡◌, ◌<◌, ℕ, ◌+◌, ◌-◌, ◌^◌, false, nat_le, List, length, min}
-use Rattle.std.proofs.Common.{refl, ap, sym, ◌∙◌, arith, inl, inr}
+use Rattle.std.proofs.Common.{◌≡◌, ◌<◌, ℕ, ◌+◌, ◌-◌, ◌^◌, false, nat_le, List, length, min, refl, ap, sym, ◌∙◌, arith, inl, inr}
 use Rattle.std.proofs.lemmas.Bool.{cases_lt, lt-leb}
 use Rattle.goblin_base.specs.Footprints.{slice_footprint, stretch_footprint}
 use Rattle.goblin_base.proofs.SlotFootprints.{stretch-none}

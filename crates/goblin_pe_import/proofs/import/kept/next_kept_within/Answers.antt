@@ -3,8 +3,7 @@ use Rattle.goblin_base.specs.declared.error.ErrorOf.TheVariants.{Malformed}
 use Rattle.goblin_base.specs.declared.error.CauseOf.TheVariants.{LookupEnd}
 use Rattle.goblin_pe_import.specs.ImportEntries.{entry_slots}
 use Rattle.goblin_pe_import.specs.Steps.{AreCounted, slots_ahead}
-use Rattle.goblin_pe_import.proofs.LookupWalk.{refused-strictly, rest-end, rest-kept}
-use Rattle.goblin_pe_import.proofs.LookupWalk.{rest-missing, rest-refused, rest-skip, rest-start}
+use Rattle.goblin_pe_import.proofs.LookupWalk.{refused-strictly, rest-end, rest-kept, rest-missing, rest-refused, rest-skip, rest-start}
 use Rattle.goblin_pe_import.proofs.Modes.{ends, lacks_end}
 use Rattle.goblin_pe_import.proofs.SlotSteps.{counted-given, counted-one, counted-start, grown_none, grown_spent}
 use Rattle.readings.proofs.Walks.{stop-first, stop-next}

@@ -5,9 +5,7 @@ use Rattle.goblin_pe_import.specs.added.ImportWalks.{walk_answer}
 use Rattle.goblin_pe_import.specs.added.StepsAhead.{later_ahead, walk_ahead}
 use Rattle.goblin_pe_import.specs.Steps.{slots_ahead}
 use Rattle.goblin_pe_import.specs.declared.added.imports.Walk.{Walk}
-use Rattle.goblin_pe_import.proofs.added.ImportSteps.{GivesBy, at-passed, ended-cause, imports-start, next-fault}
-use Rattle.goblin_pe_import.proofs.added.ImportSteps.{next-library, next-none, next-refused, steps-after}
-use Rattle.goblin_pe_import.proofs.added.ImportSteps.{walk_answer-ok, walk_on}
+use Rattle.goblin_pe_import.proofs.added.ImportSteps.{GivesBy, at-passed, ended-cause, imports-start, next-fault, next-library, next-none, next-refused, steps-after, walk_answer-ok, walk_on}
 use Rattle.goblin_pe_import.proofs.LookupWalk.{none-left}
 use Rattle.goblin_pe_import.proofs.SlotSteps.{counted-start, grown_none, grown_spent}
 use Rattle.goblin_pe_import.proofs.added.StepsAhead.{ended-ahead, grown_then, of_ok, place-ended, steps-kept, steps-library}

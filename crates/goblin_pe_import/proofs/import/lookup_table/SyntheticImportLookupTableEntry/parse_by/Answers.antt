@@ -2,8 +2,7 @@ use Rattle.std.proofs.Common.{◌≤◌, map, ap, arith, ◌∙◌}
 use Rattle.std.proofs.lemmas.List.{length-map, map-append}
 use Rattle.std.proofs.lemmas.Result.{err_from_is_err_and}
 use Rattle.goblin_pe_import.specs.ImportLookup.{entry_model}
-use Rattle.goblin_pe_import.proofs.LookupWalk.{entries-all, entries-counted, entries-fault}
-use Rattle.goblin_pe_import.proofs.LookupWalk.{entries-more, entries-start}
+use Rattle.goblin_pe_import.proofs.LookupWalk.{entries-all, entries-counted, entries-fault, entries-more, entries-start}
 use Rattle.goblin_pe_import.proofs.import.lookup_table.SyntheticImportLookupTableEntry.parse_by.Goals as goal
 
 pub entries-init : goal.entries-init
