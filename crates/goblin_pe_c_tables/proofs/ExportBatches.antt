@@ -1,6 +1,7 @@
 -- A loop that fills records with the exports of a file from a position on.
 use Rattle.std.proofs.Common.{◌≡◌, ◌⊎◌, ℕ, ◌+◌, ◌-◌, ◌<◌, ◌≤◌, List, [], length, drop, set, ap, refl, subst, sym, arith, ◌∙◌, inl, inr, max, min, nat_le, Bool, true, false, None, Option, Some}
 use Rattle.std.proofs.lemmas.Bool.{cases_lt}
+use Rattle.std.proofs.lemmas.Bool.{leb-false, leb-true}
 use Rattle.std.specs.Iterator.{YieldsFirstBy}
 use Rattle.goblin_pe_export.specs.declared.added.exports.Exports.{Exports}
 use Rattle.goblin_pe_export.specs.declared.added.exports.WalkedExport.{WalkedExport}
@@ -111,13 +112,6 @@ at-over s t x h =
     ∙ ap (λ (b : List ℕ). numbered_from (map_of s.finder).addressing b (walked_tables t) x) h.0.0
     ∙ ap (λ (tables : ExportTables). numbered_from (map_of s.finder).addressing s.bytes.now tables x) h.1
 
--- by a test of two numbers
-pub at-most : (a b : ℕ) → nat_le a b ≡ true → a ≤ b
-at-most a b is = grind (arith, is)
-
-pub below : (a b : ℕ) → nat_le a b ≡ false → b < a
-below a b is = grind (arith, is)
-
 module _ (m : MapOfAddresses) (places : TablePlaces) (bytes : List ℕ) (found : Part Exports)
     (read : (export_part m.opts m.addressing places).value bytes ≡ Some (part_map walked_exports found)) (x : ℕ) (old : List PeExport) where
   module _ (walk : Exports) (is_read : found ≡ part.Read walk) (walks : IfRead (IsExportWalk m bytes) found) where
@@ -156,11 +150,11 @@ module _ (m : MapOfAddresses) (places : TablePlaces) (bytes : List ℕ) (found :
         (to_come now) (unrefused (numbered_from m.addressing bytes (walked_tables walk) x)) now next x (exports_position next) old new count fills
         (ap unrefused left_is) (ap (λ (items : List NumberedExport). Some (unrefused items)) rest) out (λ same. ap exports_position same ∙ at) in
         let ended : is_done ≡ true → drop count (unrefused (numbered_from m.addressing bytes (walked_tables walk) x)) ≡ [] = λ yes.
-        let past : pointer_count now ≤ exports_position next = at-most (pointer_count now) (exports_position next) (sym ends ∙ yes) in
+        let past : pointer_count now ≤ exports_position next = leb-true (pointer_count now) (exports_position next) (sym ends ∙ yes) in
         let none = none-left next (let kept = same-pointers now next over_next in omega (arith, kept, past)) in
         cc (sym given.later ∙ ap (λ (items : List NumberedExport). Some (unrefused items)) (rest ∙ none)) in
         let goes_on : is_done ≡ false → (length old ≤ count) ⊎ ((left ≡ 0) ⊎ IsRefusedNext (drop count (unrefused (numbered_from m.addressing bytes (walked_tables walk) x)))) = λ no.
-        let before : exports_position next < pointer_count now = below (pointer_count now) (exports_position next) (sym ends ∙ no) in
+        let before : exports_position next < pointer_count now = leb-false (pointer_count now) (exports_position next) (sym ends ∙ no) in
         elim through [
           | inl full ↦ inl full
           | inr past ↦ inr (inl (out (omega (arith, past, before), omega (arith, past, before))))

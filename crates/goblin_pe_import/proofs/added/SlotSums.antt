@@ -77,7 +77,7 @@ sum-few {V} slots test bytes o place sum h =
       arith,
       h.at.so_far,
       h.at.here,
-      sum_below-few amount_at h.at.index few_at,
+      sum_below-few amount_at h.at.index (λ i. few_of (slot_at slots bytes o i)),
       mul-le-mul_left h.at.index h.wide,
     )
   where
@@ -87,9 +87,6 @@ sum-few {V} slots test bytes o place sum h =
     few_of : (slot : Option V) → amount_of (λ v. from_bool (test v)) slot ≤ 1
     few_of None = omega arith
     few_of (Some v) = from_bool-few (test v)
-
-    few_at : (i : ℕ) → amount_at i ≤ 1
-    few_at i = few_of (slot_at slots bytes o i)
 
 -- a table whose entries amount to 1 and more has none where they amount to 0
 pub sum-none : {V : Type 0} (slots : SlotFormat V) (amount : V → ℕ) (bytes : List ℕ) (o : ℕ)
