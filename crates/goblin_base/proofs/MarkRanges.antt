@@ -3,7 +3,7 @@ use Rattle.std.proofs.Common.{◌≡◌, ◌<◌, ◌≤◌, ℕ, zero, suc, ◌
 use Rattle.std.proofs.Math.Bool.{or_assoc}
 use Rattle.std.proofs.lemmas.Bool.{cases_lt, cases_eq, cases_Bool, eq-eqb, ne_eqb, lt-ltb, le-leb, lt-leb, false≢true}
 use Rattle.std.proofs.lemmas.Bool.Decides.{nat_tests}
-use Rattle.std.proofs.lemmas.List.{drop_more, get_or_past, get_or-replicate, length-replicate, length-drop, nil_from_length}
+use Rattle.std.proofs.lemmas.List.{drop_all, drop_more, get_or_past, get_or-replicate, length-replicate}
 use Rattle.std.proofs.lemmas.List.Elements.{All-nil, All-cons, All-head, All-same, All-tail}
 use Rattle.goblin_base.specs.Footprints.{Covers, Range}
 use Rattle.goblin_base.specs.Marks.{AreApart, IsFootprint, IsNext, is_covered, joined, marked, put_before, ranges_from, ranges_of}
@@ -132,9 +132,6 @@ same-covered xs ys p there back =
 
 -- ---- one range after another
 
-drop_past : (m : List Bool) (at : ℕ) → length m ≤ at → drop at m ≡ []
-drop_past m at le = nil_from_length (drop at m) (omega (arith, le, length-drop at m))
-
 one_step : (m : List Bool) (at : ℕ)
     → ranges_from at (drop at m)
     ≡ cond (get_or m at false) (put_before at (ranges_from (at + 1) (drop (at + 1) m))) (ranges_from (at + 1) (drop (at + 1) m))
@@ -142,8 +139,8 @@ one_step m at =
     elim (cases_lt at (length m)) [
       | inl in' ↦ ap (ranges_from at) (drop_more m at false in')
       | inr past ↦
-          ap (ranges_from at) (drop_past m at past)
-          ∙ ap (ranges_from (at + 1)) (sym (drop_past m (at + 1) (omega (arith, past))))
+          ap (ranges_from at) (drop_all at m past)
+          ∙ ap (ranges_from (at + 1)) (sym (drop_all (at + 1) m (omega (arith, past))))
           ∙ ap (λ (b : Bool). cond b (put_before at (ranges_from (at + 1) (drop (at + 1) m))) (ranges_from (at + 1) (drop (at + 1) m))) (sym (get_or_past m at false past))
     ]
 
@@ -216,7 +213,7 @@ pub ranges-none : (m : List Bool) (at : ℕ) → ((p : ℕ) → at ≤ p → get
 ranges-none m at none =
     let to = at + length m in
     skip m (length m) at to refl (λ p low high. none p low)
-    ∙ ap (ranges_from to) (drop_past m to (omega arith))
+    ∙ ap (ranges_from to) (drop_all to m (omega arith))
 
 -- ---- the ranges of a footprint
 

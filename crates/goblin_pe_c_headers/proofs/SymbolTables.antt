@@ -9,6 +9,7 @@ use Rattle.goblin_base.specs.Parts.{bytes_between}
 use Rattle.goblin_base.specs.Strtab.{string_table}
 use Rattle.goblin_base.proofs.Steps.{mapped, same_value, step}
 use Rattle.goblin_base.proofs.TextEnds.{cond_some_by}
+use Rattle.goblin_base.proofs.Kept.{without_test}
 use Rattle.goblin_pe_head.specs.declared.header.coff.CoffHeader.{CoffHeader}
 use Rattle.goblin_pe_head.specs.CoffHeader.{string_table_offset, symbols_end}
 use Rattle.goblin_pe_head.specs.CoffReadings.{strings_at, strings_of, symbols_of}
@@ -30,15 +31,11 @@ texts_there bytes p n s is =
     let begins : nat_le p (p + n) ≡ true = le-leb p (p + n) (omega arith) in
     rw (long, begins, table.0) (ap (λ (xs : List ℕ). Some xs) (sym same))
 
-by_size : (few : Bool) (table : Option (List ℕ)) (s : List ℕ) → cond few None table ≡ Some s → table ≡ Some s
-by_size true table s is = absurd (cc is)
-by_size false table s is = is
-
 -- what is read of a string table is its texts
 strings_there : (bytes : List ℕ) (p : ℕ) (s : List ℕ) → (strings_at p).value bytes ≡ Some s → bytes_between bytes (p + 4) (p + 4 + length s) ≡ Some s
 strings_there bytes p s is =
     let size = step (number_at Little 4 bytes p) _ s is in
-    texts_there bytes (p + 4) (size.value - 4) s (by_size (nat_lt size.value 4) (string_table bytes (p + 4) (size.value - 4)) s size.then)
+    texts_there bytes (p + 4) (size.value - 4) s (without_test (nat_lt size.value 4) (string_table bytes (p + 4) (size.value - 4)) s size.then)
 
 -- what a header leads to, by how many bytes the texts have
 abbrev Leads : CoffHeader → List ℕ → Option (List ℕ) × Option (List ℕ) → Type 0
@@ -97,7 +94,7 @@ texts_length bytes p s is =
     let size = step (number_at Little 4 bytes p) _ s is in
     let table = string_table bytes (p + 4) (size.value - 4) in
     let few = not_few (nat_lt size.value 4) table s size.then in
-    let long = texts_long bytes (p + 4) (size.value - 4) s (by_size (nat_lt size.value 4) table s size.then) in
+    let long = texts_long bytes (p + 4) (size.value - 4) s (without_test (nat_lt size.value 4) table s size.then) in
     rw (size.is, few, long) refl
 
 texts_placed : (header : CoffHeader) (bytes : List ℕ) → (header.pointer_to_symbol_table == 0) ≡ false → (texts_of header).value bytes ≡ (texts_at (symbols_end header)).value bytes

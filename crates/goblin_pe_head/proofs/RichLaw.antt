@@ -3,7 +3,7 @@ use Rattle.std.proofs.Common.{◌≡◌, ℕ, Bool, zero, suc, ◌+◌, ◌-◌,
 use Rattle.std.specs.List.{range_with_len}
 use Rattle.std.specs.Int.Bits.{bit_xor}
 use Rattle.std.proofs.lemmas.Bool.{cases_lt, eqb-true, and_parts}
-use Rattle.std.proofs.lemmas.List.{drop-drop, get_or-drop, get_or-take, get_or_past, length-drop, length-take, length-take-le, take-append-drop}
+use Rattle.std.proofs.lemmas.List.{drop-drop, get_or-take, get_or_past, length-drop, length-take, length-take-le, take-append-drop}
 use Rattle.std.proofs.lemmas.List.Concat.{flat_map-cons}
 use Rattle.std.proofs.lemmas.Option.{cond_some}
 use Rattle.goblin_base.specs.declared.endian.Endian.TheVariants.{Little}
@@ -20,6 +20,7 @@ use Rattle.goblin_pe_head.specs.declared.header.rich.RichHeader.{RichHeader}
 use Rattle.goblin_pe_head.specs.declared.header.rich.RichMetadata.{RichMetadata}
 use Rattle.goblin_pe_head.proofs.RichPlaces.{before_marker, between, long_enough, of_file, stored, stored-high}
 use Rattle.goblin_pe_head.proofs.WordPlaces.{cancelled}
+use Rattle.goblin_pe_head.proofs.OptionalHeaderRoundTrip.{bytes_after}
 
 -- an entry is stored as the bytes that it was read from
 stored_entry-metadata_at : (key : ℕ) (bytes : List ℕ) (p : ℕ) → IsBytes bytes → p + 8 ≤ length bytes → stored_entry key (metadata_at key bytes p) ≡ take 8 (drop p bytes)
@@ -73,9 +74,6 @@ words_are_entries key bytes h words =
     }
 
 -- what follows the first bytes is made of bytes, and so are the first bytes
-IsBytes-drop : (n : ℕ) (bytes : List ℕ) → IsBytes bytes → IsBytes (drop n bytes)
-IsBytes-drop n bytes h i = rw (get_or-drop n bytes i 0) (h (n + i))
-
 IsBytes-take : (n : ℕ) (bytes : List ℕ) → IsBytes bytes → IsBytes (take n bytes)
 IsBytes-take n bytes h i = elim (cases_lt i n) [
   | inl lt ↦ rw (get_or-take n bytes i 0 lt) (h i)
@@ -83,7 +81,7 @@ IsBytes-take n bytes h i = elim (cases_lt i n) [
 ]
 
 IsBytes-range : (bytes : List ℕ) (p q : ℕ) → IsBytes bytes → IsBytes (slice_range bytes p q)
-IsBytes-range bytes p q h = IsBytes-take (q - p) (drop p bytes) (IsBytes-drop p bytes h)
+IsBytes-range bytes p q h = IsBytes-take (q - p) (drop p bytes) (bytes_after bytes p h)
 
 -- the first of n numbers that passes is one of them
 least_below-lt : (n : ℕ) (test : ℕ → Bool) (i : ℕ) → least_below n test ≡ Some i → i < n
@@ -124,7 +122,7 @@ entries_after stretch r h is =
     let size : length r.bytes ≡ is.end - is.start = ap length is.bytes ∙ omega (arith, length-take (is.end - is.start) (drop is.start stretch), length-drop is.start stretch, is.inside) in
     let most = leading_words-le r.key r.bytes in
     let words : length (drop r.padding_size r.bytes) % 4 ≡ 0 = omega (arith, length-drop r.padding_size r.bytes, size, is.words, is.padding, most) in
-    words_are_entries r.key (drop r.padding_size r.bytes) (IsBytes-drop r.padding_size r.bytes own) words
+    words_are_entries r.key (drop r.padding_size r.bytes) (bytes_after r.bytes r.padding_size own) words
 
 in_stretch : (stretch : List ℕ) (marker : Option ℕ) (r : Rich) → IsBytes stretch → marker_place stretch ≡ marker → before_marker stretch marker ≡ Some (Some r)
     → AreEntriesOf r.key (drop r.padding_size r.bytes) (metadata_items r.key (drop r.padding_size r.bytes))

@@ -1,5 +1,5 @@
 -- The first element of a list that passes a test.
-use Rattle.std.proofs.Common.{◌≡◌, ℕ, suc, ◌<◌, Bool, true, false, List, [], ◌∷◌, length, get_or, slice_get, Some, None, find, refl, ap, sym, ◌∙◌, inl, inr, arith}
+use Rattle.std.proofs.Common.{◌≡◌, ℕ, suc, ◌<◌, Bool, true, false, cond, List, [], ◌∷◌, length, get_or, slice_get, Some, None, find, refl, ap, sym, ◌∙◌, inl, inr, arith}
 use Rattle.std.specs.List.{position_or_len}
 use Rattle.std.proofs.lemmas.Bool.{cases_lt}
 use Rattle.std.proofs.lemmas.Option.{slice_get-get_or, slice_get_within, get_or_from_slice_get}
@@ -13,6 +13,11 @@ find_same p q (x ∷ xs) h =
     let head : p x ≡ q x = h 0 x refl in
     let tail : find p xs ≡ find q xs = find_same p q xs (λ k y e. h (suc k) y e) in
     cc
+
+-- the first element, or what is found among the others, by what the test says of it
+pub found-first : {X : Type 0} (p : X → Bool) (x : X) (all rest : List X) (b : Bool) → b ≡ p x → all ≡ x ∷ rest
+    → find p all ≡ cond b (Some x) (find p rest)
+found-first p x all rest b is begins = rw (is, begins) refl
 
 module _ {X : Type 0} (p : X → Bool) (xs : List X) where
   -- what is found is at the first place that passes

@@ -1,12 +1,8 @@
-use Rattle.std.proofs.Common.{◌≡◌, Bool, true, false, cond, List, ◌∷◌, Some, refl, sym, ◌∙◌, find}
+use Rattle.std.proofs.Common.{true, false, refl, sym, ◌∙◌}
 use Rattle.std.proofs.lemmas.Fn.{says_at}
-use Rattle.goblin_pe_export.specs.added.ExportWalks.{NumberedExport, exports_left, walked_export}
+use Rattle.goblin_pe_export.specs.added.ExportWalks.{exports_left, walked_export}
 use Rattle.goblin_pe_export.proofs.added.exports.Exports.find_export.Goals as goal
-
--- the first export, or what is found among the others, by what the test says of it
-found-first : (p : NumberedExport → Bool) (x : NumberedExport) (all rest : List NumberedExport) (b : Bool) → b ≡ p x → all ≡ x ∷ rest
-    → find p all ≡ cond b (Some x) (find p rest)
-found-first p x all rest b is begins = rw (is, begins) refl
+use Rattle.goblin_pe_sect.proofs.First.{found-first}
 
 pub exports-preserved : goal.exports-preserved
 exports-preserved g c = λ p is.

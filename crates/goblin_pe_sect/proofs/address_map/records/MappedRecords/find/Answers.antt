@@ -4,12 +4,9 @@ use Rattle.std.proofs.lemmas.Bool.Decides.{nat_tests}
 use Rattle.std.proofs.lemmas.Fn.{says_at}
 use Rattle.goblin_pe_sect.specs.SectionTable.{Section}
 use Rattle.goblin_pe_sect.proofs.address_map.records.MappedRecords.find.Goals as goal
+use Rattle.goblin_pe_sect.proofs.First.{found-first}
 
--- the first section, or what is found among the others, by what the test says of it
-found-first : (p : Section → Bool) (x : Section) (all rest : List Section) (b : Bool) → b ≡ p x → all ≡ x ∷ rest
-    → find p all ≡ cond b (Some x) (find p rest)
-found-first p x all rest b is begins = rw (is, begins) refl
-
+-- by what the test says of the first section
 place-first : (p : Section → Bool) (x : Section) (all rest : List Section) (b : Bool) → b ≡ p x → all ≡ x ∷ rest
     → position_or_len p all ≡ cond (not b) (1 + position_or_len p rest) 0
 place-first p x all rest b is begins = rw (is, begins) refl
