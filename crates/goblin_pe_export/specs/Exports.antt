@@ -3,10 +3,7 @@
 use Rattle.std.specs.Prelude.{ℕ, List, [], Option, unwrap_or}
 use Rattle.goblin_pe_sect.specs.declared.data_directories.DataDirectory.{DataDirectory}
 use Rattle.goblin_pe_sect.specs.Addresses.{Addressing}
-pub use Rattle.goblin_pe_export.specs.ExportRecords.{ExportRow, ExportTables, address_entry}
-pub use Rattle.goblin_pe_export.specs.ExportRecords.{addresses, export_directory_fields}
-pub use Rattle.goblin_pe_export.specs.ExportRecords.{export_directory_record, export_read_model}
-pub use Rattle.goblin_pe_export.specs.ExportRecords.{is_in_directory, name_pointers, ordinals}
+pub use Rattle.goblin_pe_export.specs.ExportRecords.{ExportRow, ExportTables, export_read_model}
 pub use Rattle.goblin_pe_export.specs.ExportRecords.{rva_of}
 use Rattle.goblin_pe_export.specs.ExportReadings as reading
 
