@@ -75,7 +75,8 @@ GivesFileImport s result t =
     × ((m : MapOfAddresses) (magic : ℕ) (bytes : List ℕ) → IsImportWalk m magic bytes s
     → IsImportWalk m magic bytes t)
     × IfSome result (λ r. IfErr r (λ e. ¬ IsMemory e))
-    × MatchOption result (file_cursor t ≡ no_imports) (λ r. IfErr r (λ e. file_cursor t ≡ no_imports))
+    × MatchOption result (file_cursor t ≡ no_imports)
+    (λ r. IfErr r (λ e. file_cursor t ≡ no_imports))
     × (file_bytes t ≡ file_bytes s)
     × (file_map t ≡ file_map s)
 
