@@ -1,6 +1,7 @@
-/* Makes the same calls TIMES times: repeat read|imports|exports|each_import|each_export FILE TIMES
-   It reads an image and walks over its sections, its imports or its exports. The batches have 64 rows, or one row for
-   each_import and each_export. It prints how many rows one pass has. */
+/* Makes the same calls TIMES times: repeat WHAT FILE TIMES
+   It reads the header of an image or an object, and walks over WHAT: sections, imports, exports, blocks, base_relocations,
+   symbols or relocations. With tables, it walks over the first four, and adds up a number of each row. The batches have 64
+   rows; with each_ before WHAT, one row. It prints how many rows one pass has, and the sum. */
 #include "goblin_pe.h"
 
 #include <stdio.h>
@@ -10,8 +11,9 @@
 enum { BATCH = 64 };
 
 static uint8_t *bytes;
-static size_t length;
+static size_t length, room = BATCH, count, sum;
 static struct goblin_pe_image image;
+static bool adds_up;
 
 static bool read_file(const char *name)
 {
@@ -24,42 +26,77 @@ static bool read_file(const char *name)
     return bytes && fread(bytes, 1, length, from) == length;
 }
 
-static bool is_read(void)
+static bool is_read(bool is_object)
 {
-    return goblin_pe_read_image(bytes, length, NULL, &image).status == GOBLIN_PE_STATUS_OK;
+    return (is_object ? goblin_pe_read_object : goblin_pe_read_image)(bytes, length, NULL, &image).status ==
+           GOBLIN_PE_STATUS_OK;
 }
 
-/* Walks over a table. Returns whether the walk came to its end. */
-#define WALK(name, row, kind, next, ...) \
-    static bool name(size_t *count, size_t room) \
+/* Walks over a table from a cursor on, or over the tables in its rows by `inner`. Returns whether it comes to the end. */
+#define WALK(row, number, inner) \
+    static bool walk_##row##s(struct goblin_pe_##row##_cursor cursor, bool goes_in) \
     { \
-        struct kind cursor = { 0 }; \
-        struct row rows[BATCH]; \
+        struct goblin_pe_##row rows[BATCH]; \
         struct goblin_pe_batch batch; \
         struct goblin_pe_fault fault; \
-        *count = 0; \
         do { \
-            fault = next(&image, &cursor, rows, room, __VA_ARGS__); \
-            *count += batch.count; \
+            fault = goblin_pe_next_##row##s(&image, &cursor, rows, room, STEPS &batch); \
+            count += goes_in ? 0 : batch.count; \
+            for (size_t i = 0; adds_up && i < batch.count; i++) \
+                sum += number; \
+            for (size_t i = 0; goes_in && i < batch.count; i++) \
+                if (!(inner)) \
+                    return false; \
         } while (!batch.is_done); \
         return fault.status == GOBLIN_PE_STATUS_OK; \
     }
 
-WALK(walk_sections, goblin_pe_section, goblin_pe_section_cursor, goblin_pe_next_sections, &batch)
-WALK(walk_imports, goblin_pe_import, goblin_pe_import_cursor, goblin_pe_next_imports, NULL, &batch)
-WALK(walk_exports, goblin_pe_export, goblin_pe_export_cursor, goblin_pe_next_exports, NULL, &batch)
+#define STEPS NULL,
+WALK(import, rows[i].name.length, false)
+WALK(export, rows[i].rva, false)
+#undef STEPS
+#define STEPS
+WALK(symbol, rows[i].record.value, false)
+WALK(base_relocation, rows[i].rva, false)
+WALK(coff_relocation, rows[i].virtual_address, false)
+WALK(relocation_block, rows[i].rva, walk_base_relocations(rows[i].relocations, false))
+WALK(section, rows[i].virtual_size, walk_coff_relocations(rows[i].relocations, false))
+
+#define ALL(row, goes_in) walk_##row##s((struct goblin_pe_##row##_cursor){ 0 }, goes_in)
+
+static const char *const names[] = { "sections", "imports", "exports", "blocks", "base_relocations",
+                                     "tables", "symbols", "relocations" };
+
+static bool pass(size_t what)
+{
+    count = sum = 0;
+    if (!is_read(what > 5))
+        return false;
+    switch (what) {
+    case 0: return ALL(section, false);
+    case 1: return ALL(import, false);
+    case 2: return ALL(export, false);
+    case 3: return ALL(relocation_block, false);
+    case 4: return ALL(relocation_block, true);
+    case 5: return ALL(section, false) && ALL(import, false) && ALL(export, false) && ALL(relocation_block, false);
+    case 6: return ALL(symbol, false);
+    default: return ALL(section, true);
+    }
+}
 
 int main(int argc, char **argv)
 {
-    size_t count = 0;
     if (argc != 4 || !read_file(argv[2]))
         return 2;
-    const size_t room = strncmp(argv[1], "each_", 5) ? BATCH : 1;
-    const bool of_imports = strstr(argv[1], "import"), of_exports = strstr(argv[1], "export");
+    const bool is_each = !strncmp(argv[1], "each_", 5);
+    room = is_each ? 1 : BATCH;
+    size_t what = 0;
+    while (what < 8 && strcmp(argv[1] + (is_each ? 5 : 0), names[what]))
+        what++;
+    adds_up = what == 5;
     for (long times = strtol(argv[3], NULL, 10); times > 0; times--)
-        if (!is_read() ||
-            !(of_imports ? walk_imports : of_exports ? walk_exports : walk_sections)(&count, room))
+        if (what == 8 || !pass(what))
             return 1;
-    printf("%zu\n", count);
+    printf("%zu %zu\n", count, sum);
     return 0;
 }
