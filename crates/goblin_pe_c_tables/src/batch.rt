@@ -125,8 +125,8 @@ pub fn walk<'a, T: Batched<'a>>(
         T.is_fault old new batch.new }
     ensures kept { result.status ≢ 0 → steps.new ≡ steps.old }
 {
-    *batch = ended(0);
     if refusal.status != 0 {
+        *batch = ended(0);
         return refusal;
     }
     let mut left = steps.saturating_sub(section_steps(image, records.len()));

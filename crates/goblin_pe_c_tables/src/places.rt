@@ -56,7 +56,8 @@ pub fn layout_of<'a, 'e>(alloc: Global, image: &PeImage<'a>) -> ResultOf<'e, Lay
     let opts = options_at(&image.options, places.file_alignment);
     let mut address_map = AddressMap::of_records(alloc, mapped, places.file_alignment, &opts)?;
     address_map.set_longest_name(longest_of(&image.options));
-    Ok(Layout::by(image.bytes, places_from_c(&places), records, address_map))
+    let places = places_from_c(&places_of(image));
+    Ok(Layout::by(image.bytes, places, records, address_map))
 }
 
 /// The file offset of a data directory, if it has one.
