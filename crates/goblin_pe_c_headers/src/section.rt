@@ -220,19 +220,18 @@ fn stored_section(headers: &[u8], index: usize, displacement: Option<u32>) -> Se
     section
 }
 
-// The row of the section header at an index, which is there.
+// Puts the row of the section header at an index, which is there, into its place.
 #[inline(always)]
-fn row_at<'a>(naming: &Naming<'a>, headers: &'a [u8], index: usize) -> PeSection<'a>
+fn put_row<'a>(place: &mut PeSection<'a>, naming: &Naming<'a>, headers: &'a [u8], index: usize)
     requires { index < length headers.now / 40 }
     ensures { let header = slice_range headers.now (40 * index) (40 * index + 40) in
-        row_model result ≡ row_of (naming_for_c naming.now) index header }
+        row_model place.new ≡ row_of (naming_for_c naming.now) index header }
 {
     let begin = SIZEOF_SECTION_TABLE * index;
     let header = &headers[begin..begin + SIZEOF_SECTION_TABLE];
     let section = stored_section(headers, index, naming.displacement);
-    let mut row = unnamed_row(header, index, &section);
-    name_row(&mut row, naming, &section);
-    row
+    *place = unnamed_row(header, index, &section);
+    name_row(place, naming, &section);
 }
 
 // Fills rows with section headers from the index `position` on, as far as there is room, and moves
@@ -251,7 +250,7 @@ fn fill_sections<'a>(
     let there = headers.len() / SIZEOF_SECTION_TABLE;
     let count = there.saturating_sub(first).min(records.len());
     'records: for i in 0..count {
-        records[i] = row_at(naming, headers, first + i);
+        put_row(&mut records[i], naming, headers, first + i);
     }
     *position = first + count;
     if count < records.len() {

@@ -17,7 +17,7 @@ records-preserved c =
     let i = c.args.position.now + c.records.i in
     let own = λ (k : ℕ). row_of n k (slice_range headers (40 * k) (40 * k + 40)) in
     let there : slice_get (section_rows n headers) i ≡ Some (own i) = row_inside own (length headers / 40) i (omega (arith, c.records-test.true, c.records.auto.i-end, c.min-count.ensures, c.saturating_sub.ensures)) in
-    onward-more c.records.invariant (c.args.position.now + (c.records.i + 1)) _ (there ∙ ap (λ (r : SectionRow). Some r) (sym c.row_at.ensures)) (omega arith)
+    onward-more c.records.invariant (c.args.position.now + (c.records.i + 1)) _ (there ∙ ap (λ (r : SectionRow). Some r) (sym c.put_row.ensures)) (omega arith)
     (omega (arith, c.records-test.true, c.records.auto.i-end, c.records.auto.records, c.min-count.ensures))
 
 pub returns-then-count-records : goal.returns-then-count-records
