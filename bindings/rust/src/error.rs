@@ -69,6 +69,11 @@ impl Error {
         Error::test(fault, table).err()
     }
 
+    // Whether the file is not to blame: steps or memory ran out.
+    pub(crate) const fn is_no_damage(&self) -> bool {
+        matches!(self.fault.status, STEPS | MEMORY)
+    }
+
     /// What kind of error it is.
     ///
     /// ```no_run

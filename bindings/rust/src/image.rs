@@ -68,6 +68,14 @@ fn filled<T: Default>(
 
 /// # Reading
 impl<'a> Image<'a> {
+    // The image whose record a call fills.
+    fn filled(call: impl FnOnce(&mut ffi::Image<'a>) -> ffi::Fault) -> Result<Image<'a>, Error> {
+        let record = ffi::Image::default();
+        let mut image = Image { record };
+        Error::test(call(&mut image.record), Some(Table::Header))?;
+        Ok(image)
+    }
+
     /// Reads the header and the section table of an image. The other tables are not looked at.
     ///
     /// # Errors
@@ -79,10 +87,9 @@ impl<'a> Image<'a> {
     pub fn read(bytes: &'a [u8], options: Options) -> Result<Image<'a>, Error> {
         let (of, length) = (bytes.as_ptr(), bytes.len());
         // SAFETY: the slice has this length.
-        let record = filled(Some(Table::Header), |it| unsafe {
+        Image::filled(|it| unsafe {
             ffi::goblin_pe_read_image(of, length, &options.record(), it)
-        })?;
-        Ok(Image { record })
+        })
     }
 
     /// Reads an image by the default options: strictly.
@@ -127,10 +134,9 @@ impl<'a> Image<'a> {
     pub fn read_object(bytes: &'a [u8], options: Options) -> Result<Image<'a>, Error> {
         let (of, length) = (bytes.as_ptr(), bytes.len());
         // SAFETY: the slice has this length.
-        let record = filled(Some(Table::Header), |it| unsafe {
+        Image::filled(|it| unsafe {
             ffi::goblin_pe_read_object(of, length, &options.record(), it)
-        })?;
-        Ok(Image { record })
+        })
     }
 
     /// Reads the header of a Terse Executable. It has sections, and no directories and addresses.
@@ -143,10 +149,10 @@ impl<'a> Image<'a> {
         let (of, length) = (bytes.as_ptr(), bytes.len());
         let mut header = TeHeader::default();
         // SAFETY: the slice has this length.
-        let record = filled(Some(Table::Header), |it| unsafe {
+        let image = Image::filled(|it| unsafe {
             ffi::goblin_pe_read_te(of, length, &options.record(), it, &mut header)
         })?;
-        Ok((Image { record }, header))
+        Ok((image, header))
     }
 
     /// The same image with other options: in the other mode, with another mapping or with another

@@ -1,13 +1,13 @@
 //! An image with a list of the rows of each table.
 
-use crate::error::{Error, ErrorKind};
+use crate::error::Error;
 use crate::image::{Image, Table};
 use crate::options::{Budget, Options};
 use crate::rows::{
     Export, ExportAddress, ExportDirectory, Import, RelocationBlock, RichEntry, Section,
 };
 use crate::text::Text;
-use crate::walk::Walk;
+use crate::walk::append;
 
 /// An image and the rows of its tables, as the walks of an [`Image`] give them.
 ///
@@ -85,22 +85,22 @@ impl<'a> Pe<'a> {
             relocation_blocks: Vec::new(),
             errors: Vec::new(),
         };
-        let sections = Walk::of(&image).append(&mut pe.sections, budget);
+        let sections = append(&image, &mut pe.sections, budget);
         pe.keep(sections, Ends::Refused)?;
-        let entries = image.rich_entries().append(&mut pe.rich_entries, budget);
+        let entries = append(&image, &mut pe.rich_entries, budget);
         pe.keep(entries, Ends::Early)?;
-        let imports = image.imports().append(&mut pe.imports, budget);
+        let imports = append(&image, &mut pe.imports, budget);
         pe.keep(imports, Ends::Refused)?;
         let directory = image.export_directory().map(|it| pe.export_directory = it);
         pe.keep(directory, Ends::Refused)?;
-        let exports = image.exports().append(&mut pe.exports, budget);
+        let exports = append(&image, &mut pe.exports, budget);
         pe.keep(exports, Ends::Refused)?;
-        let addresses = image.export_addresses().append(&mut pe.export_addresses, budget);
+        let addresses = append(&image, &mut pe.export_addresses, budget);
         pe.keep(addresses, Ends::Refused)?;
         if !image.options().is_permissive {
             Error::test(image.refusal::<RelocationBlock>(), Some(Table::Relocations))?;
         }
-        let blocks = image.relocation_blocks().append(&mut pe.relocation_blocks, budget);
+        let blocks = append(&image, &mut pe.relocation_blocks, budget);
         pe.keep(blocks, Ends::Early)?;
         Ok(pe)
     }
@@ -112,8 +112,7 @@ impl<'a> Pe<'a> {
             return Ok(());
         };
         let is_strict = !self.image.options().is_permissive;
-        let is_no_damage = matches!(error.kind(), ErrorKind::Steps | ErrorKind::Memory);
-        if is_no_damage || is_strict && matches!(ends, Ends::Refused) {
+        if error.is_no_damage() || is_strict && matches!(ends, Ends::Refused) {
             return Err(error);
         }
         if self.errors.try_reserve(1).is_err() {

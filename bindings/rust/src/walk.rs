@@ -5,7 +5,7 @@ use std::iter::FusedIterator;
 use std::mem::MaybeUninit;
 use std::slice;
 
-use crate::error::{Error, ErrorKind};
+use crate::error::Error;
 use crate::ffi;
 use crate::image::Image;
 use crate::options::Budget;
@@ -41,6 +41,9 @@ pub struct Walk<'a, T: Row<'a>> {
 const FIRST: usize = 32;
 const ROOM: usize = 256;
 
+// How many records `append` has on the stack.
+const STACK: usize = 128;
+
 impl<'a, T: Row<'a>> Walk<'a, T> {
     pub(crate) const fn at(image: &Image<'a>, cursor: T::Cursor) -> Walk<'a, T> {
         Walk {
@@ -66,39 +69,6 @@ impl<'a, T: Row<'a>> Walk<'a, T> {
         }
     }
 
-    // How many records to ask for: as many as the steps allow, and at most `most`.
-    fn room_within(most: usize, steps: usize) -> Result<usize, Error> {
-        let room = if T::COUNTS_STEPS { most } else { most.min(steps) };
-        if room == 0 { Err(Error::steps(Some(T::TABLE))) } else { Ok(room) }
-    }
-
-    // Fills at most `room` records with the next ones, and returns how many it filled.
-    //
-    // SAFETY: the caller has room for them.
-    unsafe fn fill(
-        &mut self,
-        rows: *mut T::Record,
-        room: usize,
-        steps: &mut usize,
-    ) -> Result<usize, Error> {
-        let mut batch = ffi::Batch::default();
-        // SAFETY: as above.
-        let fault = unsafe {
-            T::next(&self.image.record, &mut self.cursor, rows, room, steps, &mut batch)
-        };
-        if let Err(error) = Error::test(fault, Some(T::TABLE)) {
-            // (with more steps or memory it goes on)
-            self.is_over = !matches!(error.kind(), ErrorKind::Steps | ErrorKind::Memory);
-            return Err(error);
-        }
-        self.is_over = batch.is_done;
-        let count = batch.count.min(room);
-        if !T::COUNTS_STEPS {
-            *steps -= count.min(*steps);
-        }
-        Ok(count)
-    }
-
     // Reads the next records, at most `most`. Returns `false` if there are none.
     #[inline(never)]
     fn refill(&mut self, most: usize, steps: &mut usize) -> Result<bool, Error> {
@@ -106,7 +76,7 @@ impl<'a, T: Row<'a>> Walk<'a, T> {
             if self.is_over {
                 return Ok(false);
             }
-            let room = Self::room_within(most, *steps)?;
+            let room = room_within::<T>(most, *steps)?;
             self.given = 0;
             self.records.clear();
             if self.records.try_reserve_exact(room).is_err() {
@@ -115,8 +85,13 @@ impl<'a, T: Row<'a>> Walk<'a, T> {
             let rows = self.records.as_mut_ptr();
             // SAFETY: there is room for the records, and the library has filled `count` of them.
             unsafe {
-                let count = self.fill(rows, room, steps)?;
-                self.records.set_len(count);
+                let batch = fill::<T>(&self.image, &mut self.cursor, rows, room, steps);
+                self.is_over = match &batch {
+                    Ok(batch) => batch.is_done,
+                    // (with more steps or memory it goes on)
+                    Err(error) => !error.is_no_damage(),
+                };
+                self.records.set_len(batch?.count);
             }
         }
         Ok(true)
@@ -137,40 +112,62 @@ impl<'a, T: Row<'a>> Walk<'a, T> {
         self.given += 1;
         Some(Ok(T::of(record, &self.image)))
     }
-
-    // Appends all rows, and returns the error at which the walk ends. (The first records lie on the
-    // stack: most tables are short, and need no memory then but that of their rows.)
-    pub(crate) fn append(mut self, rows: &mut Vec<T>, budget: &mut Budget) -> Result<(), Error> {
-        budget.take(|steps| {
-            let mut first = [MaybeUninit::<T::Record>::uninit(); FIRST];
-            let room = Self::room_within(FIRST, *steps)?;
-            let records = first.as_mut_ptr().cast::<T::Record>();
-            // SAFETY: there is room for the records, and the library has filled `count` of them.
-            let records = unsafe {
-                let count = self.fill(records, room, steps)?;
-                slice::from_raw_parts(records, count)
-            };
-            push_rows(rows, records, &self.image)?;
-            while self.refill(ROOM, steps)? {
-                push_rows(rows, &self.records, &self.image)?;
-                self.given = self.records.len();
-            }
-            Ok(())
-        })
-    }
 }
 
-// Appends the rows of these records.
-fn push_rows<'a, T: Row<'a>>(
-    rows: &mut Vec<T>,
-    records: &[T::Record],
+// How many records to ask for: as many as the steps allow, and at most `most`.
+fn room_within<'a, T: Row<'a>>(most: usize, steps: usize) -> Result<usize, Error> {
+    let room = if T::COUNTS_STEPS { most } else { most.min(steps) };
+    if room == 0 { Err(Error::steps(Some(T::TABLE))) } else { Ok(room) }
+}
+
+// Fills at most `room` records with the next ones, and says how many it filled.
+//
+// SAFETY: the caller has room for them.
+unsafe fn fill<'a, T: Row<'a>>(
     image: &Image<'a>,
-) -> Result<(), Error> {
-    if rows.try_reserve(records.len()).is_err() {
-        return Err(Error::memory(Some(T::TABLE)));
+    cursor: &mut T::Cursor,
+    rows: *mut T::Record,
+    room: usize,
+    steps: &mut usize,
+) -> Result<ffi::Batch, Error> {
+    let mut batch = ffi::Batch::default();
+    // SAFETY: as above.
+    let fault = unsafe { T::next(&image.record, cursor, rows, room, steps, &mut batch) };
+    Error::test(fault, Some(T::TABLE))?;
+    batch.count = batch.count.min(room);
+    if !T::COUNTS_STEPS {
+        *steps -= batch.count.min(*steps);
     }
-    rows.extend(records.iter().map(|record| T::of(record, image)));
-    Ok(())
+    Ok(batch)
+}
+
+// Appends all rows of a table, and returns the error at which the walk ends. (The records lie on the
+// stack, so it needs no memory but that of the rows.)
+pub(crate) fn append<'a, T: Row<'a>>(
+    image: &Image<'a>,
+    rows: &mut Vec<T>,
+    budget: &mut Budget,
+) -> Result<(), Error> {
+    let mut cursor = T::Cursor::default();
+    let mut records = [MaybeUninit::<T::Record>::uninit(); STACK];
+    let first = records.as_mut_ptr().cast::<T::Record>();
+    budget.take(|steps| {
+        loop {
+            let room = room_within::<T>(STACK, *steps)?;
+            // SAFETY: there is room for the records, and the library has filled `count` of them.
+            let (records, is_done) = unsafe {
+                let batch = fill::<T>(image, &mut cursor, first, room, steps)?;
+                (slice::from_raw_parts(first, batch.count), batch.is_done)
+            };
+            if rows.try_reserve(records.len()).is_err() {
+                return Err(Error::memory(Some(T::TABLE)));
+            }
+            rows.extend(records.iter().map(|record| T::of(record, image)));
+            if is_done {
+                return Ok(());
+            }
+        }
+    })
 }
 
 impl<'a, T: Row<'a>> Iterator for Walk<'a, T> {
