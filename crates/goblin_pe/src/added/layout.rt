@@ -1,6 +1,6 @@
 //! What a reader of any table of a file needs.
 
-ghost use Rattle.std.specs.Prelude.{◌/◌, ◌<◌, ◌≡◌, IfErr, IfOk, IsErrAnd, Ok, Some};
+ghost use Rattle.std.specs.Prelude.{◌/◌, ◌<◌, ◌≡◌, IfErr, IfOk, IfSome, IsErrAnd, Ok, Some};
 ghost use Rattle.std.specs.Prelude.{Option, length, map};
 ghost use Rattle.std.specs.List.{flat_map};
 ghost use Rattle.goblin_base.specs.declared.error.ErrorOf.{ErrorOf};
@@ -31,14 +31,15 @@ ghost use Rattle.goblin_pe.specs.added.Layouts.{layout_map, layout_places, layou
 ghost use Rattle.goblin_pe.specs.added.Layouts.{address_part, walked_exports};
 ghost use Rattle.goblin_pe_export.specs.added.ExportWalks.{walked_tables};
 ghost use Rattle.goblin_pe.specs.added.TakenMemory.{TakesIndex};
-ghost use Rattle.goblin_pe.specs.Whole.{IfRead, entry_format, export_part, import_list, part_map};
-ghost use Rattle.goblin_pe.specs.Whole.{relocation_part, section_table_offset, places_in};
+ghost use Rattle.goblin_pe.specs.Whole.{IfRead, directory_at, entry_format, export_part, import_list};
+ghost use Rattle.goblin_pe.specs.Whole.{part_map, relocation_part, section_table_offset, places_in};
 ghost use Rattle.goblin_pe.specs.Whole.{sections_after, table_places};
 
 use crate::added::{Exports, FileImports, ImportCursor, Imports, LeftOut};
 use crate::whole::Part;
 use crate::whole::places::{
-    EXPORT_TABLE, IMPORT_TABLE, Places, file_alignment, part_of, size_of_headers,
+    BASE_RELOCATION_TABLE, EXPORT_TABLE, IMPORT_TABLE, Places, file_alignment, part_of,
+    size_of_headers,
 };
 use crate::whole::sections::section_table_offset;
 use goblin_base::{Cause, Error, Result, ResultOf, pread_slice};
@@ -415,6 +416,26 @@ impl<'a> Layout<'a> {
             (layout_table relocation_part self.now) (layout_bytes self.now) }
     {
         self.places.relocations(self.bytes, &self.address_map)
+    }
+
+    /// The same, where the file offset of the directory is known: that of its address.
+    ///
+    /// # Errors
+    /// As [`relocations`](Self::relocations).
+    #[tactic(auto, unfolding(crate::specs::Whole::relocation_part))]
+    pub fn relocations_at(&self, offset: Option<usize>) -> Result<Part<RelocationData<'a>>>
+        requires { IfSome (directory_at (layout_places self.now) 5)
+            (λ d. offset ≡ (layout_map self.now).addressing.offset d.virtual_address) }
+        ensures { Reads (part_map relocation_bytes) result
+            (layout_table relocation_part self.now) (layout_bytes self.now) }
+    {
+        let Some(directory) = self.places.directory(BASE_RELOCATION_TABLE) else {
+            return Ok(Part::Absent);
+        };
+        part_of(
+            RelocationData::parse_at(self.bytes, directory, offset),
+            self.address_map.opts(),
+        )
     }
 
     /// The bytes of the data directory at an index, which lie at its address. The certificate
