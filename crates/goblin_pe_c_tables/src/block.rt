@@ -105,9 +105,10 @@ impl<'a> Batched<'a> for PeRelocationBlock {
         _steps: &mut usize,
         records: &mut [PeRelocationBlock],
     ) -> ResultOf<'e, PeBatch> {
-        match layout.relocations()? {
+        let offset = directory_offset(layout, 5);
+        match layout.relocations_at(offset)? {
             Part::Read(relocations) => {
-                let begin = directory_offset(layout, 5).unwrap_or(0);
+                let begin = offset.unwrap_or(0);
                 fill_blocks(layout.bytes(), &relocations, begin, position, records)
             }
             Part::Absent | Part::Refused => Ok(at_room(records.len(), 0, true)),
