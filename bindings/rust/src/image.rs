@@ -20,7 +20,7 @@ use crate::options::{Budget, Options};
 use crate::patch;
 use crate::rows::{
     Export, ExportAddress, ExportDirectory, Forwarder, Import, Library, RelocationBlock, RichEntry,
-    RichHeader, Section, Symbol,
+    RichHeader, Section, Sections, Symbol,
 };
 use crate::text::Text;
 use crate::walk::{Rows, Walk, Walked};
@@ -314,7 +314,7 @@ impl<'a> Image<'a> {
 impl<'a> Image<'a> {
     /// The section headers, in order.
     pub fn sections(&self) -> Rows<'a, Section<'a>> {
-        Rows::of(*self, self.record.section_count)
+        Rows::of(Sections::of(self), self.record.section_count)
     }
 
     /// A walk over the entries of the Rich header.
@@ -420,7 +420,7 @@ impl<'a> Image<'a> {
     #[must_use]
     pub fn section_by_number(&self, number: i16) -> Option<Section<'a>> {
         let index = usize::try_from(number).ok()?.checked_sub(1)?;
-        self.sections().nth(index)
+        self.first(ffi::SectionCursor { index }).ok()?
     }
 
     /// The export directory; `None` if the image has none, or permissive mode skips a damaged one.

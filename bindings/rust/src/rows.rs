@@ -207,19 +207,43 @@ impl<'a> Section<'a> {
     }
 }
 
-impl<'a> Listed<'a> for Section<'a> {
-    type Table = Image<'a>;
+/// The section headers of an image, and those that were read last.
+#[derive(Clone, Copy)]
+pub struct Sections<'a> {
+    image: Image<'a>,
+    records: [ffi::Section<'a>; 8],
+    first: usize,
+    count: usize,
+}
 
-    fn at(image: &Image<'a>, index: usize) -> Section<'a> {
-        let (mut cursor, mut record) = (ffi::SectionCursor { index }, ffi::Section::default());
-        let mut batch = ffi::Batch::default();
-        // SAFETY: there is room for one row.
-        let fault = unsafe {
-            let row = &raw mut record;
-            ffi::goblin_pe_next_sections(&image.record, &mut cursor, row, 1, &mut batch)
-        };
-        debug_assert_eq!((fault.status, batch.count), (0, 1));
-        Section::of(&record)
+impl<'a> Sections<'a> {
+    pub(crate) fn of(image: &Image<'a>) -> Sections<'a> {
+        Sections {
+            image: *image,
+            records: Default::default(),
+            first: 0,
+            count: 0,
+        }
+    }
+}
+
+impl<'a> Listed<'a> for Section<'a> {
+    type Table = Sections<'a>;
+
+    fn at(table: &mut Sections<'a>, index: usize) -> Section<'a> {
+        if index.wrapping_sub(table.first) >= table.count {
+            let (rows, room) = (table.records.as_mut_ptr(), table.records.len());
+            table.first = if index < table.first { index.saturating_sub(room - 1) } else { index };
+            let mut cursor = ffi::SectionCursor { index: table.first };
+            let mut batch = ffi::Batch::default();
+            // SAFETY: there is room for this many rows.
+            let fault = unsafe {
+                ffi::goblin_pe_next_sections(&table.image.record, &mut cursor, rows, room, &mut batch)
+            };
+            debug_assert_eq!((fault.status, batch.count), (0, cursor.index - table.first));
+            table.count = batch.count;
+        }
+        Section::of(&table.records[index - table.first])
     }
 }
 
@@ -582,7 +606,7 @@ impl<'a> RelocationBlock<'a> {
 impl<'a> Listed<'a> for BaseRelocation {
     type Table = (u32, &'a [u8]);
 
-    fn at(&(page, entries): &(u32, &'a [u8]), index: usize) -> BaseRelocation {
+    fn at(&mut (page, entries): &mut (u32, &'a [u8]), index: usize) -> BaseRelocation {
         let word = u16::from_le_bytes([entries[2 * index], entries[2 * index + 1]]);
         BaseRelocation {
             rva: page.wrapping_add((word & 0xFFF).into()),

@@ -277,7 +277,7 @@ impl<'a, T: Listed<'a>> Iterator for Rows<'a, T> {
     fn nth(&mut self, index: usize) -> Option<T> {
         let at = self.front.saturating_add(index).min(self.back);
         self.front = self.back.min(at + 1);
-        (at < self.back).then(|| T::at(&self.table, at))
+        (at < self.back).then(|| T::at(&mut self.table, at))
     }
 }
 
@@ -287,7 +287,7 @@ impl<'a, T: Listed<'a>> DoubleEndedIterator for Rows<'a, T> {
             return None;
         }
         self.back -= 1;
-        Some(T::at(&self.table, self.back))
+        Some(T::at(&mut self.table, self.back))
     }
 }
 
@@ -346,6 +346,6 @@ mod sealed {
         type Table: Copy;
 
         /// The row at an index, which is there.
-        fn at(table: &Self::Table, index: usize) -> Self;
+        fn at(table: &mut Self::Table, index: usize) -> Self;
     }
 }
