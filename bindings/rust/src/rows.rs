@@ -130,6 +130,7 @@ impl<'a> Section<'a> {
 
     /// A walk over the relocations of a section of an object. If there are more than 65,535, the first
     /// record is only their number, and the walk leaves it out.
+    #[inline]
     pub fn relocations(&self, image: &Image<'a>) -> Walk<'a, CoffRelocation> {
         let mut cursor = self.record().relocations;
         cursor.index = cursor.is_extended.into();
