@@ -20,7 +20,7 @@ use crate::options::{Budget, Options};
 use crate::patch;
 use crate::rows::{
     Export, ExportAddress, ExportDirectory, Forwarder, Import, Library, RelocationBlock, RichEntry,
-    RichHeader, Section, Sections, Symbol,
+    RichHeader, Section, Symbol,
 };
 use crate::text::Text;
 use crate::walk::{Rows, Walk, Walked};
@@ -314,7 +314,7 @@ impl<'a> Image<'a> {
 impl<'a> Image<'a> {
     /// The section headers, in order.
     pub fn sections(&self) -> Rows<'a, Section<'a>> {
-        Rows::of(Sections::of(self), self.record.section_count)
+        Rows::of((*self, Default::default(), 0, 0), self.record.section_count)
     }
 
     /// A walk over the entries of the Rich header.

@@ -208,43 +208,24 @@ impl<'a> Section<'a> {
     }
 }
 
-/// The section headers of an image, and those that were read last.
-#[derive(Clone, Copy)]
-pub struct Sections<'a> {
-    image: Image<'a>,
-    records: [ffi::Section<'a>; 8],
-    first: usize,
-    count: usize,
-}
-
-impl<'a> Sections<'a> {
-    pub(crate) fn of(image: &Image<'a>) -> Sections<'a> {
-        Sections {
-            image: *image,
-            records: Default::default(),
-            first: 0,
-            count: 0,
-        }
-    }
-}
-
 impl<'a> Listed<'a> for Section<'a> {
-    type Table = Sections<'a>;
+    // The image, the records that were read last, the index of the first one, and how many they are.
+    type Table = (Image<'a>, [ffi::Section<'a>; 8], usize, usize);
 
-    fn at(table: &mut Sections<'a>, index: usize) -> Section<'a> {
-        if index.wrapping_sub(table.first) >= table.count {
-            let (rows, room) = (table.records.as_mut_ptr(), table.records.len());
-            table.first = if index < table.first { index.saturating_sub(room - 1) } else { index };
-            let mut cursor = ffi::SectionCursor { index: table.first };
+    fn at((image, records, first, count): &mut Self::Table, index: usize) -> Section<'a> {
+        if index.wrapping_sub(*first) >= *count {
+            let (rows, room) = (records.as_mut_ptr(), records.len());
+            *first = if index < *first { index.saturating_sub(room - 1) } else { index };
+            let mut cursor = ffi::SectionCursor { index: *first };
             let mut batch = ffi::Batch::default();
             // SAFETY: there is room for this many rows.
             let fault = unsafe {
-                ffi::goblin_pe_next_sections(&table.image.record, &mut cursor, rows, room, &mut batch)
+                ffi::goblin_pe_next_sections(&image.record, &mut cursor, rows, room, &mut batch)
             };
-            debug_assert_eq!((fault.status, batch.count), (0, cursor.index - table.first));
-            table.count = batch.count;
+            debug_assert_eq!((fault.status, batch.count), (0, cursor.index - *first));
+            *count = batch.count;
         }
-        Section::of(&table.records[index - table.first])
+        Section::of(&records[index - *first])
     }
 }
 
