@@ -102,6 +102,14 @@ directory_at places i =
     option_and_then (λ (d : DataDirectory).
     if d.virtual_address == 0 && d.size == 0 then None else Some d) (slice_get places.directories i)
 
+-- the file offset of a data directory, if there is one and it has one
+abbrev pub offset_in : Addressing → Option DataDirectory → Option ℕ
+offset_in addressing None = None
+offset_in addressing (Some d) = addressing.offset d.virtual_address
+
+abbrev pub directory_offset : Addressing → TablePlaces → ℕ → Option ℕ
+directory_offset addressing places index = offset_in addressing (directory_at places index)
+
 -- where the tables lie, from an optional header; without one there are no tables
 unfoldable pub places_in : Option OptionalHeader → TablePlaces
 places_in None =

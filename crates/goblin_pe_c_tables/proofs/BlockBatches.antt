@@ -11,7 +11,7 @@ use Rattle.goblin_pe_sect.specs.declared.relocation.base.RelocationBlock.{Reloca
 use Rattle.goblin_pe_sect.specs.declared.relocation.base.RelocationData.{RelocationData}
 use Rattle.goblin_pe_sect.specs.BaseRelocations.{Block, FindsItem, block_at, block_items, block_value, first_items, relocation_bytes, then_items, with_head, with_words}
 use Rattle.goblin_pe.specs.Addresses.{MapOfAddresses}
-use Rattle.goblin_pe.specs.Whole.{TablePlaces, directory_at, part_at, part_map, part_of, relocation_part}
+use Rattle.goblin_pe.specs.Whole.{TablePlaces, directory_at, offset_in, part_at, part_map, part_of, relocation_part}
 use Rattle.goblin_base.proofs.Numbers.{slice_at-some}
 use Rattle.goblin_base.proofs.RecordRoundTrip.{length-slice}
 use Rattle.goblin_pe_sect.specs.Options.{is_strict}
@@ -25,7 +25,6 @@ use Rattle.goblin_pe_c_tables.specs.declared.block.PeRelocationBlock.{PeRelocati
 use Rattle.goblin_pe_c_headers.specs.Items.{without_causes}
 use Rattle.goblin_pe_c_headers.specs.Onward.{IsRefusedNext, values_before}
 use Rattle.goblin_pe_c_tables.specs.Batches.{BlockBatch, GivesBlocksIn, GivesBlocks, IsBlockCause, IsBlocksFault, at_room, block_for_c, block_table, blocks_from, placed, relocations_begin}
-use Rattle.goblin_pe_c_tables.specs.Places.{offset_in}
 use Rattle.goblin_pe_c_headers.proofs.Batches.{AtItems, items-end, items-fault, items-full, items-more, items-refused, items-start, items-stay, items-taken, items-then, done-end, done-full, done-none, done-refused}
 
 -- ---- a refusal is never Memory

@@ -19,7 +19,7 @@ use Rattle.goblin_pe.specs.TableSums.{amount_of}
 use Rattle.goblin_pe.specs.Reads.{given, pick}
 use Rattle.goblin_pe.specs.added.Layouts.{address_part, file_imports_left}
 use Rattle.goblin_pe.specs.added.StepsAhead.{AtSteps}
-use Rattle.goblin_pe.specs.Whole.{TablePlaces, export_part, relocation_part}
+use Rattle.goblin_pe.specs.Whole.{TablePlaces, directory_offset, export_part, relocation_part}
 use Rattle.goblin_pe_sect.specs.Addresses.{Addressing}
 use Rattle.goblin_pe.specs.declared.whole.Part.{Part}
 use Rattle.goblin_pe.specs.declared.whole.Part.TheVariants.{Absent, Refused}
@@ -35,7 +35,7 @@ use Rattle.goblin_pe_c_tables.specs.ExportDirectories.{DirectoryModel, addresses
 use Rattle.goblin_pe_c_tables.specs.ExportDirectories.{directory_for_c, no_export_directory}
 use Rattle.goblin_pe_c_tables.specs.Exports.{ExportModel, export_for_c, export_model}
 use Rattle.goblin_pe_c_tables.specs.Imports.{GivesHere, ImportModel, import_for_c, import_model}
-use Rattle.goblin_pe_c_tables.specs.Places.{TakesIndexAt, directory_offset, map_at, places_from_c}
+use Rattle.goblin_pe_c_tables.specs.Places.{TakesIndexAt, map_at, places_from_c}
 use Rattle.goblin_pe_c_headers.specs.Places.{placed_sections, image_places}
 use Rattle.goblin_pe_c_headers.specs.Items.{without_causes}
 use Rattle.goblin_pe_c_headers.specs.Onward.{AtBatch, Batch, FillsNext, GivesOnward}

@@ -15,14 +15,14 @@ use Rattle.goblin_pe_import.specs.TableSums.{amount_of}
 use Rattle.goblin_pe_import.specs.added.StepsAhead.{AtSteps}
 use Rattle.goblin_pe.specs.added.Damages.{AreDamaged, IsDamage, exports_left_out}
 use Rattle.goblin_pe.specs.added.LayoutCursors.{file_cursor_ahead}
-use Rattle.goblin_pe.specs.Whole.{TablePlaces, export_part}
+use Rattle.goblin_pe.specs.Whole.{TablePlaces, directory_offset, export_part}
 use Rattle.goblin_pe.specs.declared.added.damage.Damage.{Damage}
 use Rattle.goblin_pe_c_headers.specs.Faults.{fault, fault_of, image_fault, no_fault}
 use Rattle.goblin_pe_c_headers.specs.Places.{image_places, placed_sections}
 use Rattle.goblin_pe_c_headers.specs.declared.fault.PeFault.{PeFault}
 use Rattle.goblin_pe_c_headers.specs.declared.image.PeImage.{PeImage}
 use Rattle.goblin_pe_c_tables.specs.Batches.{pointers_in}
-use Rattle.goblin_pe_c_tables.specs.Places.{TakesIndexAt, directory_offset, map_at, places_from_c}
+use Rattle.goblin_pe_c_tables.specs.Places.{TakesIndexAt, map_at, places_from_c}
 use Rattle.goblin_pe_c_tables.specs.Steps.{or_fault, section_steps, steps_fault}
 use Rattle.goblin_pe_c_tables.specs.declared.damage.PeDamage.{PeDamage}
 

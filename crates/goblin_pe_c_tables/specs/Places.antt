@@ -1,12 +1,10 @@
 -- Where the sections and the tables of a file lie, as the record that a caller keeps.
-use Rattle.std.specs.Prelude.{◌≡◌, ℕ, Bool, List, length, Option, Some, None, IsSomeAnd}
-use Rattle.goblin_pe_sect.specs.Addresses.{Addressing, AreMany, MapOfAddresses, map_in}
-use Rattle.goblin_pe_sect.specs.Addresses.{with_longest}
-use Rattle.goblin_pe_sect.specs.declared.data_directories.DataDirectory.{DataDirectory}
+use Rattle.std.specs.Prelude.{◌≡◌, ℕ, Bool, List, length, Some, IsSomeAnd}
+use Rattle.goblin_pe_sect.specs.Addresses.{AreMany, MapOfAddresses, map_in, with_longest}
 use Rattle.goblin_pe_sect.specs.Options.{front_of}
 use Rattle.goblin_pe_sect.specs.SectionTable.{Section}
 use Rattle.goblin_pe.specs.PeHeader.{PeHeader}
-use Rattle.goblin_pe.specs.Whole.{TablePlaces, directory_at, mapped_in, places_in}
+use Rattle.goblin_pe.specs.Whole.{TablePlaces, mapped_in, places_in}
 use Rattle.goblin_pe.specs.Whole.{section_table_offset, sections_after, size_of_headers}
 use Rattle.goblin_pe_c_headers.specs.declared.options.PeOptions.{PeOptions}
 use Rattle.goblin_pe_c_headers.specs.declared.places.PePlaces.{PePlaces}
@@ -49,14 +47,6 @@ map_at o p sections =
     with_longest (longest_of o)
     (map_in (options_at o p.file_alignment)
     (record { sections = sections; front = front_of (view_of o) p.size_of_headers }) p.file_alignment)
-
--- the file offset of a data directory, if it has one
-abbrev pub offset_in : Addressing → Option DataDirectory → Option ℕ
-offset_in addressing None = None
-offset_in addressing (Some d) = addressing.offset d.virtual_address
-
-abbrev pub directory_offset : Addressing → TablePlaces → ℕ → Option ℕ
-directory_offset addressing places index = offset_in addressing (directory_at places index)
 
 -- memory is taken for an index: there are more than 96 sections
 abbrev pub TakesIndexAt : PePlaces → List ℕ → Type 0

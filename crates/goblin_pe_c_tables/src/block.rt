@@ -10,7 +10,6 @@ ghost use Rattle.goblin_pe_c_tables.specs.Batches.{blocks_from};
 ghost use Rattle.goblin_pe_c_headers.specs.Onward.{IsRefusedNext};
 
 use crate::batch::{Batched, at_room};
-use crate::places::directory_offset;
 use goblin_pe::added::Layout;
 use goblin_pe::relocation::{RelocationBlock, RelocationData};
 use goblin_pe::{Part, ResultOf};
@@ -105,8 +104,8 @@ impl<'a> Batched<'a> for PeRelocationBlock {
         _steps: &mut usize,
         records: &mut [PeRelocationBlock],
     ) -> ResultOf<'e, PeBatch> {
-        let offset = directory_offset(layout, 5);
-        match layout.relocations_at(offset)? {
+        let (offset, relocations) = layout.placed_relocations();
+        match relocations? {
             Part::Read(relocations) => {
                 let begin = offset.unwrap_or(0);
                 fill_blocks(layout.bytes(), &relocations, begin, position, records)

@@ -5,8 +5,8 @@ ghost use Rattle.goblin_base.specs.Answers.{IsMemory};
 ghost use Rattle.goblin_base.specs.Reading.{ReadsOrMemory};
 ghost use Rattle.goblin_pe.specs.added.Layouts.{layout_bytes, layout_map, layout_places};
 ghost use Rattle.goblin_pe.specs.added.Layouts.{layout_sections};
-ghost use Rattle.goblin_pe.specs.Whole.{table_places};
-ghost use Rattle.goblin_pe_c_tables.specs.Places.{TakesIndexAt, directory_offset, map_at};
+ghost use Rattle.goblin_pe.specs.Whole.{directory_offset, table_places};
+ghost use Rattle.goblin_pe_c_tables.specs.Places.{TakesIndexAt, map_at};
 ghost use Rattle.goblin_pe_c_headers.specs.Places.{image_places, placed_sections};
 ghost use Rattle.goblin_pe_c_tables.specs.Places.{places_from_c};
 

@@ -1,6 +1,6 @@
 //! What a reader of any table of a file needs.
 
-ghost use Rattle.std.specs.Prelude.{◌/◌, ◌<◌, ◌≡◌, IfErr, IfOk, IfSome, IsErrAnd, Ok, Some};
+ghost use Rattle.std.specs.Prelude.{◌/◌, ◌<◌, ◌≡◌, IfErr, IfOk, IsErrAnd, Ok, Some};
 ghost use Rattle.std.specs.Prelude.{Option, length, map};
 ghost use Rattle.std.specs.List.{flat_map};
 ghost use Rattle.goblin_base.specs.declared.error.ErrorOf.{ErrorOf};
@@ -31,15 +31,14 @@ ghost use Rattle.goblin_pe.specs.added.Layouts.{layout_map, layout_places, layou
 ghost use Rattle.goblin_pe.specs.added.Layouts.{address_part, walked_exports};
 ghost use Rattle.goblin_pe_export.specs.added.ExportWalks.{walked_tables};
 ghost use Rattle.goblin_pe.specs.added.TakenMemory.{TakesIndex};
-ghost use Rattle.goblin_pe.specs.Whole.{IfRead, directory_at, entry_format, export_part, import_list};
+ghost use Rattle.goblin_pe.specs.Whole.{IfRead, directory_offset, entry_format, export_part, import_list};
 ghost use Rattle.goblin_pe.specs.Whole.{part_map, relocation_part, section_table_offset, places_in};
 ghost use Rattle.goblin_pe.specs.Whole.{sections_after, table_places};
 
 use crate::added::{Exports, FileImports, ImportCursor, Imports, LeftOut};
 use crate::whole::Part;
 use crate::whole::places::{
-    BASE_RELOCATION_TABLE, EXPORT_TABLE, IMPORT_TABLE, Places, file_alignment, part_of,
-    size_of_headers,
+    EXPORT_TABLE, IMPORT_TABLE, Places, file_alignment, part_of, size_of_headers,
 };
 use crate::whole::sections::section_table_offset;
 use goblin_base::{Cause, Error, Result, ResultOf, pread_slice};
@@ -418,24 +417,16 @@ impl<'a> Layout<'a> {
         self.places.relocations(self.bytes, &self.address_map)
     }
 
-    /// The same, where the file offset of the directory is known: that of its address.
-    ///
-    /// # Errors
-    /// As [`relocations`](Self::relocations).
-    #[tactic(auto, unfolding(crate::specs::Whole::relocation_part))]
-    pub fn relocations_at(&self, offset: Option<usize>) -> Result<Part<RelocationData<'a>>>
-        requires { IfSome (directory_at (layout_places self.now) 5)
-            (λ d. offset ≡ (layout_map self.now).addressing.offset d.virtual_address) }
-        ensures { Reads (part_map relocation_bytes) result
+    /// The same, after the file offset of the directory, which is `None` if its address has none, or
+    /// if there is no directory.
+    pub fn placed_relocations(&self) -> (Option<usize>, Result<Part<RelocationData<'a>>>)
+        ensures offset { result.0
+            ≡ directory_offset (layout_map self.now).addressing (layout_places self.now) 5 }
+        ensures value { Reads (part_map relocation_bytes) result.1
             (layout_table relocation_part self.now) (layout_bytes self.now) }
     {
-        let Some(directory) = self.places.directory(BASE_RELOCATION_TABLE) else {
-            return Ok(Part::Absent);
-        };
-        part_of(
-            RelocationData::parse_at(self.bytes, directory, offset),
-            self.address_map.opts(),
-        )
+        self.places
+            .placed_relocations(self.bytes, &self.address_map)
     }
 
     /// The bytes of the data directory at an index, which lie at its address. The certificate

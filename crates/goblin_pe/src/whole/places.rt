@@ -8,7 +8,8 @@ ghost use Rattle.goblin_pe_sect.specs.BaseRelocations.{relocation_bytes};
 ghost use Rattle.goblin_pe_sect.specs.DataDirectories.{directory_or_zeros};
 ghost use Rattle.goblin_pe_sect.specs.Options.{is_strict};
 ghost use Rattle.goblin_pe.specs.Whole.{BecomesPart, part_map, places_in, relocation_part};
-ghost use Rattle.goblin_pe.specs.Whole.{directory_at, size_of_headers, table_places};
+ghost use Rattle.goblin_pe.specs.Whole.{directory_at, directory_offset, size_of_headers};
+ghost use Rattle.goblin_pe.specs.Whole.{table_places};
 
 use crate::whole::Part;
 use goblin_base::{Result, ResultOf, is_passed_over};
@@ -141,8 +142,29 @@ impl Places {
         self.magic == MAGIC_32
     }
 
-    // The base relocations, as a part.
+    // The file offset of the base relocations, and these as a part.
     #[tactic(auto, unfolding(crate::specs::Whole::relocation_part))]
+    pub(crate) fn placed_relocations<'a>(
+        &self,
+        bytes: &'a [u8],
+        address_map: &AddressMap,
+    ) -> (Option<usize>, Result<Part<RelocationData<'a>>>)
+        ensures offset { let m = map_of address_map.now in
+            result.0 ≡ directory_offset m.addressing (table_places self.now) 5 }
+        ensures value { let m = map_of address_map.now in
+            let places = table_places self.now in
+            Reads (part_map relocation_bytes) result.1
+            (relocation_part m.opts m.addressing places) bytes.now }
+    {
+        let Some(directory) = self.directory(BASE_RELOCATION_TABLE) else {
+            return (None, Ok(Part::Absent));
+        };
+        let offset = address_map.offset_of(directory.virtual_address);
+        let data = RelocationData::parse_at(bytes, directory, offset);
+        (offset, part_of(data, address_map.opts()))
+    }
+
+    // The base relocations, as a part.
     pub(crate) fn relocations<'a>(
         &self,
         bytes: &'a [u8],
@@ -153,13 +175,6 @@ impl Places {
             Reads (part_map relocation_bytes) result
             (relocation_part m.opts m.addressing places) bytes.now }
     {
-        let Some(directory) = self.directory(BASE_RELOCATION_TABLE) else {
-            return Ok(Part::Absent);
-        };
-        let offset = address_map.offset_of(directory.virtual_address);
-        part_of(
-            RelocationData::parse_at(bytes, directory, offset),
-            address_map.opts(),
-        )
+        self.placed_relocations(bytes, address_map).1
     }
 }

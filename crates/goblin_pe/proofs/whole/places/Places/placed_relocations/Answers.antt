@@ -7,11 +7,11 @@ use Rattle.goblin_pe_sect.specs.Options.{is_strict}
 use Rattle.goblin_pe_sect.specs.Addresses.{map_of, offset_of, reads_strictly}
 use Rattle.goblin_pe.specs.Whole.{BecomesPart, relocation_part}
 use Rattle.goblin_pe.proofs.Parts.{becomes_read}
-use Rattle.goblin_pe.proofs.whole.places.Places.relocations.Goals as goal
+use Rattle.goblin_pe.proofs.whole.places.Places.placed_relocations.Goals as goal
 
-pub returns : goal.returns
+pub returns-clause-value : goal.returns-clause-value
 unfolding relocation_part relocation_data
-returns c =
+returns-clause-value c =
     let map = map_of c.args.address_map.now in
     let directory = c.in-Some.directory in
     let read = subst
