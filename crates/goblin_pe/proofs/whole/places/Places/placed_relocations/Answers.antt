@@ -16,12 +16,12 @@ returns-clause-value c =
     let directory = c.in-Some.directory in
     let read = subst
     (λ (o : Option ℕ).
-    Reads relocation_bytes c.parse_at.result (relocation_data (λ _. o) directory) c.args.bytes.now)
-    c.offset_of-offset.ensures c.parse_at.ensures in
-    let made : BecomesPart (reads_strictly map) c.parse_at.result c.part_of.result =
+    Reads relocation_bytes c.parse_at-data.result (relocation_data (λ _. o) directory) c.args.bytes.now)
+    c.offset_of-offset.ensures c.parse_at-data.ensures in
+    let made : BecomesPart (reads_strictly map) c.parse_at-data.result c.part_of.result =
     subst
-    (λ (o : ParseOptions). BecomesPart (is_strict o.parse_mode) c.parse_at.result c.part_of.result)
+    (λ (o : ParseOptions). BecomesPart (is_strict o.parse_mode) c.parse_at-data.result c.part_of.result)
     c.opts.ensures c.part_of.ensures in
     rw (sym c.directory.ensures ∙ c.in-Some.is)
     (becomes_read relocation_bytes (relocation_data (offset_of map) directory) c.args.bytes.now
-    (reads_strictly map) c.parse_at.result c.part_of.result read made)
+    (reads_strictly map) c.parse_at-data.result c.part_of.result read made)
