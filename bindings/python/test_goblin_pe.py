@@ -1,5 +1,6 @@
 """Tries the package beyond its listings: python3 -X dev -m unittest test_goblin_pe."""
 import array
+import base64
 import collections
 import concurrent.futures
 import contextlib
@@ -21,6 +22,7 @@ import time
 import tracemalloc
 import unittest
 import unittest.mock
+import zlib
 
 import goblin_pe
 from goblin_pe import (AuxiliaryKind, Budget, Cause, CoffRelocation, DataDirectory, DirectoryType, ErrorKind, Image, Import, Kind, Mapping,
@@ -45,6 +47,13 @@ DATA = sample("imports_by_name_x64.dll")
 FORWARDERS = sample("forwarders_x64.dll")
 OBJECT = sample("object_x64.obj")
 SIGNATURE = DATA.index(b"PE\0\0")
+# A DLL for 64 bits whose sections lie at multiples of 64 in memory, and at multiples of 16 in the file. It was linked by lld-link
+# (/align:64 /filealign:16) from a function `answer`, the text `words`, the numbers 1, 2 and 3, and `place`, their address.
+SMALL_ALIGNMENTS = zlib.decompress(base64.b85decode(
+    b"c-pN}Jxc>Y5Pf$S1wRO}QxLKdD~m(?1wph^3}|JQ&E0AO_Yw9kCU&W;{SU!T#KIz21*`<qSxbI`_zRr9y^E0pwQyi~GtArBc{_V}+Jgb0fbUkt@75zPmLH3F"
+    b"SQuA^#=*F9(riVnEyHukedh2W2xHa|Om+g+3fSJ!G4n%L*qcCYA8@Y<xO=|X$@;xxgDsgwlqjCe&SECeH`2LOeLk&aII;kyc`#8oGz(M6=Q_NlGnaqR+Nb`@"
+    b"gxADh$N!lfi(Z`SP&(C2nU2gDP`9PaV-DP?S*U(bxNYWkR<$(^t17pWvzX+0BU=hDbhIX=EqN9z$J-rlQSkIKHGUQg$>OG94sBBNvK^Lw(D|CqFqi(dH_AWA"
+    b"O}aDkx#!ug=S{b*Ca+mq=_26@`5Jkd+@Sqh)Po06S4adMzaeCVw#OZTZYbSo_Fg0T4`0%#bMlX7O}#;FpyN-f(^Bd"))
 
 
 def signature_of(data):
@@ -778,6 +787,19 @@ class Places(unittest.TestCase):
         s = next(it for it in Image(data).sections if it.size_of_raw_data)
         cut = Image(data[:s.pointer_to_raw_data + s.size_of_raw_data - 1])
         self.assertEqual((len(s.data(cut).data), s.data(cut).missing > 0, s.data(cut).whole()), (s.size_of_raw_data - 1, True, None))
+
+    def test_small_alignments(self):
+        """The offsets and blocks are those of pefile 2023.2.7 and llvm-readobj 14."""
+        image = Image(SMALL_ALIGNMENTS)
+        wanted = {b"answer": 0x220, b"numbers": 0x2E0, b"place": 0x2F0, b"words": 0x230}
+        for mapping in Mapping.AS_LOADED, Mapping.BY_FILE_ALIGNMENT:
+            view = image.with_options(Options(mapping=mapping))
+            self.assertEqual({it.name: it.offset for it in view.exports()}, wanted)
+            self.assertEqual([(it.rva, it.entries) for it in view.relocation_blocks()], [(0, b"\x50\xA3\0\0")])
+            for rva, offset in (0x240, 0x220), (0x280, 0x230), (0x340, 0x2E0), (0x380, 0x300):
+                self.assertEqual((view.find_offset(rva), view.find_rva(offset)), (offset, rva))
+        self.assertEqual(image.memory_at(0x340, 12).data, struct.pack("<3I", 1, 2, 3))
+        self.assertEqual(image.text_at(0x280), b"after the code")
 
     def test_what_a_cut_file_lacks_is_not_zeros(self):
         """The last section has 0x10 bytes in memory, and 0x200 in a file block. The cut file has 0x150 of these."""
