@@ -449,8 +449,10 @@ class Image:
         return None if found is None else int(found.value)
 
     def find_rva(self, offset: int) -> int | None:
-        """An address that find_offset maps to this file offset; None if there is none. It looks at
-        each section at most twice: 65,520 sections take two milliseconds."""
+        """An address that find_offset maps to this file offset: that in the first section whose data
+        holds the offset, or else in the headers. None if there is none, or if an earlier section
+        hides it; later sections are not tried. It looks at each section at most twice: 65,520
+        sections take two milliseconds."""
         found = self._looked_up(LIB.goblin_pe_find_rva, c.c_size_t, in_range(offset))
         return None if found is None else int(found.value)
 

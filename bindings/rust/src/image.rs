@@ -524,8 +524,9 @@ impl<'a> Image<'a> {
         is_there.then_some(offset)
     }
 
-    /// An RVA that [`find_offset`](Self::find_offset) maps to this file offset; `None` if there is
-    /// none.
+    /// An RVA that [`find_offset`](Self::find_offset) maps to this file offset: that in the first
+    /// section whose data holds the offset, or else in the headers. `None` if there is none, or if
+    /// an earlier section hides it; later sections are not tried.
     #[must_use]
     pub fn find_rva(&self, offset: usize) -> Option<u32> {
         let mut rva = 0;
