@@ -17,7 +17,8 @@ class Mapping(Number):
         alignment is at least 512. The headers are mapped at address 0.
     BY_FILE_ALIGNMENT: as pefile maps. The raw pointer is rounded as by AS_LOADED. The headers are not
         mapped.
-    AS_STORED: as goblin maps. The raw pointer is used as stored. The headers are not mapped.
+    AS_STORED: as goblin maps. The raw pointer is used as stored. The headers are not mapped. A
+        section may reach up to 511 bytes too far if its raw pointer is not a multiple of 512.
     IDENTITY: an address is a file offset. This is for a dump of an image in memory.
     """
 

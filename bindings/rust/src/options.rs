@@ -90,7 +90,8 @@ pub enum Mapping {
     AsLoaded = 0,
     /// As pefile maps: as [`AsLoaded`](Self::AsLoaded), without the headers.
     ByFileAlignment = 1,
-    /// As goblin maps: the raw pointer is taken as stored, and the headers are not mapped.
+    /// As goblin maps: the raw pointer is taken as stored, and the headers are not mapped. A
+    /// section may reach up to 511 bytes too far if its raw pointer is not a multiple of 512.
     AsStored = 2,
     /// An address is a file offset: the bytes are a dump of the image in memory.
     Identity = 3,
