@@ -291,7 +291,8 @@ enum goblin_pe_mapping {
     GOBLIN_PE_MAPPING_AS_LOADED = 0,
     /* As pefile maps: the same, without the headers. */
     GOBLIN_PE_MAPPING_BY_FILE_ALIGNMENT = 1,
-    /* As goblin maps: the raw pointer is taken as stored; no headers. */
+    /* As goblin maps: the raw pointer is taken as stored; no headers. A section may reach up to 511
+       bytes too far if its raw pointer is not a multiple of 512. */
     GOBLIN_PE_MAPPING_AS_STORED = 2,
     /* An RVA is a file offset: the bytes are a dump of the image in memory. */
     GOBLIN_PE_MAPPING_IDENTITY = 3

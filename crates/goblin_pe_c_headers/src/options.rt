@@ -17,7 +17,8 @@ pub enum PeMapping {
     AsLoaded = 0,
     /// As pefile maps: the same, without the headers.
     ByFileAlignment = 1,
-    /// As goblin maps: the raw pointer is taken as stored; no headers.
+    /// As goblin maps: the raw pointer is taken as stored; no headers. A section may reach up to
+    /// 511 bytes too far if its raw pointer is not a multiple of 512.
     AsStored = 2,
     /// An RVA is a file offset: the bytes are a dump of the image in memory.
     Identity = 3,

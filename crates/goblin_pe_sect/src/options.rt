@@ -6,20 +6,22 @@ ghost use Rattle.goblin_pe_sect.specs.Options.{te_options};
 
 pub use goblin_base::ParseMode;
 
-/// The rule for where the raw data of a section begins when addresses are mapped.
+/// The rule for where the raw data of a section begins when addresses are mapped, and from where
+/// the size of its window is computed.
 ///
 /// All rules give the same offset if the raw pointer is a multiple of 512, as the PE/COFF
 /// specification requires for the usual file alignments. For other raw pointers the right rule
-/// depends on `section_alignment`. If it is 4,096 or more, rounding is right. If it is less,
-/// nothing is rounded, because the Windows loader maps such an image as one flat view of the file.
-/// For a lawful image, [`RawPointerRule::by_file_alignment`] gives the right rule.
+/// depends on `section_alignment`. If it is 4,096 or more, rounding is right. If it is less, the
+/// pointer as stored is right, because the Windows loader maps such an image as one flat view of
+/// the file. For a lawful image, [`RawPointerRule::by_file_alignment`] gives the right rule.
 #[derive(Debug, PartialEq, Copy, Clone)]
 pub enum RawPointerRule {
     /// The raw data begins at the raw pointer, as in goblin. The size of the window is computed
-    /// from the pointer rounded down to a multiple of 512, so a window may reach up to 511 bytes
-    /// past the raw data, and past the next section's address.
+    /// from the pointer rounded down to a multiple of 512. So the window may be up to 511 bytes
+    /// longer than by [`RawPointerRule::Unrounded`], and may reach past the next section's address.
     AsStored,
-    /// The raw data begins at the raw pointer rounded down to a multiple of 512.
+    /// The raw data begins at the raw pointer rounded down to a multiple of 512, and the size of
+    /// the window is computed from there.
     RoundedTo512,
     /// The raw data begins at the raw pointer, and the size of the window is computed from there.
     Unrounded,

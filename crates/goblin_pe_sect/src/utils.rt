@@ -101,8 +101,9 @@ pub(crate) fn section_window(
     (begin, begin + read_size(section, file_alignment, opts))
 }
 
-// An upper bound of the end of the section's window, for any options and file alignment. It holds because no
-// more than the raw size in whole pages is read. It takes fewer steps than the window itself.
+// An upper bound of the end of the section's window, for any options and file alignment. It holds
+// because no more than the raw size in whole pages is read. It takes fewer steps than the window
+// itself.
 #[inline(always)]
 #[tactic(auto, using(crate::proofs::Mapped::window_below))]
 pub(crate) fn past_window(section: &SectionTable) -> usize
@@ -132,8 +133,8 @@ pub fn window(section: &SectionTable, file_alignment: u32) -> Option<(usize, usi
     window_with_opts(section, file_alignment, &ParseOptions::default())
 }
 
-/// As [`window`], but the start of the raw data is rounded as the rule of `opts` says: by
-/// [`RawPointerRule::Unrounded`], it is not rounded.
+/// As [`window`], with the rule of `opts`: by [`RawPointerRule::Unrounded`] the start of the raw
+/// data is not rounded. By the other rules the window is that of [`window`].
 #[tactic(auto, using(crate::proofs::Mapped::power_positive))]
 pub fn window_with_opts(
     section: &SectionTable,
@@ -173,7 +174,8 @@ fn first_in_window<'s>(
     opts: &ParseOptions,
 ) -> Option<&'s SectionTable>
     requires { 0 < file_alignment }
-    ensures value { option_copied result ≡ find (is_in_window opts.now file_alignment rva) sections.now }
+    ensures value { option_copied result
+        ≡ find (is_in_window opts.now file_alignment rva) sections.now }
     ensures holds { IfSome result (λ s. InWindow opts.now file_alignment rva s.now) }
 {
     sections
@@ -247,9 +249,10 @@ fn offset_by(
 /// The file offset of the address `rva`, by the first section, in the order of the table, whose
 /// window holds the address. If windows overlap, the first hides the others.
 ///
-/// The windows are those that [`window`] returns. The offset is the raw pointer, as stored or
-/// rounded down to a multiple of 512 by the rule of `opts`, plus the distance of `rva` from the
-/// section's address. It may lie past the end of the file, so test it before you read there.
+/// The windows are those that [`window_with_opts`] returns. The offset is the raw pointer, as
+/// stored or rounded down to a multiple of 512 by the rule of `opts`, plus the distance of `rva`
+/// from the section's address. It may lie past the end of the file, so test it before you read
+/// there.
 ///
 /// If `opts` says that addresses are offsets, the result is the address itself. Otherwise it is
 /// `None` if no window holds the address, or if `file_alignment` is not a power of two.
