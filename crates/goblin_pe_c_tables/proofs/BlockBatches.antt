@@ -2,6 +2,7 @@
 use Rattle.std.proofs.Common.{◌≡◌, ◌≢◌, ◌⊎◌, ℕ, ◌+◌, ◌-◌, ◌<◌, Bool, true, false, cond, nat_lt, IfErr, ◌≤◌, List, [], ◌∷◌, ◌++◌, length, set, take, ap, refl, subst, sym, arith, ◌∙◌, inl, inr, zero, suc, MatchResult, sum_by, unwrap_or, Option, None, Some, Result, Ok, Err}
 use Rattle.std.proofs.lemmas.List.Sums.{sum_by_push}
 use Rattle.goblin_base.specs.declared.error.ErrorOf.{ErrorOf}
+use Rattle.goblin_base.specs.Reading.{Reads}
 use Rattle.goblin_base.specs.declared.endian.Endian.TheVariants.{Little}
 use Rattle.goblin_base.specs.declared.error.CauseOf.TheVariants.{BlockSize}
 use Rattle.goblin_base.specs.declared.error.ErrorOf.TheVariants.{Malformed}
@@ -186,6 +187,13 @@ module _ (m : MapOfAddresses) (bytes directory : List ℕ) where
   directory-inside places is = part-inside (is_strict m.opts.parse_mode) (directory_at places 5) is
 
 -- ---- in a file
+
+-- what a call has read that did not refuse
+pub directory-read : (m : MapOfAddresses) (places : TablePlaces) (bytes : List ℕ) (result : Result (Part RelocationData) ErrorOf) (found : Part RelocationData)
+    → result ≡ Ok found → Reads (part_map relocation_bytes) result (relocation_part m.opts m.addressing places) bytes
+    → (relocation_part m.opts m.addressing places).value bytes ≡ Some (part_map relocation_bytes found)
+directory-read m places bytes result found is read =
+    subst (λ (r : Result (Part RelocationData) ErrorOf). Reads (part_map relocation_bytes) r (relocation_part m.opts m.addressing places) bytes) is read
 
 module _ (m : MapOfAddresses) (places : TablePlaces) (bytes : List ℕ) (found : Part RelocationData)
     (read : (relocation_part m.opts m.addressing places).value bytes ≡ Some (part_map relocation_bytes found)) (old new : BlockBatch) where

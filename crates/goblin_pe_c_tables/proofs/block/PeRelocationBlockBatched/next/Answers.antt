@@ -5,26 +5,29 @@ use Rattle.goblin_pe.specs.added.Layouts.{layout_map, layout_places}
 use Rattle.goblin_pe.specs.Whole.{part_map}
 use Rattle.goblin_pe.specs.declared.whole.Part.{Part}
 use Rattle.goblin_pe_c_tables.specs.Batches.{BlockBatch}
-use Rattle.goblin_pe_c_tables.proofs.BlockBatches.{blocks-answered, blocks-none, directory-inside}
+use Rattle.goblin_pe_c_tables.proofs.BlockBatches.{blocks-answered, blocks-none, directory-inside, directory-read}
 use Rattle.goblin_pe_c_tables.proofs.block.PeRelocationBlockBatched.next.Goals as goal
 
 pub fill_blocks-requires : goal.fill_blocks-requires
 fill_blocks-requires c =
     let l = c.args.layout.now in
     let begin = c.unwrap_or-begin.ensures ∙ ap (λ (o : Option ℕ). unwrap_or o 0) c.placed_relocations-offset.ensures.offset in
+    let read = directory-read (layout_map l) (layout_places l) l.bytes.now _ _ c.in_ok-relocations.was c.placed_relocations-offset.ensures.value in
     let inside = directory-inside (layout_map l) l.bytes.now (relocation_bytes c.in-Read.relocations) (layout_places l)
-    (c.in_ok-relocations.ensures ∙ ap (λ (p : Part RelocationData). Some (part_map relocation_bytes p)) c.in-Read.is) in
+    (read ∙ ap (λ (p : Part RelocationData). Some (part_map relocation_bytes p)) c.in-Read.is) in
     omega (arith, inside, begin, ap (λ (b : List ℕ). length b) c.bytes.ensures)
 
 pub returns-in-Absent : goal.returns-in-Absent
 returns-in-Absent c =
     let l = c.args.layout.now in
-    record { filled = rw c.at_room.ensures (blocks-none (layout_map l) (layout_places l) l.bytes.now c.args.position.now c.args.records.now c.in_ok-relocations.field-0 c.in_ok-relocations.ensures c.in-Absent.is); kept = tt; refused = tt }
+    let read = directory-read (layout_map l) (layout_places l) l.bytes.now _ _ c.in_ok-relocations.was c.placed_relocations-offset.ensures.value in
+    record { filled = rw c.at_room.ensures (blocks-none (layout_map l) (layout_places l) l.bytes.now c.args.position.now c.args.records.now c.in_ok-relocations.field-0 read c.in-Absent.is); kept = tt; refused = tt }
 
 pub returns-in-Read-clause-filled : goal.returns-in-Read-clause-filled
 returns-in-Read-clause-filled c =
     let l = c.args.layout.now in
     let old : BlockBatch = record { position = c.args.position.now; records = c.args.records.now } in
     let begin = c.unwrap_or-begin.ensures ∙ ap (λ (o : Option ℕ). unwrap_or o 0) c.placed_relocations-offset.ensures.offset in
+    let read = directory-read (layout_map l) (layout_places l) l.bytes.now _ _ c.in_ok-relocations.was c.placed_relocations-offset.ensures.value in
     let new : BlockBatch = record { position = c.fill_blocks.new.position; records = c.fill_blocks.new.records } in
-    blocks-answered (layout_map l) (layout_places l) l.bytes.now c.in_ok-relocations.field-0 c.in_ok-relocations.ensures old new c.in-Read.relocations c.in-Read.is c.unwrap_or-begin.result begin c.fill_blocks.result c.fill_blocks.ensures.filled
+    blocks-answered (layout_map l) (layout_places l) l.bytes.now c.in_ok-relocations.field-0 read old new c.in-Read.relocations c.in-Read.is c.unwrap_or-begin.result begin c.fill_blocks.result c.fill_blocks.ensures.filled
