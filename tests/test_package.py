@@ -335,8 +335,8 @@ class Releases(Case):
         tools.mkdir()
         for it in ("sh", "env", "git", "dirname", "mktemp", "cat", "rm"):
             (tools / it).symlink_to(shutil.which(it))
+        (tools / "python3").symlink_to(sys.executable)
         for it in ("package", "build"):
-            command = [*([sys.executable] if it == "package" else []), BINDINGS / it, self.out]
-            status, _, said = run(command, env=environment(PATH=str(tools)))
+            status, _, said = run([BINDINGS / it, self.out], env=environment(PATH=str(tools)))
             self.assertEqual((status, self.out.exists()), (1, False))
             self.assertIn("%s: there is no rt on the path: README.md says what is needed, under 'Get it'" % it, said.decode().splitlines())
