@@ -59,7 +59,8 @@ pub record AreInModes {D Y : Type 0} (format : Format EntryValue) (model : D →
       (lookup_table false format addressing request.lookup) bytes
       (both.0.lookup, both.1.lookup)
   pub imports : (let rva = request.imports.virtual_address in
-      InModes (λ x. x) (unless_front (addressing.offset rva)) (import_data true format addressing rva)
+      InModes (λ x. x) (unless_front (addressing.offset rva))
+      (import_data true format addressing rva)
       (import_data false format addressing rva) bytes
       (both.0.imports, both.1.imports))
   pub exports : InModes export_read_model (λ x. x) (export_read addressing request.exports)

@@ -145,7 +145,8 @@ addressing_by opts mapped places =
 abbrev pub imports_part : {A : Type 0} → ParseOptions → (DataDirectory → Reading A) → TablePlaces
     → Reading (Part A)
 imports_part opts read places =
-    pick opts.parse_imports (part_at (is_strict opts.parse_mode) read (directory_at places 1)) (given Absent)
+    pick opts.parse_imports (part_at (is_strict opts.parse_mode) read (directory_at places 1))
+    (given Absent)
 
 -- the import data
 unfoldable pub import_data_part : ParseOptions → Addressing → TablePlaces
@@ -153,7 +154,8 @@ unfoldable pub import_data_part : ParseOptions → Addressing → TablePlaces
 import_data_part opts addressing places =
     imports_part opts
     (λ d.
-    import_data (is_strict opts.parse_mode) (entry_format places.magic) addressing d.virtual_address)
+    import_data (is_strict opts.parse_mode) (entry_format places.magic) addressing
+    d.virtual_address)
     places
 
 -- the import data, each library with the index of its import descriptor
@@ -162,7 +164,8 @@ unfoldable pub numbered_data_part : ParseOptions → Addressing → TablePlaces
 numbered_data_part opts addressing places =
     imports_part opts
     (λ d.
-    numbered_data (is_strict opts.parse_mode) (entry_format places.magic) addressing d.virtual_address)
+    numbered_data (is_strict opts.parse_mode) (entry_format places.magic) addressing
+    d.virtual_address)
     places
 
 -- the list of imports made from import data

@@ -43,6 +43,7 @@ object_image o h image = record (zero_image o 2 image) {
 unfoldable pub ObjectRowsAreRead : Type 0
 ObjectRowsAreRead =
     (image : PeImage) (x : ObjectFile) → longest_of image.options ≡ None
-    → (object_file (is_strict (header_options image.options).parse_mode)).value image.bytes.now ≡ Some x
+    → (object_file (is_strict (header_options image.options).parse_mode)).value image.bytes.now
+    ≡ Some x
     → image ≡ object_image image.options x.header image
     → RowsHold image x.sections

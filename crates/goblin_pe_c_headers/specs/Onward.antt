@@ -114,7 +114,8 @@ row_table view items =
 -- its items from an index on, and the index of those that come next
 abbrev pub GivesRows : {W B : Type 0} → (W → B) → List B → Batch ℕ W → Batch ℕ W → PeBatch → Type 0
 GivesRows view items old new batch =
-    FillsNext (row_table view items) ⊥ (λ left. new.position ≡ old.position + batch.count) old new batch
+    FillsNext (row_table view items) ⊥ (λ left. new.position ≡ old.position + batch.count)
+    old new batch
 
 abbrev pub GivesOnward : {W : Type 0} → List W → Batch ℕ W → Batch ℕ W → PeBatch → Type 0
 GivesOnward items old new batch = GivesRows (λ w. w) items old new batch

@@ -126,4 +126,5 @@ SectionBatch = Batch ℕ PeSection
 abbrev pub RowsHold : PeImage → List Section → Type 0
 RowsHold image sections =
     IsSomeAnd ((headers_there image.section_count image.section_table).value image.bytes.now)
-    (λ headers. map (λ (r : SectionRow). r.section) (section_rows (naming_of image) headers) ≡ sections)
+    (λ headers.
+    map (λ (r : SectionRow). r.section) (section_rows (naming_of image) headers) ≡ sections)

@@ -67,7 +67,8 @@ fn known<'a>(
     section_index: usize,
     region: Region,
 ) -> PeMemory<'a>
-    ensures { memory_model result ≡ known (found.entry.0.now, found.entry.1) missing section_index region }
+    ensures { memory_model result
+        ≡ known (found.entry.0.now, found.entry.1) missing section_index region }
 {
     PeMemory {
         bytes: found.0,

@@ -292,7 +292,8 @@ pub fn next_sections<'a>(
         let new : SectionBatch = record { position = position.new; records = records.new } in
         ReadsWithout (headers_there image.now.section_count image.now.section_table)
         image.now.bytes.now
-        (λ headers. GivesRows row_model (section_rows (naming_of image.now) headers) old new batch.new)
+        (λ headers.
+        GivesRows row_model (section_rows (naming_of image.now) headers) old new batch.new)
         ((new ≡ old) × (batch.new ≡ no_batch)) result }
 {
     *batch = ended(0);

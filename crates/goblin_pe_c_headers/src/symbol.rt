@@ -165,7 +165,8 @@ fn fill_record<'a>(
 #[inline(always)]
 fn record_at(table: &[u8], index: usize) -> Option<(Option<&str>, Symbol)>
     ensures inside { IfSome result (λ s. index < length table.now / 18) }
-    ensures some { IfSome result (λ s. named_value s ≡ name_and_symbol (record_of table.now index)) }
+    ensures some { IfSome result
+        (λ s. named_value s ≡ name_and_symbol (record_of table.now index)) }
     ensures none { result ≡ None → length table.now / 18 ≤ index }
 {
     if table.len() / COFF_SYMBOL_SIZE <= index {

@@ -32,7 +32,8 @@ pub fn read<'a>(
 ) -> Result<()>
     ensures read { let old : TeRecords = record { image = image.old; header = header.old } in
         let new : TeRecords = record { image = image.new; header = header.new } in
-        ReadsWithout te_file bytes.now (λ x. SaysTe options.now bytes.now x new) (new ≡ old) result }
+        ReadsWithout te_file bytes.now (λ x. SaysTe options.now bytes.now x new) (new ≡ old)
+        result }
     ensures rows { TeRowsAreRead }
 {
     let mut section_table = 0;

@@ -96,7 +96,8 @@ abbrev pub import_table : MapOfAddresses → TablePlaces → List ℕ
 import_table m places bytes = record {
   view = import_model;
   said = import_for_c;
-  from = λ p. option_map (file_cursor_left m places.magic bytes) ((import_cursor m places p).value bytes);
+  from = λ p. option_map (file_cursor_left m places.magic bytes)
+      ((import_cursor m places p).value bytes);
 }
 
 abbrev pub ImportBatch : Type 0
@@ -215,7 +216,8 @@ directory_record_in Refused = no_export_directory
 
 abbrev pub SaysDirectory : MapOfAddresses → TablePlaces → List ℕ → DirectoryModel → Type 0
 SaysDirectory m places bytes said =
-    IsSomeAnd ((address_part m.opts m.addressing places).value bytes) (λ p. said ≡ directory_record_in p)
+    IsSomeAnd ((address_part m.opts m.addressing places).value bytes)
+    (λ p. said ≡ directory_record_in p)
 
 -- it is refused, for another reason than the number of its name pointers
 abbrev pub IsAddressesFault : MapOfAddresses → TablePlaces → List ℕ → ErrorOf → Type 0

@@ -80,7 +80,8 @@ pub record IsDamagedBy (image : PeImage) (m : MapOfAddresses) (places : TablePla
     (bytes : List ℕ) (d : Damage) : Type 0 where
   pub dos_stub : IsDamage (stub_at image.dos_header.pe_pointer) bytes d.dos_stub
   pub section_names : IsDamage (image_names image) bytes d.section_names
-  pub tables : AreDamaged m.opts m.addressing places bytes d.imports d.exports d.relocations d.left_out
+  pub tables : AreDamaged m.opts m.addressing places bytes d.imports d.exports d.relocations
+      d.left_out
   pub left_out_exports : d.left_out_exports ≡ exports_left_out m.addressing places bytes
 
 -- ---- the steps that it takes
@@ -130,7 +131,8 @@ AreTooFew image steps sections =
 -- the damage with these sections, and the steps that were taken
 abbrev pub FindsDamage : PeImage → ℕ → List Section → Option (PeDamage × ℕ) → Type 0
 FindsDamage image steps sections None =
-    DamageSteps (damage_map image sections) (places_from_c (image_places image)) image.bytes.now steps None
+    DamageSteps (damage_map image sections) (places_from_c (image_places image)) image.bytes.now
+    steps None
     ⊎ AreTooFew image steps sections
 FindsDamage image steps sections (Some found) =
     let m = damage_map image sections in
@@ -148,7 +150,8 @@ HasNoSections image e =
 abbrev pub AnswersRunsOut : PeImage → ℕ → Result Bool ErrorOf → Type 0
 AnswersRunsOut image steps (Ok is_out) =
     is_out ≡ true
-    → IsSomeAnd ((placed_sections (image_places image)).value image.bytes.now) (AreTooFew image steps)
+    → IsSomeAnd ((placed_sections (image_places image)).value image.bytes.now)
+    (AreTooFew image steps)
 AnswersRunsOut image steps (Err e) = HasNoSections image e
 
 -- A call finds the damage within `steps`, or these are too few.

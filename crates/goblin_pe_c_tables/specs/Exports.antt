@@ -42,7 +42,13 @@ forwarder_for_c None =
 forwarder_for_c (Some (ByName name lib)) =
     record { dll = lib; name = name; ordinal = 0; kind = kind_number kind.Name; reserved = 0 }
 forwarder_for_c (Some (ByOrdinal ordinal lib)) =
-    record { dll = lib; name = []; ordinal = ordinal; kind = kind_number kind.Ordinal; reserved = 0 }
+    record {
+      dll = lib;
+      name = [];
+      ordinal = ordinal;
+      kind = kind_number kind.Ordinal;
+      reserved = 0;
+    }
 
 -- the record of an export with this forwarder; what the export does not have is nothing, or 0
 abbrev pub said_with : NumberedExport → ForwarderModel → ExportModel

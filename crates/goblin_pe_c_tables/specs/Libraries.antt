@@ -92,7 +92,8 @@ GivesLibraries m places bytes old new batch =
 
 -- Where the imports begin is refused, or else no library comes next, since the directory reaches
 -- the end of the file, and there is room for one.
-abbrev pub IsLibrariesFault : MapOfAddresses → TablePlaces → List ℕ → LibraryBatch → ErrorOf → Type 0
+abbrev pub IsLibrariesFault : MapOfAddresses → TablePlaces → List ℕ → LibraryBatch → ErrorOf
+    → Type 0
 IsLibrariesFault m places bytes old e =
     IsNextFault (import_cursor m places old.position) bytes
     (cursor_libraries m (entry_format places.magic) bytes) (IsCursorEndCause m bytes) old e

@@ -46,7 +46,8 @@ abbrev pub map_at : PeOptions → PePlaces → List Section → MapOfAddresses
 map_at o p sections =
     with_longest (longest_of o)
     (map_in (options_at o p.file_alignment)
-    (record { sections = sections; front = front_of (view_of o) p.size_of_headers }) p.file_alignment)
+    (record { sections = sections; front = front_of (view_of o) p.size_of_headers })
+    p.file_alignment)
 
 -- memory is taken for an index: there are more than 96 sections
 abbrev pub TakesIndexAt : PePlaces → List ℕ → Type 0

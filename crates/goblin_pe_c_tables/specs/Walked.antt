@@ -84,7 +84,8 @@ walked_in o = record {
   reaches = λ bytes. (walked_file (view_of o) (options_in o bytes)).reaches bytes;
   is_local = λ a b agree.
       (walked_file (view_of o) (options_in o a)).is_local a b agree
-      ∙ ap (λ (opts : ParseOptions). (walked_file (view_of o) opts).value b) (same-options o a b agree);
+      ∙ ap (λ (opts : ParseOptions). (walked_file (view_of o) opts).value b)
+      (same-options o a b agree);
   is_inside = λ bytes. (walked_file (view_of o) (options_in o bytes)).is_inside bytes;
   not_memory = λ bytes. (walked_file (view_of o) (options_in o bytes)).not_memory bytes;
 }
@@ -103,11 +104,14 @@ pub record AreItems (tables : WalkedTables) (m : MapOfAddresses) (places : Table
   pub imports : (p : PeImportCursor) → p.is_begun ≡ false
       → (import_table m places bytes).from p ≡ Some (unrefused (items_in tables.imports))
   pub exports : (export_part m.opts m.addressing places).value bytes ≡ Some tables.exports
-  pub listed : exports_in m bytes 0 tables.exports ≡ items_in (part_map (λ read. read.1) tables.exports)
+  pub listed : exports_in m bytes 0 tables.exports
+      ≡ items_in (part_map (λ read. read.1) tables.exports)
   pub addresses : IfRead
-      (λ read. (address_part m.opts m.addressing places).value bytes ≡ Some (part.Read (without_names read.0)))
+      (λ read. (address_part m.opts m.addressing places).value bytes
+      ≡ Some (part.Read (without_names read.0)))
       tables.exports
-  pub relocations : (relocation_part m.opts m.addressing places).value bytes ≡ Some tables.relocations
+  pub relocations : (relocation_part m.opts m.addressing places).value bytes
+      ≡ Some tables.relocations
 
 -- By the options and the places of the header, walks give these tables, and a read of the layout
 -- these sections.
@@ -135,7 +139,8 @@ SoundIsWalkedAlike =
     → (layout (header_options image.options)).value image.bytes.now ≡ Some l
     → image ≡ image_of image.options l.0 image
     → IsSomeAnd ((placed_sections (image_places image)).value image.bytes.now) (λ found.
-    IsDamagedBy image (damage_map image found) (places_from_c (image_places image)) image.bytes.now d)
+    IsDamagedBy image (damage_map image found) (places_from_c (image_places image))
+    image.bytes.now d)
     → (damage_record d).is_sound ≡ true
     → let opts = options_at image.options (places_in l.0.optional_header).file_alignment in
     let view = view_of image.options in

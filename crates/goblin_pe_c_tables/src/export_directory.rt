@@ -155,7 +155,8 @@ pub fn give_directory<'a>(
 // The record of the entry at an index, if there is one.
 fn address_at(exports: &Exports, index: usize, address_map: &AddressMap) -> Option<PeExportAddress>
     ensures { result
-        ≡ slice_get (addresses_for_c (map_of address_map.now).addressing (walked_tables exports.now))
+        ≡ slice_get
+        (addresses_for_c (map_of address_map.now).addressing (walked_tables exports.now))
         index }
 {
     if exports.address_count() <= index {

@@ -299,8 +299,8 @@ fn pointers_before(end: usize, exports: &Exports) -> usize
 }
 
 // Fills records with the exports that come next of the name pointers before `end`, as far as there
-// is room, and answers how many. Those that `next_ascii` gives come by a loop of their own, in which
-// all goes in line.
+// is room, and answers how many. Those that `next_ascii` gives come by a loop of their own, in
+// which all goes in line.
 fn fill_exports<'a, 'm>(
     bytes: &'a [u8],
     exports: &mut Exports<'a, 'm>,

@@ -27,7 +27,8 @@ pub extern "C" fn goblin_pe_raw_next_relocation_blocks<'a>(
     ensures { let old : BlockBatch =
         record { position = cursor.old.offset; records = blocks.old } in
         let new : BlockBatch = record { position = cursor.new.offset; records = blocks.new } in
-        WalksOver (options_fault image.now.options) result image.now GivesBlocks IsBlocksFault old new
+        WalksOver (options_fault image.now.options) result image.now GivesBlocks IsBlocksFault old
+        new
         batch.new }
 {
     let refusal = refused_call(&image.options);

@@ -48,7 +48,8 @@ pub extern "C" fn goblin_pe_raw_next_sections<'a>(
         Reported result
         (ReadsWithout (headers_there image.now.section_count image.now.section_table)
         image.now.bytes.now
-        (λ headers. GivesRows row_model (section_rows (naming_of image.now) headers) old new batch.new)
+        (λ headers.
+        GivesRows row_model (section_rows (naming_of image.now) headers) old new batch.new)
         ((new ≡ old) × (batch.new ≡ no_batch))) }
 {
     status_of(next_sections(image, &mut cursor.index, sections, batch))

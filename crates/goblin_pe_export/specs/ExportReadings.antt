@@ -49,7 +49,8 @@ export_tables addressing d t =
     (or_none (name_at addressing t.name_rva)
     beside counted_if name_pointers t.number_of_name_pointers (addressing.offset t.name_pointer_rva)
     beside counted_if ordinals t.number_of_name_pointers (addressing.offset t.ordinal_table_rva)
-    beside counted_if (addresses d) t.address_table_entries (addressing.offset t.export_address_table_rva))
+    beside counted_if (addresses d) t.address_table_entries
+    (addressing.offset t.export_address_table_rva))
 
 -- the export data of a directory: what the record at its address leads to, if its counts fit the
 -- file

@@ -96,7 +96,8 @@ is_in_directory d rva = nat_le d.virtual_address rva && nat_lt rva (d.virtual_ad
 
 -- What an address leads to: a forwarder's text if it lies in the export directory, else an export.
 unfoldable pub address_entry : DataDirectory → ℕ → ExportAddressTableEntry
-address_entry d rva = if is_in_directory d rva then variant.ForwarderRVA rva else variant.ExportRVA rva
+address_entry d rva =
+    if is_in_directory d rva then variant.ForwarderRVA rva else variant.ExportRVA rva
 
 -- addresses: four bytes each
 abbrev pub addresses : DataDirectory → Format ExportAddressTableEntry

@@ -58,7 +58,8 @@ pub record NumberedLibrary : Type 0 where
 -- the address table's address
 abbrev pub lookup_offset : Addressing → ImportDirectoryEntry → Option ℕ
 lookup_offset addressing r =
-    option_or (addressing.offset r.import_lookup_table_rva) (addressing.offset r.import_address_table_rva)
+    option_or (addressing.offset r.import_lookup_table_rva)
+    (addressing.offset r.import_address_table_rva)
 
 -- the address of a descriptor's address table, or that of its lookup table if it is 0
 abbrev pub address_table_rva : ImportDirectoryEntry → ℕ

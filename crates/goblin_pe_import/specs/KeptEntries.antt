@@ -39,7 +39,8 @@ unfoldable pub entries_from : Bool → Format EntryValue → Addressing → List
     → List (Option KeptValue)
 entries_from strict format addressing bytes o None = []
 entries_from strict format addressing bytes o (Some place) =
-    table_walk (entry_slots format) strict (entry_items strict format addressing bytes o) bytes place
+    table_walk (entry_slots format) strict (entry_items strict format addressing bytes o) bytes
+    place
 
 -- the cause that is true if one of them is refused: that of a table that begins there
 abbrev pub IsEntriesCause : Bool → Format EntryValue → Addressing → List ℕ → Option ℕ

@@ -40,7 +40,8 @@ AreCounted (Some a) (Some b) before after = before + b ≡ after + a
 -- come.
 abbrev pub GivesWithin : {S X A : Type 0} → (X → A) → (S → List (Option A))
     → (S → ErrorOf → Type 0) → S → Option (Result X ErrorOf) → S → Type 0
-GivesWithin view left IsCause s None t = (left s ≡ left t) × ((e : ErrorOf) → IsCause t e → IsCause s e)
+GivesWithin view left IsCause s None t =
+    (left s ≡ left t) × ((e : ErrorOf) → IsCause t e → IsCause s e)
 GivesWithin view left IsCause s (Some r) t = GivesNext view left IsCause s (Some r) t
 
 -- This holds if a call is not refused.

@@ -180,7 +180,8 @@ impl<'a> ImportData<'a> {
             let rva = directory.virtual_address in
             ReadsOrMemory (λ x. x) result
             (reading.import_data (reads_strictly m) T.format m.addressing rva) bytes.now }
-        ensures permissive { reads_strictly (map_of address_map.now) ≡ false → IfErr result IsMemory }
+        ensures permissive { reads_strictly (map_of address_map.now) ≡ false
+            → IfErr result IsMemory }
     {
         let rva = directory.virtual_address;
         let strictly = address_map.reads_strictly();

@@ -8,7 +8,8 @@ use Rattle.goblin_base.specs.declared.error.ErrorOf.{ErrorOf}
 use Rattle.goblin_base.specs.declared.error.ErrorOf.TheVariants.{Malformed}
 use Rattle.goblin_pe_sect.specs.declared.options.ParseOptions.{ParseOptions}
 use Rattle.goblin_pe_sect.specs.declared.options.RawPointerRule.{RawPointerRule}
-use Rattle.goblin_pe_sect.specs.declared.options.RawPointerRule.TheVariants.{AsStored, RoundedTo512, Unrounded}
+use Rattle.goblin_pe_sect.specs.declared.options.RawPointerRule.TheVariants.{AsStored, RoundedTo512}
+use Rattle.goblin_pe_sect.specs.declared.options.RawPointerRule.TheVariants.{Unrounded}
 use Rattle.goblin_pe_sect.specs.Multiples.{greatest_multiple, least_multiple}
 use Rattle.goblin_pe_sect.specs.SectionTable.{Section}
 
@@ -16,23 +17,24 @@ use Rattle.goblin_pe_sect.specs.SectionTable.{Section}
 -- except by the rule that rounds nothing. The rule that rounds raw pointers is that of the Windows
 -- loader for images whose section alignment is 4,096 or more.
 
--- the file offset from which a window is measured, by a rule: the raw pointer, in goblin rounded
--- down to 512
-abbrev pub measured_from : RawPointerRule → ℕ → ℕ
-measured_from Unrounded pointer = pointer
-measured_from AsStored pointer = greatest_multiple 512 pointer
-measured_from RoundedTo512 pointer = greatest_multiple 512 pointer
+-- How many bytes raw data has in whole file blocks at this alignment, by a rule: in goblin from the
+-- raw pointer rounded down to 512 to the end of the raw data rounded up to the alignment; or else
+-- the raw size rounded up to the alignment.
+abbrev pub blocks_size : RawPointerRule → ℕ → ℕ → ℕ → ℕ
+blocks_size AsStored alignment pointer size =
+    least_multiple alignment (pointer + size) - greatest_multiple 512 pointer
+blocks_size RoundedTo512 alignment pointer size =
+    least_multiple alignment (pointer + size) - greatest_multiple 512 pointer
+blocks_size Unrounded alignment pointer size = least_multiple alignment size
 
 -- How many bytes of a section are read from the file at this file alignment. There are none if it
--- has no raw data. Otherwise they run from the raw pointer, rounded down as the rule says, to the
--- end of the raw data rounded up to the alignment; but there are at most as many as the raw size in
--- whole pages, and at most as many as the virtual size in whole pages, if that is not 0.
+-- has no raw data. Otherwise they are those of its file blocks; but there are at most as many as
+-- the raw size in whole pages, and at most as many as the virtual size in whole pages, if that is
+-- not 0.
 unfoldable pub read_size : RawPointerRule → Section → ℕ → ℕ
 read_size rule s alignment =
     let raw = s.size_of_raw_data in
-    let stored = min
-    (least_multiple alignment (s.pointer_to_raw_data + raw)
-    - measured_from rule s.pointer_to_raw_data)
+    let stored = min (blocks_size rule alignment s.pointer_to_raw_data raw)
     (least_multiple 4096 raw) in
     if raw == 0
     then 0
@@ -48,11 +50,14 @@ window_end opts s alignment = s.virtual_address + read_size opts.raw_pointer_rul
 -- of two
 abbrev pub window_of : ParseOptions → Section → ℕ → Option (ℕ × ℕ)
 window_of opts s alignment =
-    if is_power_of_two alignment then Some (s.virtual_address, window_end opts s alignment) else None
+    if is_power_of_two alignment
+    then Some (s.virtual_address, window_end opts s alignment)
+    else None
 
 -- the window of a section holds this address
 abbrev pub is_in_window : ParseOptions → ℕ → ℕ → Section → Bool
-is_in_window opts alignment rva s = nat_le s.virtual_address rva && nat_lt rva (window_end opts s alignment)
+is_in_window opts alignment rva s =
+    nat_le s.virtual_address rva && nat_lt rva (window_end opts s alignment)
 
 -- the file offset at which raw data with this raw pointer begins, by a rule: the pointer as stored,
 -- or the greatest multiple of 512 that is at most the pointer
@@ -95,7 +100,8 @@ abbrev pub InWindow : ParseOptions → ℕ → ℕ → Section → Type 0
 InWindow opts alignment rva s = (s.virtual_address ≤ rva) × (rva < window_end opts s alignment)
 
 -- the window of the section at this index holds the address, and no earlier section's window does
-pub record IsFirstWindow (opts : ParseOptions) (sections : List Section) (alignment rva index : ℕ) : Type 0 where
+pub record IsFirstWindow (opts : ParseOptions) (sections : List Section)
+    (alignment rva index : ℕ) : Type 0 where
   pub section : Section
   pub is : slice_get sections index ≡ Some section
   pub holds : InWindow opts alignment rva section

@@ -38,12 +38,14 @@ HasPieces opts alignment = IsTrue opts.resolve_rva × IsTrue (is_power_of_two al
 abbrev pub IsBorder : ParseOptions → List Section → ℕ → ℕ → Type 0
 IsBorder opts sections alignment x =
     (x ≡ 0)
-    ⊎ ((k : ℕ) × (s : Section) × (slice_get sections k ≡ Some s) × (0 < read_size opts.raw_pointer_rule s alignment)
+    ⊎ ((k : ℕ) × (s : Section) × (slice_get sections k ≡ Some s)
+    × (0 < read_size opts.raw_pointer_rule s alignment)
     × ((x ≡ s.virtual_address) ⊎ (x ≡ window_end opts s alignment)))
 
 -- the pieces begin where the address space is cut, in rising order; there are at most two for each
 -- section, and the one at 0
-pub record IsCut (opts : ParseOptions) (sections : List Section) (alignment : ℕ) (begins : List ℕ) : Type 0 where
+pub record IsCut (opts : ParseOptions) (sections : List Section) (alignment : ℕ)
+    (begins : List ℕ) : Type 0 where
   pub rising : IsStrictlyIncreasing begins
   pub all : (x : ℕ) → IsBorder opts sections alignment x → Contains begins x
   pub only : (x : ℕ) → Contains begins x → IsBorder opts sections alignment x
@@ -114,4 +116,5 @@ pub record IsIndex (resolves : Bool) (begins : List ℕ) (owners : List (Option 
 -- every section's window has at most 2 ^ 33 bytes
 abbrev pub AreNear : ParseOptions → List Section → ℕ → Type 0
 AreNear opts sections alignment =
-    (k : ℕ) (s : Section) → slice_get sections k ≡ Some s → read_size opts.raw_pointer_rule s alignment ≤ 2 ^ 33
+    (k : ℕ) (s : Section) → slice_get sections k ≡ Some s
+    → read_size opts.raw_pointer_rule s alignment ≤ 2 ^ 33

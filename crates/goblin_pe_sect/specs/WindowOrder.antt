@@ -12,6 +12,8 @@ HaveDisjointWindows opts alignment s t =
 
 -- The second table has the sections of the first, in any order, and the windows of any two sections
 -- are disjoint. If the alignment is not a power of two, there are no windows.
-pub record IsReordering (opts : ParseOptions) (alignment : ℕ) (first second : List Section) : Type 0 where
+pub record IsReordering (opts : ParseOptions) (alignment : ℕ)
+    (first second : List Section) : Type 0 where
   pub moved : IsPermutation first second
-  pub apart : IsTrue (is_power_of_two alignment) → AllPairs (HaveDisjointWindows opts alignment) first
+  pub apart : IsTrue (is_power_of_two alignment)
+      → AllPairs (HaveDisjointWindows opts alignment) first

@@ -140,7 +140,8 @@ impl<'s> AddressMap<'s> {
         ensures value { result ≡ offset_of (map_of self.now) rva }
         ensures is { IsRun (offset_of (map_of self.now)) run.new }
         ensures walked { IsIndexed self.now → run.new ≡ run.old }
-        ensures about { IfSome result (λ p. IsIndexed self.now ⊎ (offset_in_run run.new rva ≡ Some p)) }
+        ensures about { IfSome result
+            (λ p. IsIndexed self.now ⊎ (offset_in_run run.new rva ≡ Some p)) }
     {
         match &self.windows {
             Windows::Walked(records, file_alignment) => {

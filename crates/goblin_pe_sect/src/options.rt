@@ -6,8 +6,8 @@ ghost use Rattle.goblin_pe_sect.specs.Options.{te_options};
 
 pub use goblin_base::ParseMode;
 
-/// The rule for where the raw data of a section begins when addresses are mapped, and from where
-/// the size of its window is computed.
+/// The rule for where the raw data of a section begins when addresses are mapped, and how long its
+/// window is.
 ///
 /// All rules give the same offset if the raw pointer is a multiple of 512, as the PE/COFF
 /// specification requires for the usual file alignments. For other raw pointers the right rule
@@ -16,14 +16,15 @@ pub use goblin_base::ParseMode;
 /// the file. For a lawful image, [`RawPointerRule::by_file_alignment`] gives the right rule.
 #[derive(Debug, PartialEq, Copy, Clone)]
 pub enum RawPointerRule {
-    /// The raw data begins at the raw pointer, as in goblin. The size of the window is computed
-    /// from the pointer rounded down to a multiple of 512. So the window may be up to 511 bytes
-    /// longer than by [`RawPointerRule::Unrounded`], and may reach past the next section's address.
+    /// The raw data begins at the raw pointer, as in goblin. The size of the window is measured
+    /// from the pointer rounded down to a multiple of 512. So the window may reach past the next
+    /// section's address.
     AsStored,
-    /// The raw data begins at the raw pointer rounded down to a multiple of 512, and the size of
-    /// the window is computed from there.
+    /// The raw data begins at the raw pointer rounded down to a multiple of 512, and the window is
+    /// as long as in goblin.
     RoundedTo512,
-    /// The raw data begins at the raw pointer, and the size of the window is computed from there.
+    /// The raw data begins at the raw pointer. The window is as long as the raw data, rounded up to
+    /// the file alignment.
     Unrounded,
 }
 

@@ -10,7 +10,7 @@ ghost use Rattle.goblin_base.specs.Answers.{Answers};
 ghost use Rattle.goblin_base.specs.Reading.{Reads};
 ghost use Rattle.goblin_pe_sect.specs.Addresses.{Addressing, with_whole_names};
 ghost use Rattle.goblin_pe_sect.specs.AddressReadings.{data_at, name_or_none, text_at_address};
-ghost use Rattle.goblin_pe_sect.specs.Mapping.{measured_from, read_size, window_end, window_of};
+ghost use Rattle.goblin_pe_sect.specs.Mapping.{blocks_size, read_size, window_end, window_of};
 ghost use Rattle.goblin_pe_sect.specs.Mapping.{file_offset, InWindow, is_in_window, MapsTo};
 ghost use Rattle.goblin_pe_sect.specs.Mapping.{offset_in, raw_begin, section_at};
 ghost use Rattle.goblin_pe_sect.specs.Mapping.{MapsNowhere, OffsetsApart, IsMessage};
@@ -54,15 +54,20 @@ fn round_up(size: usize, step: usize) -> usize
     (size + (step - 1)) / step * step
 }
 
-// The file offset from which the window of a section with this raw pointer is measured.
+// How many bytes the section's raw data has in whole file blocks.
 #[inline(always)]
-fn measured_from(pointer: usize, opts: &ParseOptions) -> usize
-    ensures value { result ≡ measured_from opts.now.raw_pointer_rule pointer }
-    ensures bound { result ≤ pointer }
+fn blocks_size(section: &SectionTable, file_alignment: u32, opts: &ParseOptions) -> usize
+    requires { 0 < file_alignment }
+    ensures { result ≡ blocks_size opts.now.raw_pointer_rule file_alignment
+        section.now.pointer_to_raw_data section.now.size_of_raw_data }
 {
+    let pointer = section.pointer_to_raw_data as usize;
+    let raw_size = section.size_of_raw_data as usize;
     match opts.raw_pointer_rule {
-        RawPointerRule::Unrounded => pointer,
-        RawPointerRule::AsStored | RawPointerRule::RoundedTo512 => round_down(pointer, 512),
+        RawPointerRule::Unrounded => round_up(raw_size, file_alignment as usize),
+        RawPointerRule::AsStored | RawPointerRule::RoundedTo512 => {
+            round_up(pointer + raw_size, file_alignment as usize) - round_down(pointer, 512)
+        }
     }
 }
 
@@ -77,9 +82,8 @@ fn read_size(section: &SectionTable, file_alignment: u32, opts: &ParseOptions) -
     if raw_size == 0 {
         return 0;
     }
-    let pointer = section.pointer_to_raw_data as usize;
-    let end = round_up(pointer + raw_size, file_alignment as usize);
-    let stored = (end - measured_from(pointer, opts)).min(round_up(raw_size, 4096));
+    let blocks = blocks_size(section, file_alignment, opts);
+    let stored = blocks.min(round_up(raw_size, 4096));
     match section.virtual_size as usize {
         0 => stored,
         virtual_size => stored.min(round_up(virtual_size, 4096)),
@@ -133,8 +137,8 @@ pub fn window(section: &SectionTable, file_alignment: u32) -> Option<(usize, usi
     window_with_opts(section, file_alignment, &ParseOptions::default())
 }
 
-/// As [`window`], with the rule of `opts`: by [`RawPointerRule::Unrounded`] the start of the raw
-/// data is not rounded. By the other rules the window is that of [`window`].
+/// As [`window`], by the rule of `opts`. By [`RawPointerRule::Unrounded`] the first of the three
+/// sizes is the raw size rounded up to `file_alignment`.
 #[tactic(auto, using(crate::proofs::Mapped::power_positive))]
 pub fn window_with_opts(
     section: &SectionTable,

@@ -12,9 +12,11 @@ use Rattle.goblin_pe.specs.Whole.{TablePlaces, directory_at, part_at}
 
 -- the bytes of a directory
 abbrev pub directory_data : Addressing → DataDirectory → Reading (List ℕ)
-directory_data addressing d = at_address addressing.offset d.virtual_address (λ o. slice_at o d.size)
+directory_data addressing d =
+    at_address addressing.offset d.virtual_address (λ o. slice_at o d.size)
 
 -- the bytes of the directory at an index
-unfoldable pub directory_part : ℕ → ParseOptions → Addressing → TablePlaces → Reading (Part (List ℕ))
+unfoldable pub directory_part : ℕ → ParseOptions → Addressing → TablePlaces
+    → Reading (Part (List ℕ))
 directory_part index opts addressing places =
     part_at (is_strict opts.parse_mode) (directory_data addressing) (directory_at places index)

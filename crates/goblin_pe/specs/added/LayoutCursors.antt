@@ -124,7 +124,8 @@ begin_in strict addressing (Some directory) =
 -- if the options do not ask for imports.
 unfoldable pub import_begin : ParseOptions → Addressing → TablePlaces → Reading ImportCursor
 import_begin opts addressing places =
-    pick opts.parse_imports (begin_in (is_strict opts.parse_mode) addressing (directory_at places 1))
+    pick opts.parse_imports
+    (begin_in (is_strict opts.parse_mode) addressing (directory_at places 1))
     (given no_imports)
 
 -- the walk from that cursor on

@@ -31,7 +31,8 @@ ghost use Rattle.goblin_pe.specs.added.Layouts.{layout_map, layout_places, layou
 ghost use Rattle.goblin_pe.specs.added.Layouts.{address_part, walked_exports};
 ghost use Rattle.goblin_pe_export.specs.added.ExportWalks.{walked_tables};
 ghost use Rattle.goblin_pe.specs.added.TakenMemory.{TakesIndex};
-ghost use Rattle.goblin_pe.specs.Whole.{IfRead, directory_offset, entry_format, export_part, import_list};
+ghost use Rattle.goblin_pe.specs.Whole.{IfRead, directory_offset, entry_format, export_part};
+ghost use Rattle.goblin_pe.specs.Whole.{import_list};
 ghost use Rattle.goblin_pe.specs.Whole.{part_map, relocation_part, section_table_offset, places_in};
 ghost use Rattle.goblin_pe.specs.Whole.{sections_after, table_places};
 
@@ -417,8 +418,8 @@ impl<'a> Layout<'a> {
         self.places.relocations(self.bytes, &self.address_map)
     }
 
-    /// The same, after the file offset of the directory, which is `None` if its address has none, or
-    /// if there is no directory.
+    /// The same, after the file offset of the directory. The offset is `None` if the directory's
+    /// address has none, or if there is no directory.
     pub fn placed_relocations(&self) -> (Option<usize>, Result<Part<RelocationData<'a>>>)
         ensures offset { result.0
             ≡ directory_offset (layout_map self.now).addressing (layout_places self.now) 5 }

@@ -21,7 +21,8 @@ address_tables addressing d t =
       export_address_table = parts.1;
     })
     (or_none (name_at addressing t.name_rva)
-    beside counted_if (addresses d) t.address_table_entries (addressing.offset t.export_address_table_rva))
+    beside counted_if (addresses d) t.address_table_entries
+    (addressing.offset t.export_address_table_rva))
 
 -- what the record at a directory's address leads to, without the tables of the names, whatever it
 -- says about these; a loader finds an export by its ordinal without them

@@ -63,7 +63,8 @@ impl CoffHeader {
             let table = symbols_end self.now in
             let count = self.now.number_of_sections in
             Reads recorded_sections result
-            (mapped (map unnamed) (coff_reading.sections_at strict table count offset.old)) bytes.now }
+            (mapped (map unnamed) (coff_reading.sections_at strict table count offset.old))
+            bytes.now }
         ensures first { length bytes.now / 40 < self.now.number_of_sections
             → IsErrAnd result (IsTooManySections self.now.number_of_sections bytes.now) }
         ensures ok { OnOk result (offset.new ≡ offset.old + 40 * self.now.number_of_sections) }

@@ -155,7 +155,8 @@ IsRecordCause strict format addressing bytes p (Some r) e =
 abbrev pub IsNextCause : Bool → Format EntryValue → Addressing → List ℕ → Option ℕ → ErrorOf
     → Type 0
 IsNextCause strict format addressing bytes None e = ⊥
-IsNextCause strict format addressing bytes (Some p) e = IsRecordsCause strict format addressing bytes p e
+IsNextCause strict format addressing bytes (Some p) e =
+    IsRecordsCause strict format addressing bytes p e
 
 -- ---- how many more may come
 
@@ -274,7 +275,8 @@ walk_answer t (Err e) = Err e
 -- ---- the walk as callers see it
 
 -- what is still to come
-abbrev pub imports_left : {T : Type 0} → Format EntryValue → Imports T → List (Option NumberedImport)
+abbrev pub imports_left : {T : Type 0} → Format EntryValue → Imports T
+    → List (Option NumberedImport)
 imports_left format it = walk_left format it.walk
 
 -- the cause that is true if a refusal is among it, which happens only in strict mode

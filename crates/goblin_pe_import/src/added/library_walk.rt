@@ -190,7 +190,8 @@ impl<'a, 'm> Libraries<'a, 'm> {
     }
 
     fn next_library(&mut self) -> Option<Result<WalkedLibrary<'a>>>
-        ensures gives { GivesNext library_value libraries_left IsLibrariesCause self.old result self.new }
+        ensures gives { GivesNext library_value libraries_left IsLibrariesCause self.old result
+            self.new }
         ensures refused { IfSome result (λ r. IfErr r (λ e. ¬ IsMemory e)) }
         ensures over { AreLibrariesOver (libraries_map self.old) (libraries_format self.old)
             (libraries_bytes self.old) self.new }

@@ -56,9 +56,11 @@ pub(super) fn test_address_table<'a, 'e, T: Bitfield<'a>>(
 ) -> (ResultOf<'e, ()>, usize)
     ensures tested { let rva = address_table_rva entry.now in
         Reads (λ _. tt {0}) result.0
-        (mapped (λ _. tt {0}) (at_address (offset_of (map_of address_map.now)) rva (address_table T.format)))
+        (mapped (λ _. tt {0})
+        (at_address (offset_of (map_of address_map.now)) rva (address_table T.format)))
         bytes.now }
-    ensures counted { result.1 ≡ slots_at_address T.format (map_of address_map.now).addressing bytes.now
+    ensures counted { result.1
+        ≡ slots_at_address T.format (map_of address_map.now).addressing bytes.now
         (address_table_rva entry.now) }
 {
     let rva = address_table_rva(entry);

@@ -46,7 +46,8 @@ pub(crate) fn next_kept<'a, 'e, T: Bitfield<'a>>(
         (place ≤ kept.place) × (kept.place + T.format.width ≤ length bytes.now)))) }
     ensures short { IfSome result (λ r. IfOk r (λ kept. kept.place + T.format.width < 2 ^ 63)) }
     ensures there { IfSome result (λ r. IsSome place) }
-    ensures strictly { IfSome result (λ r. IfErr r (λ e. reads_strictly (map_of finder.old) ≡ true)) }
+    ensures strictly { IfSome result
+        (λ r. IfErr r (λ e. reads_strictly (map_of finder.old) ≡ true)) }
     ensures same { finder.new ≡ finder.old }
 {
     let mut place = place;
@@ -85,7 +86,8 @@ pub(crate) fn next_kept_within<'a, 'e, T: Bitfield<'a>>(
         (place ≤ kept.place) × (kept.place + T.format.width ≤ length bytes.now)))) }
     ensures short { IfSome result (λ r. IfOk r (λ kept. kept.place + T.format.width < 2 ^ 63)) }
     ensures there { IfSome result (λ r. IsSome place.old) }
-    ensures strictly { IfSome result (λ r. IfErr r (λ e. reads_strictly (map_of finder.old) ≡ true)) }
+    ensures strictly { IfSome result
+        (λ r. IfErr r (λ e. reads_strictly (map_of finder.old) ≡ true)) }
     ensures same { finder.new ≡ finder.old }
 {
     let size = T::size_of();
