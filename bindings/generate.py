@@ -13,8 +13,8 @@ from generator.declared import HERE, LIBRARY, VERSION, Interface  # noqa: E402
 from generator.python import python_files  # noqa: E402
 from generator.rust import rust_files  # noqa: E402
 
-RATTLE_INTERFACE = """//! The number of this interface, which bindings/generate.py makes of what the crates declare: the first
-//! four bytes of the SHA-256 of the records, the numbers in them, the calls and the version.
+RATTLE_INTERFACE = """//! The number of this interface, which bindings/generate.py makes of what the crates declare: the
+//! first four bytes of the SHA-256 of the records, the numbers in them, the calls and the version.
 
 ghost use Rattle.std.specs.Prelude.{{◌≡◌}};
 

@@ -1,5 +1,5 @@
-//! The number of this interface, which bindings/generate.py makes of what the crates declare: the first
-//! four bytes of the SHA-256 of the records, the numbers in them, the calls and the version.
+//! The number of this interface, which bindings/generate.py makes of what the crates declare: the
+//! first four bytes of the SHA-256 of the records, the numbers in them, the calls and the version.
 
 ghost use Rattle.std.specs.Prelude.{◌≡◌};
 
