@@ -64,8 +64,8 @@
        strict.options.is_permissive = false;
 
    You may change any number in the record. It then leads to other tables, which harms nothing. A
-   pointer that you change has to point at as many bytes as its length says. Compare records field by
-   field: what lies between their fields has no meaning.
+   pointer that you change has to point at as many bytes as its length says. Compare records field
+   by field: what lies between their fields has no meaning.
 
    goblin_pe_read_partial_image fills the record with what is there of a damaged header.
    goblin_pe_read_object and goblin_pe_read_te fill the same record from a COFF object and from a
@@ -159,13 +159,14 @@
 
    Memory
    ------
-   Only two things need memory, and only these return GOBLIN_PE_STATUS_MEMORY:
+   Only these calls need memory, and only they return GOBLIN_PE_STATUS_MEMORY:
 
    - goblin_pe_read_footprint needs up to 8 n + n / 8 bytes for a file of n bytes. Free its ranges
      with goblin_pe_free_footprint.
-   - A walk over a table makes an index of the sections if the image has more than 96 sections, and
-     frees it before it returns. The index has 300 bytes for each section. With 65,535 sections this
-     costs 25 milliseconds a call, so walk such an image in batches of thousands of rows.
+   - read_damage, read_export_directory, and next_imports, _libraries, _exports, _export_addresses
+     and _relocation_blocks make an index of the sections if there are more than 96, and free it
+     before they return. It has 300 bytes for each section. With 65,535 sections this costs 25
+     milliseconds a call, so walk such an image in batches of thousands of rows.
 
    Time
    ----
