@@ -40,8 +40,8 @@
 //! # Walks
 //!
 //! Each table has a method that walks over it, such as [`Image::imports`]. A [`Walk`] is an
-//! iterator over `Result<Row, Error>`. It reads some hundred rows of the file at a time, and ends
-//! after its first error. Rows, names and texts borrow the bytes and not the image.
+//! iterator over `Result<Row, Error>`. It reads up to 256 rows of the file at a time, and ends after
+//! its first error. Rows, names and texts borrow the bytes and not the image.
 //!
 //! [`Pe`] collects the rows: it has an image and a `Vec` for each table.
 //!

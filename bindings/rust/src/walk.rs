@@ -12,7 +12,7 @@ use crate::options::Budget;
 
 /// A walk over a table: an iterator over its rows.
 ///
-/// It reads some hundred rows at a time, and keeps none of the rows that it gave. If a row is damaged,
+/// It reads up to 256 rows at a time, and keeps none of the rows that it gave. If a row is damaged,
 /// it gives the rows before it, then one error, and then it ends. In permissive mode it gives an error
 /// only if no row can follow the damage.
 ///
