@@ -69,13 +69,15 @@ WALKS = {"sections": ("Section", "SectionCursor"), "rich_entries": ("RichEntry",
          "export_addresses": ("ExportAddress", "ExportAddressCursor"),
          "relocation_blocks": ("RelocationBlock", "RelocationBlockCursor"), "symbols": ("Symbol", "SymbolCursor")}
 COUNTED = ("imports", "exports")
+# The walks over a table of a row, from the cursor that the row holds.
+OF_ROWS = {"base_relocations": ("BaseRelocation", "BaseRelocationCursor"), "coff_relocations": ("CoffRelocation", "CoffRelocationCursor")}
 
 
 class Walk:
     """A walk over a table of an image, by calls of C."""
 
     def __init__(self, image, word, cursor=None):
-        row, kind = WALKS[word]
+        row, kind = {**WALKS, **OF_ROWS}[word]
         self.image, self.row, self.word = image, getattr(records(), row), word
         self.cursor = cursor or getattr(records(), kind)()
         self.batch, self.rows = records().Batch(), []

@@ -7,7 +7,7 @@ import random
 import unittest
 
 from tests import hostile, images
-from tests.bindings import COUNTED, WALKS, Walk, calls, image_of, library, options, records
+from tests.bindings import COUNTED, OF_ROWS, WALKS, Walk, calls, image_of, library, options, records
 from tests.programs import BY_NAME, CC, IMAGES, OBJECTS, TERSE, need
 
 STEPS, KIND = 7, 8  # The status of a walk without steps, and of a call for another kind of file.
@@ -52,15 +52,50 @@ def slots(image):
     return image.bytes.length // 4 + 1
 
 
+def objects():
+    return [image_of(it.read_bytes(), None, "read_object")[0] for it in OBJECTS]
+
+
+def walks_of_rows(image):
+    """The walks over the base relocations of each block and over the relocations of each section: the words and the cursors."""
+    for word, of in ("base_relocations", "relocation_blocks"), ("coff_relocations", "sections"):
+        index = [name for name, _ in getattr(records(), WALKS[of][0])._fields_].index("relocations")
+        for row in Walk(image, of).walk(64)[0]:
+            yield word, getattr(records(), OF_ROWS[word][1])(*row[index])
+
+
 class Walks(unittest.TestCase):
-    def test_rows_by_any_room_are_those_of_one_call(self):
+    def test_rows_and_steps_by_any_room_are_those_of_one_call(self):
         for index, data in enumerate(files()):
             for permissive, image in opened(data):
                 for word in WALKS:
-                    wanted = Walk(image, word).walk(1 << 12)
+                    wanted = self.walked(image, word, 1 << 12)
                     for room in (1, 2, 3, 7):
                         with self.subTest(file=index, permissive=permissive, word=word, room=room):
-                            self.assertEqual(Walk(image, word).walk(room), wanted)
+                            self.assertEqual(self.walked(image, word, room), wanted)
+
+    def walked(self, image, word, room):
+        """A walk without a limit: its rows, why it ends, and how many steps it took. Those for sections above 96 are not counted,
+        because each call takes them."""
+        walk, steps, taken = Walk(image, word), c.c_size_t(1 << 40), 0
+        for _ in range(1 << 20):
+            before = steps.value
+            fault = walk.call(room, steps)
+            if word in COUNTED and not fault.status:
+                taken += before - steps.value - max(image.section_count - 96, 0)
+            if walk.batch.is_done:
+                return walk.rows, (fault.status, fault.cause), taken
+        raise AssertionError(f"{word} have no end")
+
+    def test_relocations_by_any_room_are_those_of_one_call(self):
+        """Those of each block of an image, and those of each section of an object."""
+        most = {}
+        for image in (*(image for it in IMAGES for _, image in opened(it.read_bytes())), *objects()):
+            for word, cursor in walks_of_rows(image):
+                rows, *others = (Walk(image, word, type(cursor).from_buffer_copy(cursor)).walk(room) for room in (1 << 12, 1, 2, 3, 7))
+                self.assertEqual(others, [rows] * 4)
+                most[word] = max(most.get(word, 0), len(rows[0]))
+        self.assertTrue(all(most[word] > 1 for word in OF_ROWS), most)
 
     def test_rows_and_steps_by_any_limit_are_those_of_one_call(self):
         """The steps add up to the same, except that those beyond a limit, in an address table, are not counted."""
@@ -156,7 +191,7 @@ class Walks(unittest.TestCase):
 
     def test_a_cursor_of_zeros_is_the_beginning_and_others_harm_nothing(self):
         digits, image = random.Random(1), image_of(BY_NAME.read_bytes())[0]
-        for word, (_, kind) in WALKS.items():
+        for word, (_, kind) in {**WALKS, **OF_ROWS}.items():
             for _ in range(300):
                 forged = getattr(records(), kind).from_buffer_copy(bytes(
                     digits.choice([0, 0, 1, digits.randrange(256)]) for _ in range(c.sizeof(getattr(records(), kind)))))
@@ -177,6 +212,12 @@ class Walks(unittest.TestCase):
             elsewhere = Walk(other, word, walk.cursor)
             for room in (0, 1, 3):
                 elsewhere.call(room)
+        every = (*opened_files[::4], *objects())
+        for one, other in itertools.product(every, every):
+            for word, cursor in itertools.islice(walks_of_rows(one), 20):
+                elsewhere = Walk(other, word, cursor)
+                for room in (0, 1, 3):
+                    elsewhere.call(room)
 
     def test_forged_images_harm_nothing(self):
         digits = random.Random(2)
@@ -195,6 +236,7 @@ class Walks(unittest.TestCase):
                 for word in WALKS:
                     Walk(made, word).call(3)
                 self.look_up(made, digits)
+                self.call_others(made)
 
     def look_up(self, image, digits):
         """Looks up some addresses."""
