@@ -37,7 +37,7 @@ class C(Case):
         # (imports at the end of 17 MiB)
         large = images.with_data_behind(images.importer([(b"fruit.dll", [b"Apple"])]), 17 << 20)
         self.assertEqual(run([made], large)[:2], (0, b"fruit.dll 0 Apple\n"))
-        for index, data in enumerate([*(it.read_bytes() for it in IMAGES), *hostile.files(3)]):
+        for index, data in enumerate([*(it.read_bytes() for it in IMAGES), *hostile.files(3), *hostile.large()]):
             with self.subTest(index=index):
                 spent = []
                 while not spent or spent[-1] >= 0.1 and len(spent) < 3:  # (a machine that is busy is asked again)
