@@ -103,7 +103,8 @@ class Image:
     @classmethod
     def te(cls, data: Data, options: Options = Options()) -> Image:
         """Reads a Terse Executable, which has a `te_header` and sections. PeError is raised if one of
-        them is cut; such a file can't be read in part."""
+        them is cut, if the stripped size is below 40, or if strict mode would refuse a section name.
+        The mode changes none of these, and such a file can't be read in part."""
         header = _records.TeHeader()
         image = cls._made(data, options, LIB.goblin_pe_read_te, header)
         image._te_header = read(TeHeader, header)

@@ -143,8 +143,8 @@ impl<'a> Image<'a> {
     /// The addresses and pointers of sections are moved to where they are in this file.
     ///
     /// # Errors
-    /// The file is too short for the header or its section headers, or the stripped size is below that
-    /// of the header.
+    /// The file is too short for the header or its section headers, the stripped size is below that
+    /// of the header, or strict mode would refuse a section name. The mode changes none of these.
     pub fn read_te(bytes: &'a [u8], options: Options) -> Result<(Image<'a>, TeHeader), Error> {
         let (of, length) = (bytes.as_ptr(), bytes.len());
         let mut header = TeHeader::default();
