@@ -37,17 +37,19 @@ class C(Case):
         # (imports at the end of 17 MiB)
         large = images.with_data_behind(images.importer([(b"fruit.dll", [b"Apple"])]), 17 << 20)
         self.assertEqual(run([made], large)[:2], (0, b"fruit.dll 0 Apple\n"))
-        for index, data in enumerate([*(it.read_bytes() for it in IMAGES), *hostile.files(3), *hostile.large()]):
+        # (One of the large files takes 0.07 seconds on a machine with nothing else to do.)
+        files = [(it.read_bytes(), 0.1) for it in IMAGES] + [(it, 0.1) for it in hostile.files(3)] + [(it, 0.3) for it in hostile.large()]
+        for index, (data, most) in enumerate(files):
             with self.subTest(index=index):
                 spent = []
-                while not spent or spent[-1] >= 0.1 and len(spent) < 3:  # (a machine that is busy is asked again)
+                while not spent or spent[-1] >= most and len(spent) < 3:  # (a machine that is busy is asked again)
                     before = os.times()
                     status, out, _ = run([made], data)
                     after = os.times()
                     spent.append(after.children_user - before.children_user + after.children_system - before.children_system)
                     self.assertIn(status, (0, 1))
                     self.assertRegex(out, rb"\A[ -~\n]*\Z")
-                self.assertLess(min(spent), 0.1)
+                self.assertLess(min(spent), most)
 
     def test_examples_run_on_each_file_with_sanitizers(self):
         """The sanitizers report nothing, and the output is printable."""
