@@ -515,6 +515,10 @@ class Walks(unittest.TestCase):
         for call in image.imphash, image.damage, image.footprint, image.fingerprint, lambda it: [*image.imports(it)]:
             self.assertRaises(OutOfSteps, call, budget)
         self.assertRaises(OutOfSteps, Pe, image.data, IDENTITY, Budget(900))
+        with unittest.mock.patch("goblin_pe._pe._STEPS", 900):
+            self.assertRaises(OutOfSteps, Pe, image.data, IDENTITY)
+            permissive = Options(permissive=True, mapping=Mapping.IDENTITY)
+            self.assertEqual(len(Pe(image.data, permissive, Budget()).imports), 1000)
         self.assertEqual((Budget().left, Budget(-3).left, repr(Budget(7)), repr(Budget())), (None, 0, "Budget(7)", "Budget()"))
         self.assertEqual(sum(1 for _ in image.imports(Budget())), 1000)
 

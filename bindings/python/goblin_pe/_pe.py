@@ -17,6 +17,8 @@ from ._rows import (
     BLOCKS, Export, ExportAddress, ExportDirectory, Import, RelocationBlock, RichEntry, Section)
 
 _Path = Union[str, "os.PathLike[str]"]
+# How many steps the tables of an image may take, if a caller names no budget.
+_STEPS = 10_000_000
 
 
 def plain(value: Any) -> Any:
@@ -38,8 +40,8 @@ def plain(value: Any) -> Any:
 
 class Pe:
     """An image and the rows of all its tables, as tuples: what the walks of an Image give. It reads
-    everything at once, so a budget also limits the memory that it needs. The tuples stay when the
-    file is closed.
+    everything at once, so a budget also limits the memory that it needs. Without a budget, the limit
+    is ten million steps; with Budget() there is none. The tuples stay when the file is closed.
 
     image: the image itself, with the headers and the look-ups.
     sections, rich_entries, imports, exports, export_addresses, relocation_blocks: the rows.
@@ -94,6 +96,7 @@ class Pe:
                 errors.append(error.with_traceback(None))
             return tuple(found)
 
+        budget = Budget(_STEPS) if budget is None else budget
         self.image, self.sections = image, image.sections
         self.rich_entries = listed(image.rich_entries(), True)
         self.imports = listed(image.imports(budget))

@@ -61,12 +61,13 @@ impl<'a> Pe<'a> {
         Pe::of(Image::read(bytes, options)?, budget)
     }
 
-    /// Reads an image and lists its tables, strictly and without a limit.
+    /// Reads an image and lists its tables, strictly and within ten million steps. For another
+    /// limit or none, such as [`Budget::unlimited`], call [`Pe::read`].
     ///
     /// # Errors
     /// As [`Pe::read`].
     pub fn parse(bytes: &'a [u8]) -> Result<Pe<'a>, Error> {
-        Pe::read(bytes, Options::default(), &mut Budget::unlimited())
+        Pe::read(bytes, Options::default(), &mut Budget::steps(10_000_000))
     }
 
     /// Lists the tables of an image, such as a partial one.
