@@ -20,7 +20,8 @@ OBJECTS = sorted(SAMPLES.glob("*.obj"))
 TERSE = sorted(SAMPLES.glob("*.te"))
 assert IMAGES and OBJECTS and TERSE, f"{SAMPLES} lacks images, objects or Terse Executables"
 BY_NAME = SAMPLES / "imports_by_name_x64.dll"
-CC = os.environ.get("CC", "cc")
+# The C compiler, which may have words, as "gcc -m64" has.
+CC = os.environ.get("CC", "cc").split()
 FLAGS = ["-O2", "-Wall", "-Wextra", "-Werror"]
 
 
@@ -70,10 +71,11 @@ def milliseconds(command, path):
 
 
 def need(*tools):
-    """Skips the test, the class or the module if the machine lacks a tool."""
+    """Skips the test, the class or the module if the machine lacks a tool. A tool may be a list: its name, and words for it."""
     for tool in tools:
-        if not shutil.which(tool):
-            raise unittest.SkipTest(f"no {tool}")
+        name = tool if isinstance(tool, str) else tool[0]
+        if not shutil.which(name):
+            raise unittest.SkipTest(f"no {name}")
 
 
 @functools.cache

@@ -26,7 +26,7 @@ def setUpModule():
 class C(Case):
     def built(self, source, *flags):
         made = self.folder / "program"
-        succeed([CC, *(flags or ["-std=c99"]), *FLAGS, *STRICT, "-I", library(), "-o", made, source, library() / "libgoblin_pe.a"])
+        succeed([*CC, *(flags or ["-std=c99"]), *FLAGS, *STRICT, "-I", library(), "-o", made, source, library() / "libgoblin_pe.a"])
         return made
 
     def test_the_program_of_the_manual_ends_on_each_file_in_a_tenth_of_a_second(self):
@@ -81,8 +81,8 @@ int main(int argc, char **argv)
 
     def need_flags(self, *flags):
         """Skips the test if the compiler can't build a program with these flags."""
-        if run([CC, *flags, "-x", "c", "-o", self.folder / "flags", "-"], b"int main(void) { return 0; }\n")[0]:
-            self.skipTest(f"{CC} has no {flags[-1]}")
+        if run([*CC, *flags, "-x", "c", "-o", self.folder / "flags", "-"], b"int main(void) { return 0; }\n")[0]:
+            self.skipTest(f"{CC[0]} has no {flags[-1]}")
 
     def calls(self):
         """Runs the program that makes each call, on the samples and on an image with a Rich header."""
@@ -165,7 +165,7 @@ class Installed(Case):
             words = succeed(["pkg-config", f"--define-variable=prefix={self.folder}/usr", "--static", "--cflags", "--libs", "goblin_pe"], env=env)
             example, program = self.folder / "usr/share/doc/goblin-pe/examples/imports.c", self.folder / "imports"
             for static in ["-static"], *([[]] if list((self.folder / libraries).glob("*.so.*")) else []):
-                succeed([CC, "-std=c99", *FLAGS, *static, "-o", program, example, *words.split()])
+                succeed([*CC, "-std=c99", *FLAGS, *static, "-o", program, example, *words.split()])
                 printed = run([program], BY_NAME, env=environment(LD_LIBRARY_PATH=f"{self.folder}/{libraries}"))
                 self.assertEqual(printed, (0, b"KERNEL32.dll 0 GetTickCount\n", b""))
         for it in (self.folder / "usr").rglob("*"):

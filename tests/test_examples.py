@@ -37,7 +37,7 @@ def built(name):
     """An example in C."""
     made = folder() / name
     if not made.exists():
-        succeed([CC, "-std=c99", *FLAGS, "-I", library(), "-o", made, BINDINGS / f"c/examples/{name}.c", library() / "libgoblin_pe.a"])
+        succeed([*CC, "-std=c99", *FLAGS, "-I", library(), "-o", made, BINDINGS / f"c/examples/{name}.c", library() / "libgoblin_pe.a"])
     return made
 
 
@@ -375,7 +375,7 @@ int main(void)
         source, in_cpp = self.written("readme.c", text), self.written("readme.cc", text.replace(b"{ 0 }", b"{}"))
         for compiler in filter(shutil.which, ("g++", "clang++")):
             succeed([compiler, "-std=c++11", *FLAGS, "-I", library(), "-fsyntax-only", in_cpp])
-        succeed([CC, "-std=c11", *FLAGS, "-I", library(), "-o", self.folder / "readme", source, library() / "libgoblin_pe.a"])
+        succeed([*CC, "-std=c11", *FLAGS, "-I", library(), "-o", self.folder / "readme", source, library() / "libgoblin_pe.a"])
         self.assert_runs([self.folder / "readme"], (0, b"GetTickCount\n", b""), BY_NAME)
         for data in hostile.files(1):
             self.assertIn(run([self.folder / "readme"], data)[0], range(9))

@@ -1,10 +1,12 @@
 """The files that bindings/generate.py makes are up to date, and it refuses a declaration of a form that it does not know."""
 import functools
 import importlib
+import re
 import sys
 import unittest
 
 from tests.bindings import BINDINGS
+from tests.programs import CRATES
 
 # Declarations that the reader does not know.
 RECORD = "#[repr(C)]\npub struct PeSome {\n    /// A field.\n    %s\n}\n"
@@ -42,6 +44,12 @@ class Made(unittest.TestCase):
         for place, text in generate().files(generate().Interface()).items():
             with self.subTest(place):
                 self.assertEqual((BINDINGS / place).read_text("utf-8"), text, "run bindings/generate.py")
+
+    def test_no_call_for_c_requires_anything(self):
+        """Nothing checks a caller in C, and a call that requires what never holds is proved of every body."""
+        for file in sorted((CRATES / "goblin_pe_capi/src").rglob("*.rt")):
+            with self.subTest(file.name):
+                self.assertNotRegex(re.sub(r"//.*", "", file.read_text("utf-8")), r"\brequires\b")
 
     def test_what_the_reader_does_not_know_is_refused(self):
         generate()

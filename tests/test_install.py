@@ -34,7 +34,7 @@ class Library(Case):
         """It asks for the library by a name with the interface in it."""
         install(self.folder)
         words = succeed(["pkg-config", "--cflags", "--libs", "goblin_pe"], env=environment(PKG_CONFIG_PATH=f"{self.folder}/lib/pkgconfig"))
-        succeed([CC, "-std=c99", *FLAGS, "-o", self.folder / "imports", self.folder / "share/doc/goblin-pe/examples/imports.c", *words.split()])
+        succeed([*CC, "-std=c99", *FLAGS, "-o", self.folder / "imports", self.folder / "share/doc/goblin-pe/examples/imports.c", *words.split()])
         (self.folder / "lib/libgoblin_pe.so").unlink()
         self.assert_runs([self.folder / "imports"], (0, b"KERNEL32.dll 0 GetTickCount\n", b""), BY_NAME,
                          env=environment(LD_LIBRARY_PATH=f"{self.folder}/lib"))
@@ -148,7 +148,7 @@ class Crate(Case):
         need(CC, "ar")
         names = re.findall(r"\bfn (goblin_pe_[a-z_]*)[<(]", (BINDINGS / "rust/src/ffi.rs").read_text("utf-8"))
         source = self.written("other.c", b"".join(b"int %s(void) { return -1; }\n" % name.encode() for name in names))
-        succeed([CC, "-c", "-o", self.folder / "other.o", source])
+        succeed([*CC, "-c", "-o", self.folder / "other.o", source])
         succeed(["ar", "r", self.other / "libgoblin_pe.a", self.folder / "other.o"])
         status, _, said = self.build(GOBLIN_PE_LIB=str(self.other))
         self.assertNotEqual(status, 0)

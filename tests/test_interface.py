@@ -52,7 +52,7 @@ class Changed(Case):
     def program(self, bindings, *linked):
         """Compiles a program over a header. Returns the status and the messages of the compiler."""
         source = self.written("program.c", PROGRAM)
-        status, _, said = run([CC, "-std=c99", *FLAGS, "-I", bindings / "c", "-o", self.folder / "program", source, *linked])
+        status, _, said = run([*CC, "-std=c99", *FLAGS, "-I", bindings / "c", "-o", self.folder / "program", source, *linked])
         return status, said.decode()
 
     def stub(self, name, interface):
@@ -61,8 +61,8 @@ class Changed(Case):
         names = set(re.findall(r"\b(goblin_pe_(?!interface)\w+)\(", text)) | {"goblin_pe_interface_" + interface}
         calls = "".join("int %s(void) { return 0; }\n" % it for it in names) + "unsigned goblin_pe_interface(void) { return 0x%su; }\n" % interface
         (self.folder / "other").mkdir(exist_ok=True)
-        succeed([CC, "-c", "-fPIC", "-o", self.folder / "stub.o", self.written("stub.c", calls.encode())])
-        succeed([CC, "-shared", "-o", self.folder / "other" / name, self.folder / "stub.o"])
+        succeed([*CC, "-c", "-fPIC", "-o", self.folder / "stub.o", self.written("stub.c", calls.encode())])
+        succeed([*CC, "-shared", "-o", self.folder / "other" / name, self.folder / "stub.o"])
         succeed(["ar", "rc", self.folder / "other/libgoblin_pe.a", self.folder / "stub.o"])
         return self.folder / "other" / name
 

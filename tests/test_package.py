@@ -78,7 +78,7 @@ class Packages(Case):
         shared, = (it.parent for it in self.folder.rglob("libgoblin_pe.so.*"))
         for flags, static, env in ([], [], {"LD_LIBRARY_PATH": str(shared)}), (["-static"], ["--static"], {}):
             words = succeed([*away(), "pkg-config", "--cflags", "--libs", *static, "goblin_pe"], env=environment(**where)).split()
-            succeed([*away(), CC, "-std=c99", *FLAGS, *flags, "-o", self.folder / "imports", example, *words])
+            succeed([*away(), *CC, "-std=c99", *FLAGS, *flags, "-o", self.folder / "imports", example, *words])
             self.assert_lists_imports(self.folder / "imports", env=env)
 
     def test_the_repository_is_out_of_reach(self):
