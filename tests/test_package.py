@@ -297,10 +297,10 @@ class Releases(Case):
         def gate(clone, env):
             kit = pathlib.Path(shutil.which("rt", path=env["PATH"])).resolve().parent.parent
             seen.append((list(clone.rglob("out")), (kit.parent / "rattle-kept").exists(), kit == self.kit, clone == self.top,
-                         [it for it in env if it.startswith(("GOBLIN_PE_", "RT_", "GIT_DIR"))]))
+                         [it for it in env if it.startswith(("GOBLIN_PE_", "RT_", "GIT_DIR", "CPATH"))]))
             return GATE, 0
 
-        with unittest.mock.patch.dict(os.environ, GOBLIN_PE_LIB="/else", RT_BACKEND="rattle", GIT_DIR="/else"):
+        with unittest.mock.patch.dict(os.environ, GOBLIN_PE_LIB="/else", RT_BACKEND="rattle", GIT_DIR="/else", CPATH="/else"):
             self.package(gate=gate)
         self.assertEqual(seen, [([], False, False, False, [])])
 
@@ -312,9 +312,9 @@ class Releases(Case):
                 self.assertIn("the gate", self.package(gate=lambda clone, env: (lines, status)))
 
     def test_the_text_says_what_was_seen(self):
-        self.package()
+        self.package(gate=lambda clone, env: (["skipped: a test: no tool", *GATE], 0))
         text = self.proved()
-        for it in (self.git("rev-parse", "HEAD"), *GATE[3:], "3 of crates and of their tests, and 2 wrong bodies", "a kit for this test",
+        for it in (self.git("rev-parse", "HEAD"), *GATE[3:], "3 of crates and of their tests, and 2 wrong bodies", "tests skipped   1\n", " ".join(CC) + ": ", "a kit for this test",
                    *(f"{hashlib.sha256(it.read_bytes()).hexdigest()}  {it.name}\n" for it in library().iterdir())):
             self.assertIn(it, text)
 
