@@ -58,7 +58,7 @@ rm -rf "$DPKG_ROOT/usr/lib/python3/dist-packages/goblin_pe/__pycache__"
 """
 
 
-def told(*command):
+def answer_of(*command):
     """What a command answers; nothing if there is no such command, or if it fails."""
     try:
         return subprocess.run(command, cwd=HERE, capture_output=True, check=True, text=True).stdout.strip()
@@ -70,14 +70,14 @@ def checksum(data):
     return hashlib.sha256(data).hexdigest()
 
 
-def said(library, name):
+def defined(library, name):
     """What the header of the library defines as a text."""
     lines = (library / "goblin_pe.h").read_text("utf-8").splitlines()
     return next(it.split('"')[1] for it in lines if it.startswith("#define GOBLIN_PE_%s " % name))
 
 
 def shared_name(library):
-    return "libgoblin_pe.so." + said(library, "SONAME")
+    return "libgoblin_pe.so." + defined(library, "SONAME")
 
 
 def with_proved(text, files, place, root):
@@ -148,7 +148,7 @@ def deb(version, glibc, soname, files, date):
 
 
 def maintainer():
-    return told("git", "log", "-1", "--format=%an <%ae>") or "nobody <nobody@localhost>"
+    return answer_of("git", "log", "-1", "--format=%an <%ae>") or "nobody <nobody@localhost>"
 
 
 def architecture():
@@ -197,14 +197,14 @@ def pack(out, library, text, date):
     glibc = "%d.%d" % backend.needed((library / shared_name(library)).read_bytes())
     out.mkdir(parents=True, exist_ok=True)
     module = {**backend.module(), **below("goblin_pe", {it: data for it, data in documents().items() if it != "LICENSE"})}
-    told_of = backend.information(module["goblin_pe/libgoblin_pe.so"])
-    listed = with_proved(text, {**module, **told_of}, "goblin_pe/PROVED", "folder site-packages")
+    information = backend.information(module["goblin_pe/libgoblin_pe.so"])
+    listed = with_proved(text, {**module, **information}, "goblin_pe/PROVED", "folder site-packages")
     backend.written(out, listed)
     stem = "goblin_pe-" + version
     files = with_proved(text, tarred(library), "PROVED", "folder " + stem)
     (out / ("%s-%s.tar.gz" % (stem, platform_name()))).write_bytes(tar(below(stem, files), date))
     files = with_proved(text, for_debian(backend, library, version, date), "usr/share/doc/goblin-pe/PROVED", "root")
-    packed = deb(version, glibc, said(library, "SONAME"), files, date)
+    packed = deb(version, glibc, defined(library, "SONAME"), files, date)
     (out / ("goblin-pe_%s_%s.deb" % (version, architecture()))).write_bytes(packed)
 
 

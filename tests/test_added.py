@@ -38,11 +38,11 @@ class Added(unittest.TestCase):
     def test_the_lines_are_counted(self):
         text = (TOP / "docs/ARCHITECTURE.md").read_text("utf-8")
         for name, added in (("What goblin has", False), ("What is added", True)):
-            told = re.search(rf"\| {name} \| ([\d,]+) \| ([\d,]+) \| ([\d,]+) \|", text).groups()
-            for part, said in zip(("src", "specs", "proofs"), told):
+            written = re.search(rf"\| {name} \| ([\d,]+) \| ([\d,]+) \| ([\d,]+) \|", text).groups()
+            for part, number in zip(("src", "specs", "proofs"), written):
                 counted = sum(it.read_text("utf-8").count("\n") for it in files(part, GOBLIN, added) + added * files(part, FOR_C, False))
                 with self.subTest(f"{name}, {part}: {counted}"):
-                    self.assertLessEqual(abs(int(said.replace(",", "")) - counted), counted / 50)
+                    self.assertLessEqual(abs(int(number.replace(",", "")) - counted), counted / 50)
 
 
 if __name__ == "__main__":
