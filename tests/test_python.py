@@ -99,14 +99,14 @@ class Python(Case):
             found, image = json.loads(self.lists("--json", sample)[1]), package_.Image(sample.read_bytes())
             self.assertEqual((found["kind"], found["refusal"], found["ended_early"]), ("IMAGE", None, {}))
             for name in names:
-                self.assertEqual(found[name], package_.plain([*getattr(image, name)()]), name)
-            self.assertEqual((found["sections"], found["damage"]), (package_.plain(image.sections), [package_.plain(image.damage())]))
+                self.assertEqual(found[name], package_.jsonable([*getattr(image, name)()]), name)
+            self.assertEqual((found["sections"], found["damage"]), (package_.jsonable(image.sections), [package_.jsonable(image.damage())]))
         for samples, read in (OBJECTS, package_.Image.object), (TERSE, package_.Image.te):
             for sample in samples:
                 found, image = json.loads(self.lists("--json", sample)[1]), read(sample.read_bytes())
-                self.assertEqual(found["symbols"], package_.plain([*image.symbols()]))
-                self.assertEqual(found["relocations"], package_.plain([it for s in image.sections for it in s.relocations(image)]))
-                self.assertEqual((found["sections"], found["te_header"]), (package_.plain(image.sections), package_.plain(image.te_header)))
+                self.assertEqual(found["symbols"], package_.jsonable([*image.symbols()]))
+                self.assertEqual(found["relocations"], package_.jsonable([it for s in image.sections for it in s.relocations(image)]))
+                self.assertEqual((found["sections"], found["te_header"]), (package_.jsonable(image.sections), package_.jsonable(image.te_header)))
 
     def test_json_says_where_it_stopped(self):
         many = self.written("many.dll", bytes(images.shared_image(30, 100)))

@@ -47,7 +47,7 @@ from ._imphash import ordinal_name
 from ._library import Data
 from ._names import names_of, printable, relocation_name
 from ._options import Budget, Mapping, Options
-from ._pe import Pe, plain
+from ._pe import Pe, jsonable
 from ._rows import (
     Auxiliary, AuxiliaryKind, BaseRelocation, CoffRelocation, Damage, Export, ExportAddress, ExportDirectory, Forwarder, Import,
     Library, Memory, Region, RelocationBlock, RichEntry, RichHeader, Section, Symbol)
@@ -60,7 +60,7 @@ __all__ = [
     "Kind", "Library", "Mapping", "Memory", "OptionalHeader", "Options", "OutOfSteps", "Pe",
     "PeError", "Region", "RelocationBlock", "RichEntry", "RichHeader", "Section",
     "StandardFields", "Symbol", "Table", "TableState", "TeHeader", "Walk", "WindowsFields",
-    "constants", "names_of", "ordinal_name", "plain", "printable", "relocation_name",
+    "constants", "jsonable", "names_of", "ordinal_name", "printable", "relocation_name",
 ]
 __version__ = "0.5.0"
 

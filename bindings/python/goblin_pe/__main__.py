@@ -7,7 +7,7 @@ import sys
 from collections.abc import Iterable, Iterator
 from typing import Any, Dict, List, Tuple
 
-from . import Budget, Image, Kind, Mapping, Options, Pe, PeError, Table, TableState, plain, printable
+from . import Budget, Image, Kind, Mapping, Options, Pe, PeError, Table, TableState, jsonable, printable
 
 # What is written about each file before its tables.
 HEADERS = ("refusal", "header_faults", "dos_header", "coff_header", "optional_header", "directories", "te_header", "rich_header", "sections")
@@ -114,13 +114,13 @@ def write_json(path: str, asked: argparse.Namespace) -> int:
     except (OSError, PeError, MemoryError) as error:
         write(json.dumps({"file": path, "refusal": {"text": str(error) or "out of memory"}}) + "\n")
         return 1
-    write(json.dumps(plain(found))[:-1])
+    write(json.dumps(jsonable(found))[:-1])
     for name, rows in tables(image, budget):
         write(', "%s": [' % name)
         comma = ""
         try:
             for row in rows:
-                write(comma + json.dumps(plain(row)))
+                write(comma + json.dumps(jsonable(row)))
                 comma = ", "
         except (PeError, MemoryError) as error:
             early[name] = str(error) or "out of memory"

@@ -21,7 +21,7 @@ _Path = Union[str, "os.PathLike[str]"]
 _STEPS = 10_000_000
 
 
-def plain(value: Any) -> Any:
+def jsonable(value: Any) -> Any:
     """The same value for `json.dumps`. A row, a header or an error becomes a dictionary of its
     fields, and a number with a name that name. Bytes become a text as by `printable`, so different
     names stay different."""
@@ -30,12 +30,12 @@ def plain(value: Any) -> Any:
     if isinstance(value, enum.Enum):
         return value.name
     if isinstance(value, PeError):
-        return {"text": value.args[0], "kind": value.kind.name, "cause": plain(value.cause), "table": plain(value.table)}
+        return {"text": value.args[0], "kind": value.kind.name, "cause": jsonable(value.cause), "table": jsonable(value.table)}
     if isinstance(value, Mapping):
-        return {name: plain(it) for name, it in value.items()}
+        return {name: jsonable(it) for name, it in value.items()}
     if hasattr(value, "_fields"):
-        return {name: plain(it) for name, it in zip(value._fields, value)}
-    return [plain(it) for it in value] if isinstance(value, (tuple, list)) else value
+        return {name: jsonable(it) for name, it in zip(value._fields, value)}
+    return [jsonable(it) for it in value] if isinstance(value, (tuple, list)) else value
 
 
 class Pe:
@@ -119,12 +119,12 @@ class Pe:
         return tuple(sorted({it.dll for it in self.imports}))
 
     def to_json(self) -> str:
-        """All headers and rows as JSON. `plain` says how each value is written."""
+        """All headers and rows as JSON. `jsonable` says how each value is written."""
         image = self.image
         headers = ("dos_header", "coff_header", "optional_header", "rich_header", "directories")
         lists = ("sections", "rich_entries", "imports", "export_directory", "exports", "export_addresses", "relocation_blocks", "errors")
         values = {**{it: getattr(image, it) for it in headers}, **{it: getattr(self, it) for it in lists}}
-        return json.dumps(plain(values))
+        return json.dumps(jsonable(values))
 
     def __enter__(self) -> Pe:
         return self
