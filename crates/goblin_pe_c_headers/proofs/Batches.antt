@@ -26,29 +26,29 @@ before-end items is = rw is refl
 
 -- ---- the records
 
-module _ {R A B : Type 0} (view : R → B) (said : A → B) (old : List R) where
-  pub batch-start : AtBatch view said old [] old 0
+module _ {R A B : Type 0} (view : R → B) (value_of : A → B) (old : List R) where
+  pub batch-start : AtBatch view value_of old [] old 0
   batch-start =
       let no : List B = [] in
       let none : take (length old) no ≡ no = take_all (length old) no (omega arith) in
       record { counted = refl; filled = (sym none, refl); same = refl; fits = omega arith }
 
-  pub batch-more : (values : List A) (records : List R) (count : ℕ) (a : A) (r : R) → AtBatch view said old values records count → count < length records → view r ≡ said a
-      → AtBatch view said old (values ++ a ∷ []) (set records count r) (count + 1)
+  pub batch-more : (values : List A) (records : List R) (count : ℕ) (a : A) (r : R) → AtBatch view value_of old values records count → count < length records → view r ≡ value_of a
+      → AtBatch view value_of old (values ++ a ∷ []) (set records count r) (count + 1)
   batch-more values records count a r h within says =
       let here : count < length old = omega (arith, within, h.same) in
-      let counted : length (map said values) ≡ count = length-map values said ∙ h.counted in
+      let counted : length (map value_of values) ≡ count = length-map values value_of ∙ h.counted in
       record {
         counted = length-append values (a ∷ []) ∙ ap (λ (n : ℕ). n + 1) h.counted;
-        filled = subst (λ (made : List B). Filled view made old (set records count r)) (sym (map-append said values (a ∷ [])))
-            (room view (map said values) old records (said a) r count h.filled h.same counted says here);
+        filled = subst (λ (made : List B). Filled view made old (set records count r)) (sym (map-append value_of values (a ∷ [])))
+            (room view (map value_of values) old records (value_of a) r count h.filled h.same counted says here);
         same = length-set records count r ∙ h.same;
         fits = omega (arith, here);
       }
 
   -- there is no more room, or nothing more to come
-  batch-end : (values more next : List A) (records : List R) (count : ℕ) → AtBatch view said old values records count → next ≡ values ++ more
-      → (length old ≤ count) ⊎ (more ≡ []) → IsBatch view said next old records count
+  batch-end : (values more next : List A) (records : List R) (count : ℕ) → AtBatch view value_of old values records count → next ≡ values ++ more
+      → (length old ≤ count) ⊎ (more ≡ []) → IsBatch view value_of next old records count
   batch-end values more next records count h is end =
       let all : length next ≡ count + length more =
       ap (λ (xs : List A). length xs) is ∙ length-append values more ∙ ap (λ (n : ℕ). n + length more) h.counted in
@@ -59,7 +59,7 @@ module _ {R A B : Type 0} (view : R → B) (said : A → B) (old : List R) where
           | inl full ↦ inl full
           | inr none ↦ inr (let few = all ∙ ap (λ (xs : List A). count + length xs) none in omega (arith, few))
         ]);
-        filled = subst (λ (made : List A). Filled view (map said made) old records) (sym front) h.filled;
+        filled = subst (λ (made : List A). Filled view (map value_of made) old records) (sym front) h.filled;
       }
     where
       least : (n a b : ℕ) → n ≤ a → n ≤ b → (a ≤ n) ⊎ (b ≤ n) → n ≡ min a b
@@ -89,7 +89,7 @@ module _ {P R A B S : Type 0} (table : Table P R A B) (left : S → List (Option
   pub record AtItems (now : S) (p : P) (records : List R) (count : ℕ) : Type 0 where
     pub begins : table.from at ≡ Some (left start)
     pub values : List A
-    pub held : AtBatch table.view table.said old values records count
+    pub held : AtBatch table.view table.value_of old values records count
     pub yielded : left start ≡ unrefused values ++ left now
     pub goes : table.from p ≡ Some (left now)
     pub first : count ≡ 0 → (now ≡ start) × (p ≡ at)
@@ -98,7 +98,7 @@ module _ {P R A B S : Type 0} (table : Table P R A B) (left : S → List (Option
   items-start begins = record {
     begins = begins;
     values = [];
-    held = batch-start table.view table.said old;
+    held = batch-start table.view table.value_of old;
     yielded = refl;
     goes = begins;
     first = λ none. (refl, refl);
@@ -108,7 +108,7 @@ module _ {P R A B S : Type 0} {table : Table P R A B} {left : S → List (Option
     {now : S} {p : P} {records : List R} {count : ℕ} (h : AtItems table left start at old now p records count) where
   -- several have come
   unfoldable pub items-then : (more : List A) (next : S) (q : P) (new : List R) (end : ℕ) → left now ≡ unrefused more ++ left next
-      → AtBatch table.view table.said old (h.values ++ more) new end → 0 < end → table.from q ≡ Some (left next) → AtItems table left start at old next q new end
+      → AtBatch table.view table.value_of old (h.values ++ more) new end → 0 < end → table.from q ≡ Some (left next) → AtItems table left start at old next q new end
   items-then more next q new end given held some goes = record {
     begins = h.begins;
     values = h.values ++ more;
@@ -120,10 +120,10 @@ module _ {P R A B S : Type 0} {table : Table P R A B} {left : S → List (Option
   }
 
   -- one more has come
-  unfoldable pub items-more : (x : A) (next : S) (q : P) (r : R) → left now ≡ Some x ∷ left next → count < length records → table.view r ≡ table.said x
+  unfoldable pub items-more : (x : A) (next : S) (q : P) (r : R) → left now ≡ Some x ∷ left next → count < length records → table.view r ≡ table.value_of x
       → table.from q ≡ Some (left next) → AtItems table left start at old next q (set records count r) (count + 1)
   items-more x next q r given within says goes =
-      items-then (x ∷ []) next q (set records count r) (count + 1) given (batch-more table.view table.said old h.values records count x r h.held within says) (omega arith) goes
+      items-then (x ∷ []) next q (set records count r) (count + 1) given (batch-more table.view table.value_of old h.values records count x r h.held within says) (omega arith) goes
 
   -- what has come is the front of all, and the rest is left
   pub items-taken : take count (values_before (left start)) ≡ h.values
@@ -147,7 +147,7 @@ module _ {P R A B S : Type 0} {table : Table P R A B} {left : S → List (Option
   -- it was cut
   pub items-cut : {IsCut : Type 0} (q : P) → IsCut → table.from q ≡ Some (left now) → (length old ≡ 0 → q ≡ at) → Given IsCut q
   items-cut q cut goes stays = record {
-    batch = batch-end table.view table.said old h.values [] (take count (values_before (left start))) records count h.held (items-taken ∙ sym (append-nil h.values)) (inr refl);
+    batch = batch-end table.view table.value_of old h.values [] (take count (values_before (left start))) records count h.held (items-taken ∙ sym (append-nil h.values)) (inr refl);
     later = goes ∙ ap (λ (items : List (Option A)). Some items) (sym items-left);
     whole = inl cut;
     stays = stays;
@@ -159,7 +159,7 @@ module _ {P R A B S : Type 0} {table : Table P R A B} {left : S → List (Option
   whole q why begun goes stays =
       let fills = items-cut {IsCut = q ≡ q} q refl goes stays in
       let all = ap (λ (items : List (Option A)). values_before items) h.yielded ∙ before-all h.values (left now) in
-      let batch = batch-end table.view table.said old h.values (values_before (left now)) (values_before (left start)) records count h.held all why in
+      let batch = batch-end table.view table.value_of old h.values (values_before (left now)) (values_before (left start)) records count h.held all why in
       record {
         batch = fills.batch;
         later = fills.later;
@@ -205,7 +205,7 @@ module _ {P R A B S : Type 0} {table : Table P R A B} {left : S → List (Option
         own h.values h.held.counted h.held.filled,
       )
     where
-      own : (values : List A) → length values ≡ count → Filled table.view (map table.said values) old records → records ≡ old
+      own : (values : List A) → length values ≡ count → Filled table.view (map table.value_of values) old records → records ≡ old
       own [] counted filled = filled.1
       own (x ∷ xs) counted filled = absurd (omega (arith, counted, none))
 
@@ -268,15 +268,15 @@ answered {P} {R} {S} {A} {X} read bytes left IsCause old new Gives s items IsOwn
 )
 
 -- what is filled from there is filled from elsewhere
-pub fills-by : {P Q R A B : Type 0} (view : R → B) (said : A → B) (from : P → Option (List (Option A))) (own : Q → Option (List (Option A)))
+pub fills-by : {P Q R A B : Type 0} (view : R → B) (value_of : A → B) (from : P → Option (List (Option A))) (own : Q → Option (List (Option A)))
     (IsCut IsCutBy : Type 0) (left right : List (Option A)) (s t : P) (p q : Q) (old new : List R) (count : ℕ)
-    → FillsFrom (record { view = view; said = said; from = from }) IsCut left (record { position = s; records = old }) (record { position = t; records = new }) count
+    → FillsFrom (record { view = view; value_of = value_of; from = from }) IsCut left (record { position = s; records = old }) (record { position = t; records = new }) count
     → left ≡ right → own q ≡ from t → (IsCut → IsCutBy) → (t ≡ s → q ≡ p)
-    → FillsFrom (record { view = view; said = said; from = own }) IsCutBy right (record { position = p; records = old }) (record { position = q; records = new }) count
-fills-by {P} {Q} {R} {A} {B} view said from own IsCut IsCutBy left right s t p q old new count fills is there cut stays =
+    → FillsFrom (record { view = view; value_of = value_of; from = own }) IsCutBy right (record { position = p; records = old }) (record { position = q; records = new }) count
+fills-by {P} {Q} {R} {A} {B} view value_of from own IsCut IsCutBy left right s t p q old new count fills is there cut stays =
     subst
     (λ (items : List (Option A)).
-    FillsFrom (record { view = view; said = said; from = own }) IsCutBy items (record { position = p; records = old }) (record { position = q; records = new }) count)
+    FillsFrom (record { view = view; value_of = value_of; from = own }) IsCutBy items (record { position = p; records = old }) (record { position = q; records = new }) count)
     is
     (record {
       batch = fills.batch;

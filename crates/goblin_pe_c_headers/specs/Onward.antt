@@ -13,12 +13,12 @@ pub record Batch (P R : Type 0) : Type 0 where
   pub position : P
   pub records : List R
 
--- A table that comes in batches: what contracts see of a record, what is said of an item, and the
+-- A table that comes in batches: what contracts see of a record, the value of an item, and the
 -- items that come from a position on, `None` in place of one that is refused. Nothing is there
 -- where what leads to the items is refused.
 pub record Table (P R A B : Type 0) : Type 0 where
   pub view : R → B
-  pub said : A → B
+  pub value_of : A → B
   pub from : P → Option (List (Option A))
 
 -- items, none of them refused
@@ -38,16 +38,17 @@ IsRefusedNext (Some x ∷ items) = ⊥
 IsRefusedNext (None ∷ items) = ⊤
 
 -- The records hold what comes next, as far as there is room, and the others are the caller's own.
-pub record IsBatch {R A B : Type 0} (view : R → B) (said : A → B) (next : List A)
+pub record IsBatch {R A B : Type 0} (view : R → B) (value_of : A → B) (next : List A)
     (old new : List R) (count : ℕ) : Type 0 where
   pub counted : count ≡ min (length old) (length next)
-  pub filled : Filled view (map said (take count next)) old new
+  pub filled : Filled view (map value_of (take count next)) old new
 
 -- The records hold these values so far.
-pub record AtBatch {R A B : Type 0} (view : R → B) (said : A → B) (old : List R) (values : List A)
+pub record AtBatch {R A B : Type 0} (view : R → B) (value_of : A → B) (old : List R)
+    (values : List A)
     (records : List R) (count : ℕ) : Type 0 where
   pub counted : length values ≡ count
-  pub filled : Filled view (map said values) old records
+  pub filled : Filled view (map value_of values) old records
   pub same : length records ≡ length old
   pub fits : count ≤ length old
 
@@ -62,7 +63,7 @@ IsWhole left room count =
 -- was cut.
 pub record FillsFrom {P R A B : Type 0} (table : Table P R A B) (IsCut : Type 0)
     (left : List (Option A)) (old new : Batch P R) (count : ℕ) : Type 0 where
-  pub batch : IsBatch table.view table.said (take count (values_before left)) old.records
+  pub batch : IsBatch table.view table.value_of (take count (values_before left)) old.records
       new.records count
   pub later : table.from new.position ≡ Some (drop count left)
   pub whole : IsCut ⊎ IsWhole left (length old.records) count
@@ -109,7 +110,7 @@ IsNextFault read bytes left IsCause old e =
 -- a list, in which the position of an item is its index; contracts see a row through its view
 abbrev pub row_table : {W B : Type 0} → (W → B) → List B → Table ℕ W B B
 row_table view items =
-    record { view = view; said = λ b. b; from = λ i. Some (unrefused (drop i items)) }
+    record { view = view; value_of = λ b. b; from = λ i. Some (unrefused (drop i items)) }
 
 -- its items from an index on, and the index of those that come next
 abbrev pub GivesRows : {W B : Type 0} → (W → B) → List B → Batch ℕ W → Batch ℕ W → PeBatch → Type 0

@@ -41,7 +41,7 @@ entries_from key stretch i = drop i (without_causes (metadata_items key stretch)
 
 abbrev pub rich_table : ℕ → List ℕ → Table ℕ RichMetadata RichMetadata RichMetadata
 rich_table key stretch =
-    record { view = λ r. r; said = λ r. r; from = λ i. Some (entries_from key stretch i) }
+    record { view = λ r. r; value_of = λ r. r; from = λ i. Some (entries_from key stretch i) }
 
 abbrev pub RichBatch : Type 0
 RichBatch = Batch ℕ RichMetadata

@@ -108,7 +108,7 @@ abbrev pub named_symbol_table : List ℕ → (ℕ → Option (List ℕ))
     → Table ℕ PeSymbol SymbolItem (NamedSymbol × List ℕ)
 named_symbol_table table names = record {
   view = named_symbol_model;
-  said = named_symbol table names;
+  value_of = named_symbol table names;
   from = λ i. Some (unrefused (symbols_onward table i));
 }
 

@@ -33,7 +33,7 @@ abbrev pub word_table : List ℕ
     → Table PeBaseRelocationCursor PeBaseRelocation PeBaseRelocation PeBaseRelocation
 word_table bytes = record {
   view = λ w. w;
-  said = λ w. w;
+  value_of = λ w. w;
   from = λ c. Some (unrefused (words_for_c c.page_rva (block_words bytes c)));
 }
 

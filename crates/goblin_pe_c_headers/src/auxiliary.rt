@@ -208,7 +208,7 @@ fn auxiliary_for_c(kind: AuxiliaryKind, records: &[u8]) -> PeAuxiliary<'_>
 /// none, or they are cut, or its class and type name no kind.
 pub fn read_auxiliary<'a>(symbol: &PeSymbol<'a>, auxiliary: &mut PeAuxiliary<'a>) -> AuxiliaryKind
     ensures kind { result ≡ kind_of symbol.now.record symbol.now.auxiliary.now }
-    ensures said { AuxiliaryModel result symbol.now.auxiliary.now auxiliary.new }
+    ensures value { AuxiliaryModel result symbol.now.auxiliary.now auxiliary.new }
 {
     let records = symbol.auxiliary;
     let kind = kind_of(&symbol.record, records);

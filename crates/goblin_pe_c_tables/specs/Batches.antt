@@ -95,7 +95,7 @@ abbrev pub import_table : MapOfAddresses → TablePlaces → List ℕ
     → Table PeImportCursor PeImport NumberedImport ImportModel
 import_table m places bytes = record {
   view = import_model;
-  said = import_for_c;
+  value_of = import_for_c;
   from = λ p. option_map (file_cursor_left m places.magic bytes)
       ((import_cursor m places p).value bytes);
 }
@@ -169,7 +169,7 @@ abbrev pub export_table : MapOfAddresses → List ℕ → Part (ExportTables × 
     → Table ℕ PeExport NumberedExport ExportModel
 export_table m bytes p = record {
   view = export_model;
-  said = export_for_c;
+  value_of = export_for_c;
   from = λ x. Some (unrefused (exports_in m bytes x p));
 }
 
@@ -193,7 +193,7 @@ GivesExports m places bytes before after old new batch =
 abbrev pub export_walk : Table Exports PeExport NumberedExport ExportModel
 export_walk = record {
   view = export_model;
-  said = export_for_c;
+  value_of = export_for_c;
   from = λ walk. Some (unrefused (exports_left walk));
 }
 
@@ -215,9 +215,9 @@ directory_record_in (part.Read tables) = directory_for_c tables
 directory_record_in Refused = no_export_directory
 
 abbrev pub SaysDirectory : MapOfAddresses → TablePlaces → List ℕ → DirectoryModel → Type 0
-SaysDirectory m places bytes said =
+SaysDirectory m places bytes directory =
     IsSomeAnd ((address_part m.opts m.addressing places).value bytes)
-    (λ p. said ≡ directory_record_in p)
+    (λ p. directory ≡ directory_record_in p)
 
 -- it is refused, for another reason than the number of its name pointers
 abbrev pub IsAddressesFault : MapOfAddresses → TablePlaces → List ℕ → ErrorOf → Type 0
@@ -285,7 +285,7 @@ IsBlockCause x Refused e = ⊥
 abbrev pub block_table : ℕ → Part (List ℕ)
     → Table ℕ PeRelocationBlock (ℕ × Block) PeRelocationBlock
 block_table begin p =
-    record { view = λ r. r; said = block_for_c; from = λ x. Some (blocks_from begin p x) }
+    record { view = λ r. r; value_of = block_for_c; from = λ x. Some (blocks_from begin p x) }
 
 abbrev pub BlockBatch : Type 0
 BlockBatch = Batch ℕ PeRelocationBlock
@@ -331,8 +331,8 @@ GivesBatch image Gives IsFault Left (Err e) =
     × (IsMemory e → TakesIndexAt p image.bytes.now)
     × Left
 
--- A call has given the records of a table that come next, and said how many; or it is refused, and
--- nothing else is changed than what is said.
+-- A call has given the records of a table that come next, and how many they are; or it is refused,
+-- and nothing else is changed than what is said.
 abbrev pub GivesRecords : {P R : Type 0} → PeImage
     → (MapOfAddresses → TablePlaces → List ℕ → Batch P R → Batch P R → PeBatch → Type 0)
     → (MapOfAddresses → TablePlaces → List ℕ → Batch P R → ErrorOf → Type 0)

@@ -51,8 +51,8 @@ forwarder_for_c (Some (ByOrdinal ordinal lib)) =
     }
 
 -- the record of an export with this forwarder; what the export does not have is nothing, or 0
-abbrev pub said_with : NumberedExport → ForwarderModel → ExportModel
-said_with x forwarder = record {
+abbrev pub export_with : NumberedExport → ForwarderModel → ExportModel
+export_with x forwarder = record {
   name = unwrap_or x.row.name [];
   forwarder = forwarder;
   ordinal = x.ordinal;
@@ -67,11 +67,11 @@ said_with x forwarder = record {
 
 -- the record of an export
 abbrev pub export_for_c : NumberedExport → ExportModel
-export_for_c x = said_with x (forwarder_for_c x.row.reexport)
+export_for_c x = export_with x (forwarder_for_c x.row.reexport)
 
 -- the same as if it were no forwarder
-abbrev pub said_without_forwarder : NumberedExport → ExportModel
-said_without_forwarder x = said_with x (forwarder_for_c None)
+abbrev pub export_without_forwarder : NumberedExport → ExportModel
+export_without_forwarder x = export_with x (forwarder_for_c None)
 
 -- what the records hold
 abbrev pub forwarder_model : PeForwarder → ForwarderModel

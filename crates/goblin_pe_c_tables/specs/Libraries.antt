@@ -64,7 +64,7 @@ abbrev pub library_table : MapOfAddresses → TablePlaces → List ℕ
     → Table PeImportCursor PeLibrary LibraryValue LibraryModel
 library_table m places bytes = record {
   view = library_model;
-  said = library_for_c m;
+  value_of = library_for_c m;
   from = λ p. option_map (cursor_libraries m (entry_format places.magic) bytes)
       ((import_cursor m places p).value bytes);
 }

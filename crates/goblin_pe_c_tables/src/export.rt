@@ -4,7 +4,7 @@ ghost use Rattle.std.specs.Prelude.{◌≡◌, None, Some};
 ghost use Rattle.goblin_pe_export.specs.added.ExportWalks.{walked_export};
 ghost use Rattle.goblin_pe_export.specs.Forwarders.{forwarder_value};
 ghost use Rattle.goblin_pe_c_tables.specs.Exports.{export_for_c, export_model};
-ghost use Rattle.goblin_pe_c_tables.specs.Exports.{said_without_forwarder};
+ghost use Rattle.goblin_pe_c_tables.specs.Exports.{export_without_forwarder};
 
 use crate::forwarder::{PeForwarder, forwarder_record, no_forwarder};
 use goblin_pe::added::WalkedExport;
@@ -39,7 +39,7 @@ pub struct PeExport<'a> {
 // The record of an export that is no forwarder.
 #[inline(always)]
 pub(crate) fn unforwarded_record<'a>(bytes: &'a [u8], walked: &WalkedExport<'a>) -> PeExport<'a>
-    ensures value { export_model result ≡ said_without_forwarder (walked_export walked.now) }
+    ensures value { export_model result ≡ export_without_forwarder (walked_export walked.now) }
     ensures unforwarded { (walked_export walked.now).row.reexport ≡ None
         → export_model result ≡ export_for_c (walked_export walked.now) }
 {

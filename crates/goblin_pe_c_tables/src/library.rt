@@ -52,7 +52,7 @@ fn library_record<'a>(
     library: &WalkedLibrary<'a>,
     finder: &mut Finder<'_>,
 ) -> PeLibrary<'a>
-    ensures said { library_model result
+    ensures value { library_model result
         ≡ library_for_c (map_of finder.old) (library_value library.now) }
     ensures same { finder.new ≡ finder.old }
 {

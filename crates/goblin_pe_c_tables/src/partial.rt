@@ -134,12 +134,12 @@ fn records_or_none<'a>(records: &Result<SectionRecords<'a>>) -> SectionRecords<'
 fn count_given(parts: &HeaderParts) -> u16
     ensures { result ≡ given_count parts.now }
 {
-    let said = given_or_zeros(&parts.coff_header, zero_coff_header()).number_of_sections;
+    let count = given_or_zeros(&parts.coff_header, zero_coff_header()).number_of_sections;
     let there = records_or_none(&parts.section_records).len();
-    if there < said as usize {
+    if there < count as usize {
         there as u16
     } else {
-        said
+        count
     }
 }
 

@@ -37,7 +37,7 @@ pub extern "C" fn goblin_pe_raw_read_auxiliary<'a>(
     auxiliary: &mut PeAuxiliary<'a>,
 ) -> u32
     ensures kind { result ≡ kind_number (kind_of symbol.now.record symbol.now.auxiliary.now) }
-    ensures said { AuxiliaryModel (kind_of symbol.now.record symbol.now.auxiliary.now)
+    ensures value { AuxiliaryModel (kind_of symbol.now.record symbol.now.auxiliary.now)
         symbol.now.auxiliary.now auxiliary.new }
 {
     read_auxiliary(symbol, auxiliary) as u32

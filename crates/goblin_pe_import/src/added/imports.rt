@@ -45,7 +45,7 @@ use crate::import::bitfield::Bitfield;
 use crate::import::directory_entry::{ImportDirectoryEntry, SIZEOF_IMPORT_DIRECTORY_ENTRY};
 use crate::import::kept::{KeptEntry, next_kept_within};
 use crate::import::library::{
-    address_table_rva, first_record_offset, library_name, lookup_offset, said_name,
+    address_table_rva, first_record_offset, library_name, lookup_offset, name_or_empty,
 };
 use crate::import::lookup_table::SyntheticImportLookupTableEntry;
 use crate::import::slots::{may_end, next_record};
@@ -632,7 +632,7 @@ impl<'a, 'm, 'e, T: Bitfield<'a>> Imports<'a, 'm, 'e, T> {
             at,
         };
         if at.place.is_some() {
-            walk.dll = said_name(bytes, at.name_rva, &mut walk.finder);
+            walk.dll = name_or_empty(bytes, at.name_rva, &mut walk.finder);
         }
         Imports {
             walk,

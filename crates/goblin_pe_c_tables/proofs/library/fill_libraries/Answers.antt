@@ -18,8 +18,8 @@ pub libraries-preserved : goal.libraries-preserved
 libraries-preserved c =
     let is = subst (λ (r : Result WalkedLibrary ErrorOf). GivesNextLibrary c.libraries.libraries (Some r) c.next.new.self) c.in-Some-Ok.field-0-is c.in-Some-Ok.ensures.steps in
     let map_is = c.libraries.invariant.1 in
-    let said = c.library_record.ensures.said ∙ ap (λ (m : MapOfAddresses). library_for_c m (library_value c.in-Some-Ok.library)) map_is in (
-      libraries-more c.libraries.invariant.0 c.in-Some-Ok.library c.next.new.self c.cursor_for_c.result c.library_record.result is (c.cursor_for_c.ensures ∙ ap cursor_for_c c.cursor.ensures.is) c.libraries-test.true said,
+    let same = c.library_record.ensures.value ∙ ap (λ (m : MapOfAddresses). library_for_c m (library_value c.in-Some-Ok.library)) map_is in (
+      libraries-more c.libraries.invariant.0 c.in-Some-Ok.library c.next.new.self c.cursor_for_c.result c.library_record.result is (c.cursor_for_c.ensures ∙ ap cursor_for_c c.cursor.ensures.is) c.libraries-test.true same,
       ap map_of c.library_record.ensures.same ∙ map_is,
     )
 
