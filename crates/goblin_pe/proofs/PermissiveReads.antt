@@ -15,7 +15,6 @@ use Rattle.goblin_pe_sect.specs.declared.data_directories.DataDirectory.{DataDir
 use Rattle.goblin_pe_sect.specs.declared.options.ParseOptions.{ParseOptions}
 use Rattle.goblin_pe_sect.specs.AddressReadings.{relocation_data}
 use Rattle.goblin_pe_sect.specs.declared.options.View.TheVariants.{Sections}
-use Rattle.goblin_pe_sect.specs.Mapping.{file_offset}
 use Rattle.goblin_pe_sect.specs.SectionTable.{Section}
 use Rattle.goblin_pe_sect.specs.Addresses.{Addressing}
 use Rattle.goblin_pe_head.specs.CoffHeader.{symbols_end}
@@ -119,12 +118,6 @@ repeats-part_at read None = repeats-same (given Absent)
 repeats-part_at read (Some d) = record { kept = λ bytes. part_of-kept ((read d).value bytes) }
 
 -- ---- imports
-
--- the mode says nothing of where addresses are mapped
-pub map-mode : (mode : ParseMode) (opts : ParseOptions) (sections : List Section) (alignment : ℕ)
-    → file_offset (in_mode mode opts) sections alignment ≡ file_offset opts sections alignment
-unfolding file_offset
-map-mode mode opts sections alignment = refl
 
 -- where the import directory is, by a map of addresses to file offsets
 abbrev pub place_by : Addressing → Option DataDirectory → Option ℕ
@@ -234,7 +227,7 @@ module _ (opts : ParseOptions) (header : PeHeader) where
       → RepeatsAs (in_permissive_mode opts)
       (whole_with Sections (in_mode Strict opts) header sections)
       (whole_with Sections (in_mode Permissive opts) header sections)
-  unfolding whole_with in_permissive_mode file_offset
+  unfolding whole_with in_permissive_mode
   with_sections_repeat sections =
       let places = places_in header.optional_header in
       let m = addressing_by opts (mapped_in Sections header sections) places in

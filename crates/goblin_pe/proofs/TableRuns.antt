@@ -14,6 +14,7 @@ use Rattle.goblin_pe_sect.specs.AddressReadings.{data_at, name_at, name_or_none,
 use Rattle.goblin_pe_sect.specs.BaseRelocations.{relocation_bytes}
 use Rattle.goblin_pe_sect.specs.declared.options.ParseOptions.{ParseOptions}
 use Rattle.goblin_pe_sect.specs.Mapping.{file_offset}
+use Rattle.goblin_pe_sect.specs.Options.{mapping_by}
 use Rattle.goblin_pe_sect.specs.Options.{is_strict}
 use Rattle.goblin_pe_sect.specs.SectionTable.{Section}
 use Rattle.goblin_pe_sect.specs.Addresses.{Addressing, with_whole_names}
@@ -27,7 +28,7 @@ use Rattle.goblin_pe_import.specs.LookupReadings.{lookup_table}
 use Rattle.goblin_pe_import.proofs.PermissiveReads.{lookup_table-repeats}
 use Rattle.goblin_pe.specs.Modes.{in_mode, unless_front}
 use Rattle.goblin_pe.specs.TableRuns.{AreAlike, AreInModes, AreTables}
-use Rattle.goblin_pe.proofs.PermissiveReads.{in_modes, map-mode, reads_in_modes, repeats-import_data}
+use Rattle.goblin_pe.proofs.PermissiveReads.{in_modes, reads_in_modes, repeats-import_data}
 
 -- what permissive mode takes for a name that is missing, strict mode refuses
 repeats-name_or_none : (addressing : Addressing) (rva : ℕ)
@@ -44,20 +45,15 @@ module _ {D Y : Type 0} (format : Format EntryValue) (model : D → Y)
   pub answered_in_mode : (mode : ParseMode) (opts own : ParseOptions) (sections : List Section)
       (alignment : ℕ) (tables : TablesOf D) → own ≡ in_mode mode opts
       → AreTables format model value_of refusal (is_strict own.parse_mode)
-      (with_whole_names (file_offset own sections alignment)) bytes request tables
+      (with_whole_names (file_offset (mapping_by own) sections alignment)) bytes request tables
       → AreTables format model value_of refusal (is_strict mode)
-      (with_whole_names (file_offset opts sections alignment)) bytes request tables
+      (with_whole_names (file_offset (mapping_by opts) sections alignment)) bytes request tables
   answered_in_mode mode opts own sections alignment tables is read =
       subst
-      (λ (m : ℕ → Option ℕ).
-      AreTables format model value_of refusal (is_strict mode) (with_whole_names m) bytes request
-      tables)
-      (map-mode mode opts sections alignment)
-      (subst
       (λ (o : ParseOptions).
       AreTables format model value_of refusal (is_strict o.parse_mode)
-      (with_whole_names (file_offset o sections alignment)) bytes request tables)
-      is read)
+      (with_whole_names (file_offset (mapping_by o) sections alignment)) bytes request tables)
+      is read
 
   module _ (first second : TablesOf D) where
     -- the answers under maps that are the same

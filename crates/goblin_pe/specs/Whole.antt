@@ -16,7 +16,7 @@ use Rattle.goblin_pe_sect.specs.AddressReadings.{relocation_data}
 use Rattle.goblin_pe_sect.specs.BaseRelocations.{relocation_bytes}
 use Rattle.goblin_pe_sect.specs.DataDirectories.{directory_or_zeros, no_directory}
 use Rattle.goblin_pe_sect.specs.Addresses.{table_offset, Addressing, with_whole_names}
-use Rattle.goblin_pe_sect.specs.Options.{front_of, is_strict}
+use Rattle.goblin_pe_sect.specs.Options.{front_of, is_strict, mapping_in}
 use Rattle.goblin_pe_sect.specs.SectionTable.{MappedSections, Section}
 use Rattle.goblin_pe_head.specs.declared.optional_header.OptionalHeader.{OptionalHeader}
 use Rattle.goblin_pe_head.specs.HeaderReadings.{pe_header}
@@ -132,12 +132,13 @@ size_of_headers (Some h) = h.windows_fields.size_of_headers
 -- what maps the addresses of a file with this header and these sections, in a view
 abbrev pub mapped_in : View → PeHeader → List Section → MappedSections
 mapped_in view h sections =
-    record { sections = sections; front = front_of view (size_of_headers h.optional_header) }
+    let front = front_of view (size_of_headers h.optional_header) in
+    record { sections = sections; view = view; front = front }
 
 -- where the addresses in tables lead; names are read whole
 abbrev pub addressing_by : ParseOptions → MappedSections → TablePlaces → Addressing
 addressing_by opts mapped places =
-    with_whole_names (table_offset opts mapped places.file_alignment)
+    with_whole_names (table_offset (mapping_in mapped.view opts) mapped places.file_alignment)
 
 -- ---- the tables
 

@@ -32,19 +32,19 @@ module _ (file : List ℕ) (p : ℕ) (inside : p < length file) where
   module _ (m : MappedImage) (outside rva : ℕ) (even : is_power_of_two m.alignment ≡ true) where
     -- the section that holds the address in its window has the offset there
     record Holds (s : Section) : Type 0 where
-      within : InWindow m.opts m.alignment rva s
-      at : raw_begin m.opts s + (rva - s.virtual_address) ≡ p
+      within : InWindow m.mapping m.alignment rva s
+      at : raw_begin m.mapping s + (rva - s.virtual_address) ≡ p
       there : is_unstored s ≡ false
 
-    stored-one : (s : Section) → Holds s → stored_of m.opts m.alignment (length file) s (rva - s.virtual_address) 1 ≡ 1
+    stored-one : (s : Section) → Holds s → stored_of m.mapping m.alignment (length file) s (rva - s.virtual_address) 1 ≡ 1
     stored-one s h =
-        let window : window_size m.opts m.alignment s ≡ read_size m.opts.raw_pointer_rule s m.alignment = rw even refl in
-        let most : stored_in_memory m.opts m.alignment (length file) s ≡ max (min (window_size m.opts m.alignment s) (length file - raw_begin m.opts s)) (min (memory_length m.opts m.alignment s) (stored_size m.opts s)) = rw (h.there) refl in
+        let window : window_size m.mapping m.alignment s ≡ read_size m.mapping.view s m.alignment = rw even refl in
+        let most : stored_in_memory m.mapping m.alignment (length file) s ≡ max (min (window_size m.mapping m.alignment s) (length file - raw_begin m.mapping s)) (min (memory_length m.mapping m.alignment s) (stored_size m.mapping s)) = rw (h.there) refl in
         omega (arith, window, most, h.within.0, h.within.1, h.at, inside)
 
-    most-one : (s : Section) → Holds s → min 1 (memory_length m.opts m.alignment s - (rva - s.virtual_address)) ≡ 1
+    most-one : (s : Section) → Holds s → min 1 (memory_length m.mapping m.alignment s - (rva - s.virtual_address)) ≡ 1
     most-one s h =
-        let window : window_size m.opts m.alignment s ≡ read_size m.opts.raw_pointer_rule s m.alignment = rw even refl in
+        let window : window_size m.mapping m.alignment s ≡ read_size m.mapping.view s m.alignment = rw even refl in
         omega (arith, window, h.within.0, h.within.1)
 
     in_section : (index : ℕ) (s : Section) → Holds s → Sees (memory_by m file outside rva 1 index (Some s))
@@ -52,24 +52,24 @@ module _ (file : List ℕ) (p : ℕ) (inside : p < length file) where
         rw (most-one s h, stored-one s h, h.at, one-byte, length-one) (refl, refl)
 
     -- what holds the address is the section whose window does
-    held : (s : Section) → find (is_in_window m.opts m.alignment rva) m.sections ≡ Some s → holder m rva ≡ Some s
+    held : (s : Section) → find (is_in_window m.mapping m.alignment rva) m.sections ≡ Some s → holder m rva ≡ Some s
     held s found = rw (even, found) refl
 
-    by_section : (found : Option Section) → find (is_in_window m.opts m.alignment rva) m.sections ≡ found
-        → option_map (λ s. offset_in m.opts s rva) found ≡ Some p
+    by_section : (found : Option Section) → find (is_in_window m.mapping m.alignment rva) m.sections ≡ found
+        → option_map (λ s. offset_in m.mapping s rva) found ≡ Some p
         → ((s : Section) → holder m rva ≡ Some s → is_unstored s ≡ false)
         → Sees (memory_by m file outside rva 1 (unwrap_or (holder_index m rva) outside) (holder m rva))
     by_section None found at stored = absurd cc
     by_section (Some s) found at stored =
         rw (held s found)
         (in_section (unwrap_or (holder_index m rva) outside) s (record {
-          within = found_in_window m.opts m.alignment rva m.sections s found;
+          within = found_in_window m.mapping m.alignment rva m.sections s found;
           at = same_value _ _ at;
           there = stored s (held s found);
         }))
 
-  by_map : (m : MappedImage) (outside rva : ℕ) (b even : Bool) → m.opts.resolve_rva ≡ b → is_power_of_two m.alignment ≡ even
-      → cond b (cond even (option_map (λ s. offset_in m.opts s rva) (find (is_in_window m.opts m.alignment rva) m.sections)) None) (Some rva) ≡ Some p
+  by_map : (m : MappedImage) (outside rva : ℕ) (b even : Bool) → m.mapping.resolve_rva ≡ b → is_power_of_two m.alignment ≡ even
+      → cond b (cond even (option_map (λ s. offset_in m.mapping s rva) (find (is_in_window m.mapping m.alignment rva) m.sections)) None) (Some rva) ≡ Some p
       → ((s : Section) → holder m rva ≡ Some s → is_unstored s ≡ false)
       → Sees (memory_mapped file outside rva 1 (Some m))
   by_map m outside rva true true on even at stored = rw on (by_section m outside rva even _ refl at stored)
@@ -84,8 +84,8 @@ module _ (file : List ℕ) (p : ℕ) (inside : p < length file) where
   unfolding file_offset
   mapped_by m outside rva at stored = by (nat_lt rva (2 ^ 32)) at
     where
-      by : (small : Bool) → cond small (file_offset m.opts m.sections m.alignment rva) None ≡ Some p → Sees (memory_mapped file outside rva 1 (Some m))
-      by true at = by_map m outside rva m.opts.resolve_rva (is_power_of_two m.alignment) refl refl at stored
+      by : (small : Bool) → cond small (file_offset m.mapping m.sections m.alignment rva) None ≡ Some p → Sees (memory_mapped file outside rva 1 (Some m))
+      by true at = by_map m outside rva m.mapping.resolve_rva (is_power_of_two m.alignment) refl refl at stored
       by false at = absurd cc
 
 stored-there : (s : Section) (b : Bool) → is_unstored s ≡ b → ¬ (IsTrue (is_unstored s)) → is_unstored s ≡ false

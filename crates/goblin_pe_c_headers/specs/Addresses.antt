@@ -5,10 +5,10 @@ use Rattle.std.specs.Option.{is_some}
 use Rattle.goblin_base.specs.Reading.{Reading}
 use Rattle.readings.specs.Reads.{text_within}
 use Rattle.goblin_pe_sect.specs.AddressReadings.{at_address}
-use Rattle.goblin_pe_sect.specs.declared.options.ParseOptions.{ParseOptions}
+use Rattle.goblin_pe_sect.specs.declared.options.Mapping.{Mapping}
 use Rattle.goblin_pe_sect.specs.Mapping.{file_offset}
 use Rattle.goblin_pe_sect.specs.added.Backward.{is_at, rva_in}
-use Rattle.goblin_pe_sect.specs.Options.{front_of}
+use Rattle.goblin_pe_sect.specs.Options.{front_of, mapping_in}
 use Rattle.goblin_pe_sect.specs.SectionTable.{Section, mapped_sections, with_front}
 use Rattle.goblin_pe_c_headers.specs.declared.address.Mapped.{Mapped}
 use Rattle.goblin_pe_c_headers.specs.declared.options.PeOptions.{PeOptions}
@@ -18,17 +18,17 @@ use Rattle.goblin_pe_c_headers.specs.Options.{view_of}
 use Rattle.goblin_pe_c_headers.specs.Places.{placed_sections}
 
 -- What maps the addresses of an image: its sections and, if it is mapped, the file's front after
--- them, the file alignment and the options.
+-- them, the file alignment, and how they are mapped.
 pub record MappedImage : Type 0 where
   pub sections : List Section
   pub alignment : ℕ
-  pub opts : ParseOptions
+  pub mapping : Mapping
 
 abbrev pub mapped_model : Mapped → MappedImage
 mapped_model m = record {
   sections = mapped_sections m.records;
   alignment = m.file_alignment;
-  opts = m.opts;
+  mapping = m.mapping;
 }
 
 -- the sections of an image, if the file has their headers; none are needed if addresses are offsets
@@ -44,14 +44,14 @@ mapped_image o p bytes =
     then option_map (λ sections. record {
       sections = with_front (front_of (view_of o) p.size_of_headers) sections;
       alignment = p.file_alignment;
-      opts = options_at o p.file_alignment;
+      mapping = mapping_in (view_of o) (options_at o p.file_alignment);
     }) (sections_for o p bytes)
     else None
 
 -- the file offset of an address, if it has one; an address has 32 bits
 abbrev pub mapped_offset : MappedImage → ℕ → Option ℕ
 mapped_offset m rva =
-    if nat_lt rva (2 ^ 32) then file_offset m.opts m.sections m.alignment rva else None
+    if nat_lt rva (2 ^ 32) then file_offset m.mapping m.sections m.alignment rva else None
 
 abbrev pub image_map : PeOptions → PePlaces → List ℕ → ℕ → Option ℕ
 image_map o p bytes rva = option_and_then (λ m. mapped_offset m rva) (mapped_image o p bytes)
@@ -59,9 +59,9 @@ image_map o p bytes rva = option_and_then (λ m. mapped_offset m rva) (mapped_im
 -- the address that the first section whose raw data holds the offset has there
 abbrev pub first_address : MappedImage → ℕ → Option ℕ
 first_address m offset =
-    if m.opts.resolve_rva
-    then option_and_then (rva_in m.opts m.alignment offset)
-    (find (λ s. is_some (rva_in m.opts m.alignment offset s)) m.sections)
+    if m.mapping.resolve_rva
+    then option_and_then (rva_in m.mapping m.alignment offset)
+    (find (λ s. is_some (rva_in m.mapping m.alignment offset s)) m.sections)
     else Some offset
 
 -- this address, if it is mapped back to the offset

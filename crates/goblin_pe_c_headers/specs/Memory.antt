@@ -4,8 +4,9 @@ use Rattle.std.specs.Prelude.{not, nat_le, nat_lt, if◌then◌else◌, List, []
 use Rattle.std.specs.Prelude.{Some, None, IsSomeAnd, length, option_and_then, slice_range}
 use Rattle.std.specs.Int.{is_power_of_two}
 use Rattle.std.specs.Option.{option_or, unwrap_or}
-use Rattle.goblin_pe_sect.specs.declared.options.ParseOptions.{ParseOptions}
+use Rattle.goblin_pe_sect.specs.declared.options.Mapping.{Mapping}
 use Rattle.goblin_pe_sect.specs.Mapping.{raw_begin, read_size}
+use Rattle.goblin_pe_sect.specs.Options.{mapping_in}
 use Rattle.goblin_pe_sect.specs.SectionTable.{Section}
 use Rattle.goblin_pe_c_headers.specs.declared.memory.PeMemory.{PeMemory}
 use Rattle.goblin_pe_c_headers.specs.declared.memory.Region.{Region}
@@ -13,7 +14,7 @@ use Rattle.goblin_pe_c_headers.specs.declared.memory.Region.TheVariants as regio
 use Rattle.goblin_pe_c_headers.specs.declared.options.PeOptions.{PeOptions}
 use Rattle.goblin_pe_c_headers.specs.declared.places.PePlaces.{PePlaces}
 use Rattle.goblin_pe_c_headers.specs.Addresses.{MappedImage, image_map, mapped_image}
-use Rattle.goblin_pe_c_headers.specs.Options.{are_known, options_at}
+use Rattle.goblin_pe_c_headers.specs.Options.{are_known, options_at, view_of}
 
 -- Source: PE Format, "Section Table (Section Headers)", on the virtual size, the raw size and the
 -- raw pointer, and "Section Flags", on uninitialized data. Loaders map whole file blocks: where a
@@ -89,21 +90,21 @@ is_unstored s = not (bit_and s.characteristics 0x80 == 0) && s.pointer_to_raw_da
 
 -- how many bytes of a section are raw data: from where they begin, by the rule of the options, to
 -- where they end as stored
-abbrev pub stored_size : ParseOptions → Section → ℕ
-stored_size opts s =
+abbrev pub stored_size : Mapping → Section → ℕ
+stored_size mapping s =
     if is_unstored s
     then 0
-    else s.pointer_to_raw_data + s.size_of_raw_data - raw_begin opts s
+    else s.pointer_to_raw_data + s.size_of_raw_data - raw_begin mapping s
 
 -- how many zeros follow these up to the size in memory
-abbrev pub zeros_after : ParseOptions → Section → ℕ
-zeros_after opts s = memory_size s - stored_size opts s
+abbrev pub zeros_after : Mapping → Section → ℕ
+zeros_after mapping s = memory_size s - stored_size mapping s
 
 -- the raw data of a section as far as the file has it, and the zeros that follow where it has all
-abbrev pub contents_in : ParseOptions → List ℕ → ℕ → Section → Memory
-contents_in opts bytes index s =
-    let stored = stored_size opts s in
-    let found = available bytes (raw_begin opts s) stored (zeros_after opts s) in
+abbrev pub contents_in : Mapping → List ℕ → ℕ → Section → Memory
+contents_in mapping bytes index s =
+    let stored = stored_size mapping s in
+    let found = available bytes (raw_begin mapping s) stored (zeros_after mapping s) in
     known found (stored - length found.0) index
     (if stored == 0 then region.Zeros else region.RawData)
 
@@ -111,35 +112,35 @@ contents_in opts bytes index s =
 -- all is missing
 abbrev pub section_data : PeOptions → ℕ → List ℕ → ℕ → Section → Memory
 section_data o alignment bytes index s =
-    let opts = options_at o alignment in
+    let mapping = mapping_in (view_of o) (options_at o alignment) in
     if are_known o
-    then contents_in opts bytes index s
-    else unknown (stored_size opts s + zeros_after opts s) index
+    then contents_in mapping bytes index s
+    else unknown (stored_size mapping s + zeros_after mapping s) index
 
 -- ---- a section's memory
 
 -- how many bytes a section's window has; there is none if the alignment is not a power of two
-abbrev pub window_size : ParseOptions → ℕ → Section → ℕ
-window_size opts alignment s =
-    if is_power_of_two alignment then read_size opts.raw_pointer_rule s alignment else 0
+abbrev pub window_size : Mapping → ℕ → Section → ℕ
+window_size mapping alignment s =
+    if is_power_of_two alignment then read_size mapping.view s alignment else 0
 
 -- the address is one of the `length` addresses from the section's on
 abbrev pub is_among : ℕ → ℕ → Section → Bool
 is_among size rva s = nat_le s.virtual_address rva && nat_lt rva (s.virtual_address + size)
 
 -- how many bytes the section's memory has, in which its window lies
-abbrev pub memory_length : ParseOptions → ℕ → Section → ℕ
-memory_length opts alignment s = max (memory_size s) (window_size opts alignment s)
+abbrev pub memory_length : Mapping → ℕ → Section → ℕ
+memory_length mapping alignment s = max (memory_size s) (window_size mapping alignment s)
 
 -- How many bytes of a section's memory are the file's: those of its raw data, and of the file
 -- blocks in its window as far as the file, whose end is given, has them. None are, if it has no
 -- place in the file. Of raw data that the file lacks it is not known what it is.
-abbrev pub stored_in_memory : ParseOptions → ℕ → ℕ → Section → ℕ
-stored_in_memory opts alignment end s =
+abbrev pub stored_in_memory : Mapping → ℕ → ℕ → Section → ℕ
+stored_in_memory mapping alignment end s =
     if is_unstored s
     then 0
-    else max (min (window_size opts alignment s) (end - raw_begin opts s))
-    (min (memory_length opts alignment s) (stored_size opts s))
+    else max (min (window_size mapping alignment s) (end - raw_begin mapping s))
+    (min (memory_length mapping alignment s) (stored_size mapping s))
 
 -- ---- what holds an address
 
@@ -147,34 +148,34 @@ stored_in_memory opts alignment end s =
 -- front, if it is mapped, comes after all sections
 abbrev pub holder : MappedImage → ℕ → Option Section
 holder m rva =
-    option_or (find (λ s. is_among (window_size m.opts m.alignment s) rva s) m.sections)
-    (find (λ s. is_among (memory_length m.opts m.alignment s) rva s) m.sections)
+    option_or (find (λ s. is_among (window_size m.mapping m.alignment s) rva s) m.sections)
+    (find (λ s. is_among (memory_length m.mapping m.alignment s) rva s) m.sections)
 
 -- its index
 abbrev pub holder_index : MappedImage → ℕ → Option ℕ
 holder_index m rva =
-    option_or (position (λ s. is_among (window_size m.opts m.alignment s) rva s) m.sections)
-    (position (λ s. is_among (memory_length m.opts m.alignment s) rva s) m.sections)
+    option_or (position (λ s. is_among (window_size m.mapping m.alignment s) rva s) m.sections)
+    (position (λ s. is_among (memory_length m.mapping m.alignment s) rva s) m.sections)
 
 -- ---- `size` bytes
 
 -- how many of `size` bytes of a section's memory, from a distance on, are the file's
-abbrev pub stored_of : ParseOptions → ℕ → ℕ → Section → ℕ → ℕ → ℕ
-stored_of opts alignment end s distance size =
-    min size (stored_in_memory opts alignment end s - distance)
+abbrev pub stored_of : Mapping → ℕ → ℕ → Section → ℕ → ℕ → ℕ
+stored_of mapping alignment end s distance size =
+    min size (stored_in_memory mapping alignment end s - distance)
 
 -- at most `size` bytes of a section's memory, from an address in it on
 abbrev pub memory_of : MappedImage → List ℕ → ℕ → ℕ → Section → List ℕ × ℕ
 memory_of m bytes rva size s =
     let distance = rva - s.virtual_address in
-    let most = min size (memory_length m.opts m.alignment s - distance) in
-    let stored = stored_of m.opts m.alignment (length bytes) s distance most in
-    available bytes (raw_begin m.opts s + distance) stored (most - stored)
+    let most = min size (memory_length m.mapping m.alignment s - distance) in
+    let stored = stored_of m.mapping m.alignment (length bytes) s distance most in
+    available bytes (raw_begin m.mapping s + distance) stored (most - stored)
 
 -- what is at an address in a section's memory
 abbrev pub region_in : MappedImage → List ℕ → ℕ → Section → Region
 region_in m bytes rva s =
-    if nat_lt (rva - s.virtual_address) (stored_in_memory m.opts m.alignment (length bytes) s)
+    if nat_lt (rva - s.virtual_address) (stored_in_memory m.mapping m.alignment (length bytes) s)
     then region.RawData
     else region.Zeros
 
@@ -198,7 +199,7 @@ memory_in_file bytes outside rva size =
 abbrev pub memory_mapped : List ℕ → ℕ → ℕ → ℕ → Option MappedImage → Memory
 memory_mapped bytes outside rva size None = unknown size outside
 memory_mapped bytes outside rva size (Some m) =
-    if m.opts.resolve_rva
+    if m.mapping.resolve_rva
     then memory_by m bytes outside rva size (unwrap_or (holder_index m rva) outside) (holder m rva)
     else memory_in_file bytes outside rva size
 

@@ -7,7 +7,7 @@ use Rattle.goblin_pe_sect.specs.declared.options.ParseOptions.{ParseOptions}
 use Rattle.goblin_pe_sect.specs.declared.options.RawPointerRule.{RawPointerRule}
 use Rattle.goblin_pe_sect.specs.declared.options.RawPointerRule.TheVariants.{AsStored}
 use Rattle.goblin_pe_sect.specs.declared.options.View.{View}
-use Rattle.goblin_pe_sect.specs.declared.options.View.TheVariants.{Loader, Sections}
+use Rattle.goblin_pe_sect.specs.declared.options.View.TheVariants.{LoadedSections, Loader, Sections}
 use Rattle.goblin_pe_sect.specs.Options.{default_options, is_strict, rule_by_alignment}
 use Rattle.goblin_pe_head.specs.declared.optional_header.OptionalHeader.{OptionalHeader}
 use Rattle.goblin_pe_head.specs.HeaderReadings.{pe_header}
@@ -25,9 +25,13 @@ rule_at mapping alignment =
     else if mapping == 1 then rule_by_alignment alignment
     else AsStored
 
--- what addresses are mapped by: with the mapping 0 as the Windows loader does
+-- what addresses are mapped by: with the mapping 0 as the Windows loader does, and with 1 without
+-- the front
 abbrev pub view_of : PeOptions → View
-view_of o = if o.mapping == 0 then Loader else Sections
+view_of o =
+    if o.mapping == 0 then Loader
+    else if o.mapping == 1 then LoadedSections
+    else Sections
 
 -- the options by which a header is read: the mode
 abbrev pub header_options : PeOptions → ParseOptions

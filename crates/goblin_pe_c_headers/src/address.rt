@@ -13,9 +13,9 @@ use crate::options::{PeOptions, are_known, longest_of, maps_addresses, options_a
 use crate::places::{PePlaces, section_records};
 use goblin_base::read::pread_str_within;
 use goblin_base::{Cause, Error, Result};
-use goblin_pe_sect::ParseOptions;
 use goblin_pe_sect::added::{offset_by_records, rva_in};
 use goblin_pe_sect::address_map::MappedRecords;
+use goblin_pe_sect::options::Mapping;
 use goblin_pe_sect::section_table::SectionRecords;
 
 // What maps the RVAs of an image.
@@ -25,8 +25,8 @@ pub(crate) struct Mapped<'a> {
     pub(crate) records: MappedRecords<'a>,
     // The file alignment of the raw data.
     pub(crate) file_alignment: u32,
-    // The options.
-    pub(crate) opts: ParseOptions,
+    // How these are mapped.
+    pub(crate) mapping: Mapping,
 }
 
 // The section headers, if the file has room for them; none are needed if RVAs are offsets.
@@ -58,11 +58,16 @@ pub(crate) fn mapped_by<'a>(
         return None;
     }
     let records = records_for(bytes, options, places)?;
-    let front = view_of(options).front(places.size_of_headers);
+    let view = view_of(options);
+    let front = view.front(places.size_of_headers);
     Some(Mapped {
-        records: MappedRecords { records, front },
+        records: MappedRecords {
+            records,
+            view,
+            front,
+        },
         file_alignment: places.file_alignment,
-        opts: options_at(options, places.file_alignment),
+        mapping: view.mapping(&options_at(options, places.file_alignment)),
     })
 }
 
@@ -76,7 +81,7 @@ fn mapped_offset(mapped: &Mapped, rva: usize) -> Option<usize>
     offset_by_records(
         mapped.records,
         mapped.file_alignment,
-        &mapped.opts,
+        mapped.mapping,
         rva as u32,
     )
 }
@@ -93,7 +98,7 @@ pub fn offset_of(bytes: &[u8], options: &PeOptions, places: &PePlaces, rva: usiz
 fn first_address(mapped: &Mapped, offset: usize) -> Option<usize>
     ensures { result ≡ first_address (mapped_model mapped.now) offset }
 {
-    if !mapped.opts.resolve_rva {
+    if !mapped.mapping.resolve_rva {
         return Some(offset);
     }
     let alignment = mapped.file_alignment;
@@ -101,9 +106,9 @@ fn first_address(mapped: &Mapped, offset: usize) -> Option<usize>
         offset,
         section,
         alignment,
-        &mapped.opts,
+        mapped.mapping,
     ).is_some())?;
-    rva_in(offset, &section, alignment, &mapped.opts)
+    rva_in(offset, &section, alignment, mapped.mapping)
 }
 
 /// The RVA of a file offset: that in the first section whose raw data holds the offset, or else in

@@ -13,12 +13,13 @@ ghost use Rattle.goblin_pe_c_headers.specs.Memory.{unknown, window_size, zeros_a
 ghost use Rattle.goblin_pe_c_headers.specs.Sections.{section_model};
 
 use crate::address::{Mapped, mapped_by};
-use crate::options::{PeOptions, are_known, options_at};
+use crate::options::{PeOptions, are_known, options_at, view_of};
 use crate::places::PePlaces;
 use crate::section::{PeSection, section_of};
+use goblin_pe_sect::SectionTable;
+use goblin_pe_sect::options::Mapping;
 use goblin_pe_sect::section_table::IMAGE_SCN_CNT_UNINITIALIZED_DATA;
-use goblin_pe_sect::utils::{raw_begin, window_with_opts};
-use goblin_pe_sect::{ParseOptions, SectionTable};
+use goblin_pe_sect::utils::{raw_begin, window_by};
 
 /// Where memory of an image comes from.
 #[derive(Copy, Clone)]
@@ -126,25 +127,25 @@ fn is_unstored(section: &SectionTable) -> bool
         && section.pointer_to_raw_data == 0
 }
 
-// How many bytes of a section are raw data: from where they begin, by the rule of `opts`, to where
+// How many bytes of a section are raw data: from where they begin, by the rule of `mapping`, to where
 // they end as stored.
-fn stored_size(section: &SectionTable, opts: &ParseOptions) -> usize
-    ensures value { result ≡ stored_size opts.now section.now }
+fn stored_size(section: &SectionTable, mapping: Mapping) -> usize
+    ensures value { result ≡ stored_size mapping section.now }
     ensures small { result < 2 ^ 33 }
 {
     if is_unstored(section) {
         return 0;
     }
     let end = section.pointer_to_raw_data as usize + section.size_of_raw_data as usize;
-    end.saturating_sub(raw_begin(section, opts) as usize)
+    end.saturating_sub(raw_begin(section, mapping) as usize)
 }
 
 // How many zeros follow these up to the size in memory.
-fn zeros_after(section: &SectionTable, opts: &ParseOptions) -> usize
-    ensures value { result ≡ zeros_after opts.now section.now }
+fn zeros_after(section: &SectionTable, mapping: Mapping) -> usize
+    ensures value { result ≡ zeros_after mapping section.now }
     ensures small { result < 2 ^ 32 }
 {
-    memory_size(section).saturating_sub(stored_size(section, opts))
+    memory_size(section).saturating_sub(stored_size(section, mapping))
 }
 
 // The raw data of a section as far as the file has it, and the zeros that follow if it has all.
@@ -152,13 +153,13 @@ fn contents_in<'a>(
     bytes: &'a [u8],
     section: &SectionTable,
     index: usize,
-    opts: &ParseOptions,
+    mapping: Mapping,
 ) -> PeMemory<'a>
-    ensures { memory_model result ≡ contents_in opts.now bytes.now index section.now }
+    ensures { memory_model result ≡ contents_in mapping bytes.now index section.now }
 {
-    let stored = stored_size(section, opts);
-    let begin = raw_begin(section, opts) as usize;
-    let found = available(bytes, begin, stored, zeros_after(section, opts));
+    let stored = stored_size(section, mapping);
+    let begin = raw_begin(section, mapping) as usize;
+    let found = available(bytes, begin, stored, zeros_after(section, mapping));
     let region = if stored == 0 {
         Region::Zeros
     } else {
@@ -181,21 +182,21 @@ pub fn section_data<'a>(
 {
     let index = section.index;
     let section = section_of(section);
-    let opts = options_at(options, file_alignment);
+    let mapping = view_of(options).mapping(&options_at(options, file_alignment));
     if are_known(options) {
-        return contents_in(bytes, &section, index, &opts);
+        return contents_in(bytes, &section, index, mapping);
     }
-    let missing = stored_size(&section, &opts) + zeros_after(&section, &opts);
+    let missing = stored_size(&section, mapping) + zeros_after(&section, mapping);
     unknown(bytes, missing, index)
 }
 
 // How many bytes the window of a section has.
 #[tactic(auto, using(goblin_pe_sect::proofs::Mapped::read_size_le))]
-fn window_size(section: &SectionTable, file_alignment: u32, opts: &ParseOptions) -> usize
-    ensures value { result ≡ window_size opts.now file_alignment section.now }
+fn window_size(section: &SectionTable, file_alignment: u32, mapping: Mapping) -> usize
+    ensures value { result ≡ window_size mapping file_alignment section.now }
     ensures small { result < 2 ^ 33 }
 {
-    match window_with_opts(section, file_alignment, opts) {
+    match window_by(section, file_alignment, mapping) {
         Some((begin, end)) => {
             let raw_size = section.size_of_raw_data as usize;
             prove!(end - begin < raw_size + 4096);
@@ -206,11 +207,11 @@ fn window_size(section: &SectionTable, file_alignment: u32, opts: &ParseOptions)
 }
 
 // How many bytes the memory of a section has.
-fn memory_length(section: &SectionTable, file_alignment: u32, opts: &ParseOptions) -> usize
-    ensures value { result ≡ memory_length opts.now file_alignment section.now }
+fn memory_length(section: &SectionTable, file_alignment: u32, mapping: Mapping) -> usize
+    ensures value { result ≡ memory_length mapping file_alignment section.now }
     ensures small { result < 2 ^ 33 }
 {
-    memory_size(section).max(window_size(section, file_alignment, opts))
+    memory_size(section).max(window_size(section, file_alignment, mapping))
 }
 
 // Whether an RVA is one of `size` from the section's address on.
@@ -226,18 +227,18 @@ fn is_among(rva: usize, section: &SectionTable, size: usize) -> bool
 fn stored_in_memory(
     section: &SectionTable,
     file_alignment: u32,
-    opts: &ParseOptions,
+    mapping: Mapping,
     end: usize,
 ) -> usize
-    ensures value { result ≡ stored_in_memory opts.now file_alignment end section.now }
+    ensures value { result ≡ stored_in_memory mapping file_alignment end section.now }
     ensures small { result < 2 ^ 33 }
 {
     if is_unstored(section) {
         return 0;
     }
-    let left = end.saturating_sub(raw_begin(section, opts) as usize);
-    let data = memory_length(section, file_alignment, opts).min(stored_size(section, opts));
-    window_size(section, file_alignment, opts)
+    let left = end.saturating_sub(raw_begin(section, mapping) as usize);
+    let data = memory_length(section, file_alignment, mapping).min(stored_size(section, mapping));
+    window_size(section, file_alignment, mapping)
         .min(left)
         .max(data)
 }
@@ -253,7 +254,7 @@ fn holder(mapped: &Mapped, rva: usize) -> Option<(usize, SectionTable)>
     let by_window = mapped.records.find(|section| is_among(
         rva,
         section,
-        window_size(section, alignment, &mapped.opts),
+        window_size(section, alignment, mapped.mapping),
     ));
     if by_window.is_some() {
         return by_window;
@@ -261,7 +262,7 @@ fn holder(mapped: &Mapped, rva: usize) -> Option<(usize, SectionTable)>
     mapped.records.find(|section| is_among(
         rva,
         section,
-        memory_length(section, alignment, &mapped.opts),
+        memory_length(section, alignment, mapped.mapping),
     ))
 }
 
@@ -279,10 +280,10 @@ fn memory_of<'a>(
 {
     let alignment = mapped.file_alignment;
     let distance = rva.saturating_sub(section.virtual_address as usize);
-    let most = size.min(memory_length(section, alignment, &mapped.opts).saturating_sub(distance));
-    let stored = stored_in_memory(section, alignment, &mapped.opts, bytes.len());
+    let most = size.min(memory_length(section, alignment, mapped.mapping).saturating_sub(distance));
+    let stored = stored_in_memory(section, alignment, mapped.mapping, bytes.len());
     let stored = most.min(stored.saturating_sub(distance));
-    let begin = raw_begin(section, &mapped.opts) as usize;
+    let begin = raw_begin(section, mapped.mapping) as usize;
     available(bytes, begin.saturating_add(distance), stored, most - stored)
 }
 
@@ -292,7 +293,7 @@ fn region_in(bytes: &[u8], mapped: &Mapped, section: &SectionTable, rva: usize) 
 {
     let distance = rva.saturating_sub(section.virtual_address as usize);
     let end = bytes.len();
-    if distance < stored_in_memory(section, mapped.file_alignment, &mapped.opts, end) {
+    if distance < stored_in_memory(section, mapped.file_alignment, mapped.mapping, end) {
         Region::RawData
     } else {
         Region::Zeros
@@ -377,7 +378,7 @@ pub fn memory_at<'a>(
     let Some(mapped) = mapped_by(bytes, options, places) else {
         return unknown(bytes, size, outside);
     };
-    if mapped.opts.resolve_rva {
+    if mapped.mapping.resolve_rva {
         memory_by(bytes, &mapped, outside, rva, size)
     } else {
         memory_in_file(bytes, outside, rva, size)

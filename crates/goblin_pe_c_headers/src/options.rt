@@ -96,10 +96,10 @@ fn rule_at(mapping: u32, file_alignment: u32) -> RawPointerRule
 pub fn view_of(options: &PeOptions) -> View
     ensures { result ≡ view_of options.now }
 {
-    if options.mapping == 0 {
-        View::Loader
-    } else {
-        View::Sections
+    match options.mapping {
+        0 => View::Loader,
+        1 => View::LoadedSections,
+        _ => View::Sections,
     }
 }
 

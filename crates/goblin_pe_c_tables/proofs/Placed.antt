@@ -98,7 +98,7 @@ leads_back h = record {
       let n = h.coff_header.number_of_sections in
       let found = placed strict (symbols_end h.coff_header) bytes (section_table_offset h) n sections read n refl in
       let alignment = (places_in h.optional_header).file_alignment in
-      rw found (ap (with_longest (longest_of o)) (unnamed_map_in (options_at o alignment) (front_of (view_of o) (size_of_headers h.optional_header)) sections alignment));
+      rw found (ap (with_longest (longest_of o)) (unnamed_map_in (options_at o alignment) (view_of o) (front_of (view_of o) (size_of_headers h.optional_header)) sections alignment));
 }
 
 -- the places of an image are those of its header

@@ -4,7 +4,6 @@ use Rattle.std.proofs.Math.Nat.{min-eq_left}
 use Rattle.std.proofs.lemmas.Bool.{and_parts}
 use Rattle.goblin_base.proofs.Steps.{mapped, step}
 use Rattle.goblin_pe_sect.specs.Addresses.{MapOfAddresses, map_in, with_longest}
-use Rattle.goblin_pe_sect.specs.Mapping.{file_offset}
 use Rattle.goblin_pe_sect.specs.Options.{is_strict}
 use Rattle.goblin_pe_sect.specs.SectionTable.{Section}
 use Rattle.goblin_pe_head.specs.CoffHeader.{symbols_end}
@@ -117,7 +116,7 @@ in-own : (image : PeImage) (h : PeHeader) (s : List Section) (d : Damage)
     → let alignment = (places_in h.optional_header).file_alignment in
     IsDamaged (view_of image.options) (options_at (record image.options { is_permissive = true }) alignment) h s image.bytes.now d
     → IsDamaged (view_of image.options) (options_at image.options alignment) h s image.bytes.now d
-unfolding file_offset left_out_of
+unfolding left_out_of
 in-own image h s d damaged = record {
   dos_stub = damaged.dos_stub;
   section_names = damaged.section_names;

@@ -44,9 +44,10 @@ places_from_c p = record {
 -- are read up to the limit that the options say
 abbrev pub map_at : PeOptions → PePlaces → List Section → MapOfAddresses
 map_at o p sections =
+    let view = view_of o in
     with_longest (longest_of o)
     (map_in (options_at o p.file_alignment)
-    (record { sections = sections; front = front_of (view_of o) p.size_of_headers })
+    (record { sections = sections; view = view; front = front_of view p.size_of_headers })
     p.file_alignment)
 
 -- memory is taken for an index: there are more than 96 sections

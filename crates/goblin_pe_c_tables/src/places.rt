@@ -51,8 +51,13 @@ pub fn layout_of<'a, 'e>(alloc: Global, image: &PeImage<'a>) -> ResultOf<'e, Lay
 {
     let places = places_of(image);
     let records = section_records(image.bytes, &places)?;
-    let front = view_of(&image.options).front(places.size_of_headers);
-    let mapped = MappedRecords { records, front };
+    let view = view_of(&image.options);
+    let front = view.front(places.size_of_headers);
+    let mapped = MappedRecords {
+        records,
+        view,
+        front,
+    };
     let opts = options_at(&image.options, places.file_alignment);
     let mut address_map = AddressMap::of_records(alloc, mapped, places.file_alignment, &opts)?;
     address_map.set_longest_name(longest_of(&image.options));

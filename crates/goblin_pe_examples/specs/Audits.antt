@@ -12,7 +12,7 @@ use Rattle.goblin_pe.specs.ErrorText.{error_text}
 use Rattle.goblin_pe.specs.ExportRecords.{ExportRow, ExportTables, NumberedExport}
 use Rattle.goblin_pe.specs.Imports.{NumberedImport}
 use Rattle.goblin_pe.specs.Mapping.{section_at}
-use Rattle.goblin_pe.specs.Options.{default_options}
+use Rattle.goblin_pe.specs.Options.{default_options, mapping_by}
 use Rattle.goblin_pe.specs.PeHeader.{PeHeader}
 use Rattle.goblin_pe.specs.Reading.{IsRefused, Reading}
 use Rattle.goblin_pe.specs.Reads.{mapped}
@@ -70,7 +70,7 @@ abbrev pub is_entered_in_code : ParseOptions → Option OptionalHeader → List 
 is_entered_in_code opts None sections = false
 is_entered_in_code opts (Some h) sections =
     is_code_there
-    (section_at opts h.windows_fields.file_alignment h.standard_fields.address_of_entry_point
+    (section_at (mapping_by opts) h.windows_fields.file_alignment h.standard_fields.address_of_entry_point
     sections)
 
 -- the same for a file

@@ -9,7 +9,7 @@ ghost use Rattle.goblin_pe.specs.CoffHeader.{coff_fields, coff_header};
 ghost use Rattle.goblin_pe.specs.DataDirectories.{present_from};
 ghost use Rattle.goblin_pe.specs.added.LayoutTables.{read_or};
 ghost use Rattle.goblin_pe.specs.Mapping.{file_offset};
-ghost use Rattle.goblin_pe.specs.Options.{default_options};
+ghost use Rattle.goblin_pe.specs.Options.{default_options, mapping_by};
 ghost use Rattle.goblin_pe.specs.Reading.{Reads, ReadsOrMemory};
 ghost use Rattle.goblin_pe.specs.Record.{ReadsBack, encoding, record_over};
 ghost use Rattle.goblin_pe.specs.Relocations.{relocations_left};
@@ -123,7 +123,7 @@ pub fn value_at<'a, 'e, T: TryFromCtx<'a>>(
     sections: &[SectionTable],
     virtual_address: u32,
 ) -> ResultOf<'e, T>
-    ensures { let m = file_offset default_options sections.now 0x200 in
+    ensures { let m = file_offset (mapping_by default_options) sections.now 0x200 in
         Reads T.model result (data_at m T.value_of T.refusal virtual_address) bytes.now }
 {
     let directory = DataDirectory {

@@ -7,18 +7,18 @@ use Rattle.std.proofs.lemmas.List.Kept.{Contains-dedup_nat, Contains-from_dedup}
 use Rattle.std.proofs.lemmas.Map.Keys.{IsStrictlyIncreasing-dedup}
 use Rattle.std.proofs.lemmas.Bool.{cases_lt}
 use Rattle.std.proofs.lemmas.Option.{slice_get_within}
-use Rattle.goblin_pe_sect.specs.declared.options.ParseOptions.{ParseOptions}
+use Rattle.goblin_pe_sect.specs.declared.options.Mapping.{Mapping}
 use Rattle.goblin_pe_sect.specs.Mapping.{read_size, window_end}
 use Rattle.goblin_pe_sect.specs.SectionTable.{Section}
 use Rattle.goblin_pe_sect.specs.WindowIndex.{AreNear, IsBorder, IsCut}
 
 -- the points so far are borders, among them 0 and the begins and ends of the first n sections' windows
-pub record HasCuts (opts : ParseOptions) (sections : List Section) (alignment : ℕ) (points : List ℕ) (n : ℕ) : Type 0 where
+pub record HasCuts (mapping : Mapping) (sections : List Section) (alignment : ℕ) (points : List ℕ) (n : ℕ) : Type 0 where
   pub start : Contains points 0
-  pub begins : (k : ℕ) (s : Section) → k < n → slice_get sections k ≡ Some s → 0 < read_size opts.raw_pointer_rule s alignment → Contains points s.virtual_address
-  pub ends : (k : ℕ) (s : Section) → k < n → slice_get sections k ≡ Some s → 0 < read_size opts.raw_pointer_rule s alignment → Contains points (window_end opts s alignment)
-  pub only : (x : ℕ) → Contains points x → IsBorder opts sections alignment x
-  pub near : (k : ℕ) (s : Section) → k < n → slice_get sections k ≡ Some s → read_size opts.raw_pointer_rule s alignment ≤ 2 ^ 33
+  pub begins : (k : ℕ) (s : Section) → k < n → slice_get sections k ≡ Some s → 0 < read_size mapping.view s alignment → Contains points s.virtual_address
+  pub ends : (k : ℕ) (s : Section) → k < n → slice_get sections k ≡ Some s → 0 < read_size mapping.view s alignment → Contains points (window_end mapping s alignment)
+  pub only : (x : ℕ) → Contains points x → IsBorder mapping sections alignment x
+  pub near : (k : ℕ) (s : Section) → k < n → slice_get sections k ≡ Some s → read_size mapping.view s alignment ≤ 2 ^ 33
   pub few : length points ≤ 2 * n + 1
 
 -- what holds of the first n elements and of the next
@@ -33,19 +33,19 @@ all_more P xs n x here below this k y lt is =
           subst P one this
     ]
 
-pub cuts_empty : (opts : ParseOptions) (sections : List Section) (alignment : ℕ) (points : List ℕ) (n : ℕ) (s : Section) → HasCuts opts sections alignment points n → slice_get sections n ≡ Some s → read_size opts.raw_pointer_rule s alignment ≡ 0 → HasCuts opts sections alignment points (n + 1)
-cuts_empty opts sections alignment points n s h here empty = record {
+pub cuts_empty : (mapping : Mapping) (sections : List Section) (alignment : ℕ) (points : List ℕ) (n : ℕ) (s : Section) → HasCuts mapping sections alignment points n → slice_get sections n ≡ Some s → read_size mapping.view s alignment ≡ 0 → HasCuts mapping sections alignment points (n + 1)
+cuts_empty mapping sections alignment points n s h here empty = record {
   start = h.start;
-  begins = all_more (λ s. 0 < read_size opts.raw_pointer_rule s alignment → Contains points s.virtual_address) sections n s here h.begins (λ some. absurd (omega arith));
-  ends = all_more (λ s. 0 < read_size opts.raw_pointer_rule s alignment → Contains points (window_end opts s alignment)) sections n s here h.ends (λ some. absurd (omega arith));
+  begins = all_more (λ s. 0 < read_size mapping.view s alignment → Contains points s.virtual_address) sections n s here h.begins (λ some. absurd (omega arith));
+  ends = all_more (λ s. 0 < read_size mapping.view s alignment → Contains points (window_end mapping s alignment)) sections n s here h.ends (λ some. absurd (omega arith));
   only = h.only;
-  near = all_more (λ s. read_size opts.raw_pointer_rule s alignment ≤ 2 ^ 33) sections n s here h.near (omega arith);
+  near = all_more (λ s. read_size mapping.view s alignment ≤ 2 ^ 33) sections n s here h.near (omega arith);
   few = omega (arith, h.few);
 }
 
-only_more : (opts : ParseOptions) (sections : List Section) (alignment : ℕ) (points : List ℕ) (n : ℕ) (s : Section) → ((x : ℕ) → Contains points x → IsBorder opts sections alignment x) → slice_get sections n ≡ Some s → 0 < read_size opts.raw_pointer_rule s alignment → (x : ℕ) → Contains ((points ++ s.virtual_address ∷ []) ++ window_end opts s alignment ∷ []) x → IsBorder opts sections alignment x
-only_more opts sections alignment points n s only here some x has =
-    elim (Contains-push_cases (points ++ s.virtual_address ∷ []) (window_end opts s alignment) x has) [
+only_more : (mapping : Mapping) (sections : List Section) (alignment : ℕ) (points : List ℕ) (n : ℕ) (s : Section) → ((x : ℕ) → Contains points x → IsBorder mapping sections alignment x) → slice_get sections n ≡ Some s → 0 < read_size mapping.view s alignment → (x : ℕ) → Contains ((points ++ s.virtual_address ∷ []) ++ window_end mapping s alignment ∷ []) x → IsBorder mapping sections alignment x
+only_more mapping sections alignment points n s only here some x has =
+    elim (Contains-push_cases (points ++ s.virtual_address ∷ []) (window_end mapping s alignment) x has) [
       | inl before ↦
           elim (Contains-push_cases points s.virtual_address x before) [
             | inl old ↦ only x old
@@ -54,53 +54,53 @@ only_more opts sections alignment points n s only here some x has =
       | inr end ↦ inr (n, s, here, some, inr (sym end))
     ]
 
-pub cuts_more : (opts : ParseOptions) (sections : List Section) (alignment : ℕ) (points : List ℕ) (n : ℕ) (s : Section) → HasCuts opts sections alignment points n → slice_get sections n ≡ Some s → 0 < read_size opts.raw_pointer_rule s alignment → read_size opts.raw_pointer_rule s alignment ≤ 2 ^ 33 → HasCuts opts sections alignment ((points ++ s.virtual_address ∷ []) ++ window_end opts s alignment ∷ []) (n + 1)
-cuts_more opts sections alignment points n s h here some small =
-    let all : List ℕ = (points ++ s.virtual_address ∷ []) ++ window_end opts s alignment ∷ [] in
+pub cuts_more : (mapping : Mapping) (sections : List Section) (alignment : ℕ) (points : List ℕ) (n : ℕ) (s : Section) → HasCuts mapping sections alignment points n → slice_get sections n ≡ Some s → 0 < read_size mapping.view s alignment → read_size mapping.view s alignment ≤ 2 ^ 33 → HasCuts mapping sections alignment ((points ++ s.virtual_address ∷ []) ++ window_end mapping s alignment ∷ []) (n + 1)
+cuts_more mapping sections alignment points n s h here some small =
+    let all : List ℕ = (points ++ s.virtual_address ∷ []) ++ window_end mapping s alignment ∷ [] in
     let kept : (x : ℕ) → Contains points x → Contains all x = λ x has. Contains-append_left _ _ x (Contains-append_left points _ x has) in
     record {
       start = kept 0 h.start;
-      begins = all_more (λ s. 0 < read_size opts.raw_pointer_rule s alignment → Contains all s.virtual_address) sections n s here (λ k t lt is some. kept _ (h.begins k t lt is some)) (λ some. Contains-append_left _ _ _ (Contains-push points s.virtual_address));
-      ends = all_more (λ s. 0 < read_size opts.raw_pointer_rule s alignment → Contains all (window_end opts s alignment)) sections n s here (λ k t lt is some. kept _ (h.ends k t lt is some)) (λ some. Contains-push _ (window_end opts s alignment));
-      only = only_more opts sections alignment points n s h.only here some;
-      near = all_more (λ s. read_size opts.raw_pointer_rule s alignment ≤ 2 ^ 33) sections n s here h.near small;
+      begins = all_more (λ s. 0 < read_size mapping.view s alignment → Contains all s.virtual_address) sections n s here (λ k t lt is some. kept _ (h.begins k t lt is some)) (λ some. Contains-append_left _ _ _ (Contains-push points s.virtual_address));
+      ends = all_more (λ s. 0 < read_size mapping.view s alignment → Contains all (window_end mapping s alignment)) sections n s here (λ k t lt is some. kept _ (h.ends k t lt is some)) (λ some. Contains-push _ (window_end mapping s alignment));
+      only = only_more mapping sections alignment points n s h.only here some;
+      near = all_more (λ s. read_size mapping.view s alignment ≤ 2 ^ 33) sections n s here h.near small;
       few = omega (arith, h.few, length-append {A = ℕ});
     }
 
-only_touching : (opts : ParseOptions) (sections : List Section) (alignment : ℕ) (points : List ℕ) (n : ℕ) (s : Section) → ((x : ℕ) → Contains points x → IsBorder opts sections alignment x) → slice_get sections n ≡ Some s → 0 < read_size opts.raw_pointer_rule s alignment → (x : ℕ) → Contains (points ++ window_end opts s alignment ∷ []) x → IsBorder opts sections alignment x
-only_touching opts sections alignment points n s only here some x has =
-    elim (Contains-push_cases points (window_end opts s alignment) x has) [
+only_touching : (mapping : Mapping) (sections : List Section) (alignment : ℕ) (points : List ℕ) (n : ℕ) (s : Section) → ((x : ℕ) → Contains points x → IsBorder mapping sections alignment x) → slice_get sections n ≡ Some s → 0 < read_size mapping.view s alignment → (x : ℕ) → Contains (points ++ window_end mapping s alignment ∷ []) x → IsBorder mapping sections alignment x
+only_touching mapping sections alignment points n s only here some x has =
+    elim (Contains-push_cases points (window_end mapping s alignment) x has) [
       | inl old ↦ only x old
       | inr end ↦ inr (n, s, here, some, inr (sym end))
     ]
 
 -- where a window begins at one of the points, only its end is new
-pub cuts_touching : (opts : ParseOptions) (sections : List Section) (alignment : ℕ) (points : List ℕ) (n : ℕ) (s : Section) → HasCuts opts sections alignment points n → slice_get sections n ≡ Some s → 0 < read_size opts.raw_pointer_rule s alignment → read_size opts.raw_pointer_rule s alignment ≤ 2 ^ 33 → Contains points s.virtual_address → HasCuts opts sections alignment (points ++ window_end opts s alignment ∷ []) (n + 1)
-cuts_touching opts sections alignment points n s h here some small begun =
-    let all : List ℕ = points ++ window_end opts s alignment ∷ [] in
+pub cuts_touching : (mapping : Mapping) (sections : List Section) (alignment : ℕ) (points : List ℕ) (n : ℕ) (s : Section) → HasCuts mapping sections alignment points n → slice_get sections n ≡ Some s → 0 < read_size mapping.view s alignment → read_size mapping.view s alignment ≤ 2 ^ 33 → Contains points s.virtual_address → HasCuts mapping sections alignment (points ++ window_end mapping s alignment ∷ []) (n + 1)
+cuts_touching mapping sections alignment points n s h here some small begun =
+    let all : List ℕ = points ++ window_end mapping s alignment ∷ [] in
     let kept : (x : ℕ) → Contains points x → Contains all x = λ x has. Contains-append_left points _ x has in
     record {
       start = kept 0 h.start;
-      begins = all_more (λ s. 0 < read_size opts.raw_pointer_rule s alignment → Contains all s.virtual_address) sections n s here (λ k t lt is some. kept _ (h.begins k t lt is some)) (λ some. kept _ begun);
-      ends = all_more (λ s. 0 < read_size opts.raw_pointer_rule s alignment → Contains all (window_end opts s alignment)) sections n s here (λ k t lt is some. kept _ (h.ends k t lt is some)) (λ some. Contains-push points (window_end opts s alignment));
-      only = only_touching opts sections alignment points n s h.only here some;
-      near = all_more (λ s. read_size opts.raw_pointer_rule s alignment ≤ 2 ^ 33) sections n s here h.near small;
+      begins = all_more (λ s. 0 < read_size mapping.view s alignment → Contains all s.virtual_address) sections n s here (λ k t lt is some. kept _ (h.begins k t lt is some)) (λ some. kept _ begun);
+      ends = all_more (λ s. 0 < read_size mapping.view s alignment → Contains all (window_end mapping s alignment)) sections n s here (λ k t lt is some. kept _ (h.ends k t lt is some)) (λ some. Contains-push points (window_end mapping s alignment));
+      only = only_touching mapping sections alignment points n s h.only here some;
+      near = all_more (λ s. read_size mapping.view s alignment ≤ 2 ^ 33) sections n s here h.near small;
       few = omega (arith, h.few, length-append {A = ℕ});
     }
 
-pub all_borders : (opts : ParseOptions) (sections : List Section) (alignment : ℕ) (points : List ℕ) → HasCuts opts sections alignment points (length sections) → (x : ℕ) → IsBorder opts sections alignment x → Contains points x
-all_borders opts sections alignment points h x (inl is) = subst (λ (y : ℕ). Contains points y) (sym is) h.start
-all_borders opts sections alignment points h x (inr (k, s, at, some, inl begin)) = subst (λ (y : ℕ). Contains points y) (sym begin) (h.begins k s (slice_get_within sections k s at) at some)
-all_borders opts sections alignment points h x (inr (k, s, at, some, inr end)) = subst (λ (y : ℕ). Contains points y) (sym end) (h.ends k s (slice_get_within sections k s at) at some)
+pub all_borders : (mapping : Mapping) (sections : List Section) (alignment : ℕ) (points : List ℕ) → HasCuts mapping sections alignment points (length sections) → (x : ℕ) → IsBorder mapping sections alignment x → Contains points x
+all_borders mapping sections alignment points h x (inl is) = subst (λ (y : ℕ). Contains points y) (sym is) h.start
+all_borders mapping sections alignment points h x (inr (k, s, at, some, inl begin)) = subst (λ (y : ℕ). Contains points y) (sym begin) (h.begins k s (slice_get_within sections k s at) at some)
+all_borders mapping sections alignment points h x (inr (k, s, at, some, inr end)) = subst (λ (y : ℕ). Contains points y) (sym end) (h.ends k s (slice_get_within sections k s at) at some)
 
 -- the points in order and without repeats cut the line
-pub cut_from : (opts : ParseOptions) (sections : List Section) (alignment : ℕ) (points sorted : List ℕ) → HasCuts opts sections alignment points (length sections) → IsPermutation points sorted → IsSorted nat_cmp sorted → length (dedup eqb sorted) ≤ length sorted → IsCut opts sections alignment (dedup eqb sorted)
-cut_from opts sections alignment points sorted h moved ordered shorter = record {
+pub cut_from : (mapping : Mapping) (sections : List Section) (alignment : ℕ) (points sorted : List ℕ) → HasCuts mapping sections alignment points (length sections) → IsPermutation points sorted → IsSorted nat_cmp sorted → length (dedup eqb sorted) ≤ length sorted → IsCut mapping sections alignment (dedup eqb sorted)
+cut_from mapping sections alignment points sorted h moved ordered shorter = record {
   rising = IsStrictlyIncreasing-dedup sorted ordered;
-  all = λ x border. Contains-dedup_nat sorted x (Contains-permutation points sorted x moved (all_borders opts sections alignment points h x border));
+  all = λ x border. Contains-dedup_nat sorted x (Contains-permutation points sorted x moved (all_borders mapping sections alignment points h x border));
   only = λ x has. h.only x (Contains-permutation sorted points x (IsPermutation-sym points sorted moved) (Contains-from_dedup eqb sorted x has));
   few = omega (arith, h.few, shorter, length_permutation points sorted moved);
 }
 
-pub near_from : (opts : ParseOptions) (sections : List Section) (alignment : ℕ) (points : List ℕ) → HasCuts opts sections alignment points (length sections) → AreNear opts sections alignment
-near_from opts sections alignment points h k s at = h.near k s (slice_get_within sections k s at) at
+pub near_from : (mapping : Mapping) (sections : List Section) (alignment : ℕ) (points : List ℕ) → HasCuts mapping sections alignment points (length sections) → AreNear mapping sections alignment
+near_from mapping sections alignment points h k s at = h.near k s (slice_get_within sections k s at) at

@@ -11,7 +11,7 @@ use Rattle.std.proofs.lemmas.Option.{slice_get_within, get_or_from_slice_get}
 use Rattle.goblin_pe_sect.specs.Mapping.{read_size, window_end}
 use Rattle.goblin_pe_sect.specs.WindowIndex.{AreNear, IsCut, first_owner}
 use Rattle.goblin_pe_sect.specs.WindowStretches.{window_holds, owner_among, section_window_at, section_windows}
-use Rattle.goblin_pe_sect.specs.declared.options.ParseOptions.{ParseOptions}
+use Rattle.goblin_pe_sect.specs.declared.options.Mapping.{Mapping}
 use Rattle.goblin_pe_sect.specs.SectionTable.{Section}
 use Rattle.goblin_pe_sect.specs.declared.windows.owners.Owner.{Owner}
 use Rattle.goblin_pe_sect.specs.declared.windows.owners.Window.{Window}
@@ -76,93 +76,93 @@ below_last xs x up k within =
 -- ---- the pieces so far
 
 -- The pieces of the first n sections' windows, without the last: that one begins at `end`, which no window passes.
-pub record AreInOrder (opts : ParseOptions) (alignment : ℕ) (sections : List Section) (begins : List ℕ) (owners : List (Option Owner)) (end n : ℕ) : Type 0 where
-  pub cuts : HasCuts opts sections alignment (begins ++ end ∷ []) n
+pub record AreInOrder (mapping : Mapping) (alignment : ℕ) (sections : List Section) (begins : List ℕ) (owners : List (Option Owner)) (end n : ℕ) : Type 0 where
+  pub cuts : HasCuts mapping sections alignment (begins ++ end ∷ []) n
   pub rising : IsStrictlyIncreasing (begins ++ end ∷ [])
-  pub past : (rva : ℕ) → end ≤ rva → find (window_holds rva) (section_windows opts alignment (take n sections)) ≡ None
-  pub owned : owners ≡ map (owner_among (section_windows opts alignment (take n sections))) begins
+  pub past : (rva : ℕ) → end ≤ rva → find (window_holds rva) (section_windows mapping alignment (take n sections)) ≡ None
+  pub owned : owners ≡ map (owner_among (section_windows mapping alignment (take n sections))) begins
 
-module _ (opts : ParseOptions) (alignment : ℕ) (sections : List Section) (begins : List ℕ) (owners : List (Option Owner)) (end n : ℕ) (s : Section) (h : AreInOrder opts alignment sections begins owners end n) (here : slice_get sections n ≡ Some s) where
+module _ (mapping : Mapping) (alignment : ℕ) (sections : List Section) (begins : List ℕ) (owners : List (Option Owner)) (end n : ℕ) (s : Section) (h : AreInOrder mapping alignment sections begins owners end n) (here : slice_get sections n ≡ Some s) where
   abbrev old : List Window
-  old = section_windows opts alignment (take n sections)
+  old = section_windows mapping alignment (take n sections)
 
   abbrev all : List Window
-  all = section_windows opts alignment (take (n + 1) sections)
+  all = section_windows mapping alignment (take (n + 1) sections)
 
   abbrev pub one : Window
-  one = section_window_at opts alignment n s
+  one = section_window_at mapping alignment n s
 
   all-is : all ≡ old ++ one ∷ []
-  all-is = next_window opts alignment n sections s (slice_get_within sections n s here) ∙ ap (λ (t : Section). old ++ section_window_at opts alignment n t ∷ []) (get_or_from_slice_get sections n s s here)
+  all-is = next_window mapping alignment n sections s (slice_get_within sections n s here) ∙ ap (λ (t : Section). old ++ section_window_at mapping alignment n t ∷ []) (get_or_from_slice_get sections n s s here)
 
   owners-out : (xs : List ℕ) → ((k : ℕ) → k < length xs → window_holds (get_or xs k 0) one ≡ false) → map (owner_among old) xs ≡ map (owner_among all) xs
   owners-out xs out = rw all-is (map_same (owner_among old) (owner_among (old ++ one ∷ [])) 0 xs (λ k within. sym (owner-out old one (get_or xs k 0) (out k within))))
 
   -- a window that is empty
-  pub in_order_empty : read_size opts.raw_pointer_rule s alignment ≡ 0 → AreInOrder opts alignment sections begins owners end (n + 1)
+  pub in_order_empty : read_size mapping.view s alignment ≡ 0 → AreInOrder mapping alignment sections begins owners end (n + 1)
   in_order_empty empty = record {
-    cuts = cuts_empty opts sections alignment (begins ++ end ∷ []) n s h.cuts here empty;
+    cuts = cuts_empty mapping sections alignment (begins ++ end ∷ []) n s h.cuts here empty;
     rising = h.rising;
     past = λ rva after. rw all-is (find-out old one rva (out_empty rva one (omega arith)) ∙ h.past rva after);
     owned = h.owned ∙ owners-out begins (λ k within. out_empty (get_or begins k 0) one (omega arith));
   }
 
-  past_more : end ≤ s.virtual_address → 0 < read_size opts.raw_pointer_rule s alignment → (rva : ℕ) → window_end opts s alignment ≤ rva → find (window_holds rva) all ≡ None
+  past_more : end ≤ s.virtual_address → 0 < read_size mapping.view s alignment → (rva : ℕ) → window_end mapping s alignment ≤ rva → find (window_holds rva) all ≡ None
   past_more apart some rva after =
       rw all-is (find-out old one rva (out_after rva one after) ∙ h.past rva (omega arith))
 
   owned_begins : end ≤ s.virtual_address → owners ≡ map (owner_among all) begins
   owned_begins apart = h.owned ∙ owners-out begins (λ k within. out_before (get_or begins k 0) one (omega (arith, below_last begins end h.rising k within)))
 
-  owned_window : end ≤ s.virtual_address → 0 < read_size opts.raw_pointer_rule s alignment → owner_among all s.virtual_address ≡ Some one.owner
+  owned_window : end ≤ s.virtual_address → 0 < read_size mapping.view s alignment → owner_among all s.virtual_address ≡ Some one.owner
   owned_window apart some = rw all-is (owner-new old one s.virtual_address (h.past s.virtual_address apart) (in_begin one (omega arith)))
 
   -- a window that begins where the last ends
-  pub in_order_touching : end ≡ s.virtual_address → 0 < read_size opts.raw_pointer_rule s alignment → read_size opts.raw_pointer_rule s alignment ≤ 2 ^ 33 → AreInOrder opts alignment sections (begins ++ s.virtual_address ∷ []) (owners ++ Some one.owner ∷ []) (window_end opts s alignment) (n + 1)
+  pub in_order_touching : end ≡ s.virtual_address → 0 < read_size mapping.view s alignment → read_size mapping.view s alignment ≤ 2 ^ 33 → AreInOrder mapping alignment sections (begins ++ s.virtual_address ∷ []) (owners ++ Some one.owner ∷ []) (window_end mapping s alignment) (n + 1)
   in_order_touching same some small =
       let points : List ℕ = begins ++ s.virtual_address ∷ [] in
-      let cuts : HasCuts opts sections alignment points n = rw (← same) h.cuts in
+      let cuts : HasCuts mapping sections alignment points n = rw (← same) h.cuts in
       let rising : IsStrictlyIncreasing points = rw (← same) h.rising in
       let apart : end ≤ s.virtual_address = omega arith in
       record {
-        cuts = cuts_touching opts sections alignment points n s cuts here some small (Contains-push begins s.virtual_address);
-        rising = rising_push begins s.virtual_address (window_end opts s alignment) rising (omega arith);
+        cuts = cuts_touching mapping sections alignment points n s cuts here some small (Contains-push begins s.virtual_address);
+        rising = rising_push begins s.virtual_address (window_end mapping s alignment) rising (omega arith);
         past = past_more apart some;
         owned = rw (map-append (owner_among all) begins (s.virtual_address ∷ []), ← owned_begins apart, owned_window apart some) refl;
       }
 
   -- and one that begins after it
-  pub in_order_apart : end < s.virtual_address → 0 < read_size opts.raw_pointer_rule s alignment → read_size opts.raw_pointer_rule s alignment ≤ 2 ^ 33 → AreInOrder opts alignment sections ((begins ++ end ∷ []) ++ s.virtual_address ∷ []) ((owners ++ None ∷ []) ++ Some one.owner ∷ []) (window_end opts s alignment) (n + 1)
+  pub in_order_apart : end < s.virtual_address → 0 < read_size mapping.view s alignment → read_size mapping.view s alignment ≤ 2 ^ 33 → AreInOrder mapping alignment sections ((begins ++ end ∷ []) ++ s.virtual_address ∷ []) ((owners ++ None ∷ []) ++ Some one.owner ∷ []) (window_end mapping s alignment) (n + 1)
   in_order_apart after some small =
       let points : List ℕ = begins ++ end ∷ [] in
       let apart : end ≤ s.virtual_address = omega arith in
       let between : owner_among all end ≡ None = rw all-is (owner-out old one end (out_before end one after) ∙ ap (option_map (λ (w : Window). w.owner)) (h.past end (omega arith))) in
       record {
-        cuts = cuts_more opts sections alignment points n s h.cuts here some small;
-        rising = rising_push points s.virtual_address (window_end opts s alignment) (rising_push begins end s.virtual_address h.rising after) (omega arith);
+        cuts = cuts_more mapping sections alignment points n s h.cuts here some small;
+        rising = rising_push points s.virtual_address (window_end mapping s alignment) (rising_push begins end s.virtual_address h.rising after) (omega arith);
         past = past_more apart some;
         owned = rw (map-append (owner_among all) points (s.virtual_address ∷ []), map-append (owner_among all) begins (end ∷ []), ← owned_begins apart, between, owned_window apart some) refl;
       }
 
 -- ---- all pieces
 
-module _ (opts : ParseOptions) (alignment : ℕ) (sections : List Section) (begins : List ℕ) (owners : List (Option Owner)) (end n : ℕ) (h : AreInOrder opts alignment sections begins owners end n) (whole : n ≡ length sections) where
-  pub near_in_order : AreNear opts sections alignment
-  near_in_order = near_from opts sections alignment (begins ++ end ∷ []) (rw (← whole) h.cuts)
+module _ (mapping : Mapping) (alignment : ℕ) (sections : List Section) (begins : List ℕ) (owners : List (Option Owner)) (end n : ℕ) (h : AreInOrder mapping alignment sections begins owners end n) (whole : n ≡ length sections) where
+  pub near_in_order : AreNear mapping sections alignment
+  near_in_order = near_from mapping sections alignment (begins ++ end ∷ []) (rw (← whole) h.cuts)
 
-  pub cut_in_order : IsCut opts sections alignment (begins ++ end ∷ [])
+  pub cut_in_order : IsCut mapping sections alignment (begins ++ end ∷ [])
   cut_in_order = record {
     rising = h.rising;
-    all = all_borders opts sections alignment (begins ++ end ∷ []) (rw (← whole) h.cuts);
+    all = all_borders mapping sections alignment (begins ++ end ∷ []) (rw (← whole) h.cuts);
     only = h.cuts.only;
     few = omega (arith, h.cuts.few);
   }
 
-  pub owners_in_order : owners ++ None ∷ [] ≡ map (first_owner opts sections alignment) (begins ++ end ∷ [])
+  pub owners_in_order : owners ++ None ∷ [] ≡ map (first_owner mapping sections alignment) (begins ++ end ∷ [])
   owners_in_order =
-      let windows : List Window = section_windows opts alignment sections in
+      let windows : List Window = section_windows mapping alignment sections in
       let all : take n sections ≡ sections = take_all n sections (omega arith) in
       let last : owner_among windows end ≡ None = ap (option_map (λ (w : Window). w.owner)) (rw all at h.past end (omega arith)) in
       let front : owners ≡ map (owner_among windows) begins = rw all at h.owned in
       let joined : owners ++ None ∷ [] ≡ map (owner_among windows) (begins ++ end ∷ []) = rw (map-append (owner_among windows) begins (end ∷ []), ← front, last) refl in
-      joined ∙ owners-sections opts alignment sections (begins ++ end ∷ [])
+      joined ∙ owners-sections mapping alignment sections (begins ++ end ∷ [])

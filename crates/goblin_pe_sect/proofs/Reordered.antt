@@ -5,7 +5,7 @@ use Rattle.std.specs.List.{AllPairs, position_or_len}
 use Rattle.std.proofs.lemmas.Bool.{cases_Bool}
 use Rattle.std.proofs.lemmas.List.Sorted.{Contains-permutation, IsPermutation-sym}
 use Rattle.std.proofs.lemmas.Option.{get_or_from_slice_get, slice_get_read, slice_get_within}
-use Rattle.goblin_pe_sect.specs.declared.options.ParseOptions.{ParseOptions}
+use Rattle.goblin_pe_sect.specs.declared.options.Mapping.{Mapping}
 use Rattle.goblin_pe_sect.specs.SectionTable.{Section}
 use Rattle.goblin_pe_sect.specs.Mapping.{file_offset, is_in_window, offset_in}
 use Rattle.goblin_pe_sect.specs.WindowOrder.{HaveDisjointWindows, IsReordering}
@@ -48,11 +48,11 @@ find_reordered : {X : Type 0} (p : X → Bool) (xs ys : List X) → IsPermutatio
 find_reordered p xs ys moved alone = found_by p xs ys moved alone (find p ys) refl
 
 -- windows that do not meet hold an address at most once
-alone_in_windows : (opts : ParseOptions) (alignment rva : ℕ) (sections : List Section) → AllPairs (HaveDisjointWindows opts alignment) sections → AreAlone (is_in_window opts alignment rva) sections
-alone_in_windows opts alignment rva sections apart i j s t lt at_i at_j holds_s holds_t =
-    let pair : HaveDisjointWindows opts alignment (get_or sections i s) (get_or sections j s) = apart i j s lt (slice_get_within sections j t at_j) in
-    let one : HaveDisjointWindows opts alignment s t = rw (get_or_from_slice_get sections i s s at_i, get_or_from_slice_get sections j t s at_j) at pair in
-    one rva (in_window opts alignment rva s holds_s) (in_window opts alignment rva t holds_t)
+alone_in_windows : (mapping : Mapping) (alignment rva : ℕ) (sections : List Section) → AllPairs (HaveDisjointWindows mapping alignment) sections → AreAlone (is_in_window mapping alignment rva) sections
+alone_in_windows mapping alignment rva sections apart i j s t lt at_i at_j holds_s holds_t =
+    let pair : HaveDisjointWindows mapping alignment (get_or sections i s) (get_or sections j s) = apart i j s lt (slice_get_within sections j t at_j) in
+    let one : HaveDisjointWindows mapping alignment s t = rw (get_or_from_slice_get sections i s s at_i, get_or_from_slice_get sections j t s at_j) at pair in
+    one rva (in_window mapping alignment rva s holds_s) (in_window mapping alignment rva t holds_t)
 
 same_choice : (on even : Bool) (x y : Option ℕ) (own : Option ℕ) → (even ≡ true → x ≡ y) → cond on (cond even x None) own ≡ cond on (cond even y None) own
 same_choice true true x y own same = same refl
@@ -60,13 +60,13 @@ same_choice true false x y own same = refl
 same_choice false even x y own same = refl
 
 -- a table in another order maps each address alike
-pub file_offset-reordered : (opts : ParseOptions) (xs ys : List Section) (alignment : ℕ) → IsReordering opts alignment xs ys → (rva : ℕ) → file_offset opts xs alignment rva ≡ file_offset opts ys alignment rva
+pub file_offset-reordered : (mapping : Mapping) (xs ys : List Section) (alignment : ℕ) → IsReordering mapping alignment xs ys → (rva : ℕ) → file_offset mapping xs alignment rva ≡ file_offset mapping ys alignment rva
 unfolding file_offset
-file_offset-reordered opts xs ys alignment is rva =
-    same_choice opts.resolve_rva (is_power_of_two alignment) _ _ (Some rva) (λ even.
+file_offset-reordered mapping xs ys alignment is rva =
+    same_choice mapping.resolve_rva (is_power_of_two alignment) _ _ (Some rva) (λ even.
     let there : IsTrue (is_power_of_two alignment) = search (rules, tests) in
-    ap (option_map (λ s. offset_in opts s rva)) (find_reordered (is_in_window opts alignment rva) xs ys is.moved (alone_in_windows opts alignment rva xs (is.apart there))))
+    ap (option_map (λ s. offset_in mapping s rva)) (find_reordered (is_in_window mapping alignment rva) xs ys is.moved (alone_in_windows mapping alignment rva xs (is.apart there))))
 
 -- the two maps are the same
-pub map-reordered : (opts : ParseOptions) (xs ys : List Section) (alignment : ℕ) → IsReordering opts alignment xs ys → file_offset opts xs alignment ≡ file_offset opts ys alignment
-map-reordered opts xs ys alignment is = λ i rva. file_offset-reordered opts xs ys alignment is rva i
+pub map-reordered : (mapping : Mapping) (xs ys : List Section) (alignment : ℕ) → IsReordering mapping alignment xs ys → file_offset mapping xs alignment ≡ file_offset mapping ys alignment
+map-reordered mapping xs ys alignment is = λ i rva. file_offset-reordered mapping xs ys alignment is rva i

@@ -8,7 +8,7 @@ use Rattle.std.proofs.lemmas.Bool.Decides.{nat_tests}
 use Rattle.goblin_pe_sect.specs.Mapping.{is_in_window}
 use Rattle.goblin_pe_sect.specs.WindowIndex.{begins_of, first_owner, owner_of_section, owners_of}
 use Rattle.goblin_pe_sect.specs.WindowStretches.{window_holds, window_covers, window_meets, owner_among, piece_among, section_window_at, section_windows, FindTheSame, IsRising}
-use Rattle.goblin_pe_sect.specs.declared.options.ParseOptions.{ParseOptions}
+use Rattle.goblin_pe_sect.specs.declared.options.Mapping.{Mapping}
 use Rattle.goblin_pe_sect.specs.SectionTable.{Section}
 use Rattle.goblin_pe_sect.specs.declared.windows.bounds.Piece.{Piece}
 use Rattle.goblin_pe_sect.specs.declared.windows.owners.Owner.{Owner}
@@ -81,47 +81,47 @@ owners-among windows (b ∷ begins) = ap (λ (os : List (Option Owner)). owner_a
 
 -- ---- the windows of a section table
 
-next_from : (opts : ParseOptions) (alignment n i : ℕ) (sections : List Section) (d : Section) → i < length sections → map (λ (r : ℕ × Section). section_window_at opts alignment r.0 r.1) (enumerate_from n (take (suc i) sections)) ≡ map (λ (r : ℕ × Section). section_window_at opts alignment r.0 r.1) (enumerate_from n (take i sections)) ++ section_window_at opts alignment (n + i) (get_or sections i d) ∷ []
-next_from opts alignment n i [] d within = absurd (omega arith)
-next_from opts alignment n zero (s ∷ sections) d within =
+next_from : (mapping : Mapping) (alignment n i : ℕ) (sections : List Section) (d : Section) → i < length sections → map (λ (r : ℕ × Section). section_window_at mapping alignment r.0 r.1) (enumerate_from n (take (suc i) sections)) ≡ map (λ (r : ℕ × Section). section_window_at mapping alignment r.0 r.1) (enumerate_from n (take i sections)) ++ section_window_at mapping alignment (n + i) (get_or sections i d) ∷ []
+next_from mapping alignment n i [] d within = absurd (omega arith)
+next_from mapping alignment n zero (s ∷ sections) d within =
     let same : n ≡ n + 0 = omega arith in
-    ap (λ (k : ℕ). section_window_at opts alignment k s ∷ []) same
-next_from opts alignment n (suc i) (s ∷ sections) d within =
+    ap (λ (k : ℕ). section_window_at mapping alignment k s ∷ []) same
+next_from mapping alignment n (suc i) (s ∷ sections) d within =
     let place : n + 1 + i ≡ n + suc i = omega arith in
-    let later = next_from opts alignment (n + 1) i sections d (omega arith) in
-    ap (λ (ws : List Window). section_window_at opts alignment n s ∷ ws) (later ∙ ap (λ (k : ℕ). map (λ (r : ℕ × Section). section_window_at opts alignment r.0 r.1) (enumerate_from (n + 1) (take i sections)) ++ section_window_at opts alignment k (get_or sections i d) ∷ []) place)
+    let later = next_from mapping alignment (n + 1) i sections d (omega arith) in
+    ap (λ (ws : List Window). section_window_at mapping alignment n s ∷ ws) (later ∙ ap (λ (k : ℕ). map (λ (r : ℕ × Section). section_window_at mapping alignment r.0 r.1) (enumerate_from (n + 1) (take i sections)) ++ section_window_at mapping alignment k (get_or sections i d) ∷ []) place)
 
 -- the windows of one section more
-pub next_window : (opts : ParseOptions) (alignment i : ℕ) (sections : List Section) (d : Section) → i < length sections → section_windows opts alignment (take (i + 1) sections) ≡ section_windows opts alignment (take i sections) ++ section_window_at opts alignment i (get_or sections i d) ∷ []
-next_window opts alignment i sections d within =
+pub next_window : (mapping : Mapping) (alignment i : ℕ) (sections : List Section) (d : Section) → i < length sections → section_windows mapping alignment (take (i + 1) sections) ≡ section_windows mapping alignment (take i sections) ++ section_window_at mapping alignment i (get_or sections i d) ∷ []
+next_window mapping alignment i sections d within =
     let same : 0 + i ≡ i = omega arith in
-    ap (λ (n : ℕ). section_windows opts alignment (take n sections)) (add-one i) ∙ next_from opts alignment 0 i sections d within ∙ ap (λ (k : ℕ). section_windows opts alignment (take i sections) ++ section_window_at opts alignment k (get_or sections i d) ∷ []) same
+    ap (λ (n : ℕ). section_windows mapping alignment (take n sections)) (add-one i) ∙ next_from mapping alignment 0 i sections d within ∙ ap (λ (k : ℕ). section_windows mapping alignment (take i sections) ++ section_window_at mapping alignment k (get_or sections i d) ∷ []) same
 
-from_by : (opts : ParseOptions) (alignment n j : ℕ) (s : Section) (sections : List Section) (b : Bool) (found : Option Window) → option_map (λ (w : Window). w.owner) found ≡ option_map (owner_of_section opts alignment (n + 1 + j)) (slice_get sections j) → option_map (λ (w : Window). w.owner) (cond b (Some (section_window_at opts alignment n s)) found) ≡ option_map (owner_of_section opts alignment (n + cond (not b) (1 + j) 0)) (slice_get (s ∷ sections) (cond (not b) (1 + j) 0))
-from_by opts alignment n j s sections true found later =
+from_by : (mapping : Mapping) (alignment n j : ℕ) (s : Section) (sections : List Section) (b : Bool) (found : Option Window) → option_map (λ (w : Window). w.owner) found ≡ option_map (owner_of_section mapping alignment (n + 1 + j)) (slice_get sections j) → option_map (λ (w : Window). w.owner) (cond b (Some (section_window_at mapping alignment n s)) found) ≡ option_map (owner_of_section mapping alignment (n + cond (not b) (1 + j) 0)) (slice_get (s ∷ sections) (cond (not b) (1 + j) 0))
+from_by mapping alignment n j s sections true found later =
     let same : n ≡ n + 0 = omega arith in
-    ap (λ (i : ℕ). Some (owner_of_section opts alignment i s)) same
-from_by opts alignment n j s sections false found later =
+    ap (λ (i : ℕ). Some (owner_of_section mapping alignment i s)) same
+from_by mapping alignment n j s sections false found later =
     let next : 1 + j ≡ suc j = omega arith in
     let place : n + 1 + j ≡ n + suc j = omega arith in
     rw (next, ← place) later
 
-from : (opts : ParseOptions) (alignment rva n : ℕ) (sections : List Section) → option_map (λ (w : Window). w.owner) (find (window_holds rva) (map (λ (r : ℕ × Section). section_window_at opts alignment r.0 r.1) (enumerate_from n sections))) ≡ option_map (owner_of_section opts alignment (n + position_or_len (is_in_window opts alignment rva) sections)) (slice_get sections (position_or_len (is_in_window opts alignment rva) sections))
-from opts alignment rva n [] = refl
-from opts alignment rva n (s ∷ sections) = from_by opts alignment n (position_or_len (is_in_window opts alignment rva) sections) s sections (is_in_window opts alignment rva s) _ (from opts alignment rva (n + 1) sections)
+from : (mapping : Mapping) (alignment rva n : ℕ) (sections : List Section) → option_map (λ (w : Window). w.owner) (find (window_holds rva) (map (λ (r : ℕ × Section). section_window_at mapping alignment r.0 r.1) (enumerate_from n sections))) ≡ option_map (owner_of_section mapping alignment (n + position_or_len (is_in_window mapping alignment rva) sections)) (slice_get sections (position_or_len (is_in_window mapping alignment rva) sections))
+from mapping alignment rva n [] = refl
+from mapping alignment rva n (s ∷ sections) = from_by mapping alignment n (position_or_len (is_in_window mapping alignment rva) sections) s sections (is_in_window mapping alignment rva s) _ (from mapping alignment rva (n + 1) sections)
 
-first_by : (opts : ParseOptions) (alignment : ℕ) (sections : List Section) (i : ℕ) (b : Bool) → (b ≡ false → slice_get sections i ≡ None) → option_map (owner_of_section opts alignment i) (slice_get sections i) ≡ option_and_then (λ (i : ℕ). option_map (owner_of_section opts alignment i) (slice_get sections i)) (cond b (Some i) None)
-first_by opts alignment sections i true none = refl
-first_by opts alignment sections i false none = rw (none refl) refl
+first_by : (mapping : Mapping) (alignment : ℕ) (sections : List Section) (i : ℕ) (b : Bool) → (b ≡ false → slice_get sections i ≡ None) → option_map (owner_of_section mapping alignment i) (slice_get sections i) ≡ option_and_then (λ (i : ℕ). option_map (owner_of_section mapping alignment i) (slice_get sections i)) (cond b (Some i) None)
+first_by mapping alignment sections i true none = refl
+first_by mapping alignment sections i false none = rw (none refl) refl
 
 -- the first window that holds an address has what an index keeps of the first section whose window does
-pub owner_among-sections : (opts : ParseOptions) (alignment : ℕ) (sections : List Section) (rva : ℕ) → owner_among (section_windows opts alignment sections) rva ≡ first_owner opts sections alignment rva
-owner_among-sections opts alignment sections rva =
-    let i : ℕ = position_or_len (is_in_window opts alignment rva) sections in
+pub owner_among-sections : (mapping : Mapping) (alignment : ℕ) (sections : List Section) (rva : ℕ) → owner_among (section_windows mapping alignment sections) rva ≡ first_owner mapping sections alignment rva
+owner_among-sections mapping alignment sections rva =
+    let i : ℕ = position_or_len (is_in_window mapping alignment rva) sections in
     let start : 0 + i ≡ i = omega arith in
-    let found = from opts alignment rva 0 sections in
+    let found = from mapping alignment rva 0 sections in
     let past : nat_lt i (length sections) ≡ false → slice_get sections i ≡ None = λ e. slice_get_past sections i (search (rules, tests)) in
-    found ∙ ap (λ (j : ℕ). option_map (owner_of_section opts alignment j) (slice_get sections i)) start ∙ first_by opts alignment sections i (nat_lt i (length sections)) past
+    found ∙ ap (λ (j : ℕ). option_map (owner_of_section mapping alignment j) (slice_get sections i)) start ∙ first_by mapping alignment sections i (nat_lt i (length sections)) past
 
-pub owners-sections : (opts : ParseOptions) (alignment : ℕ) (sections : List Section) (begins : List ℕ) → map (owner_among (section_windows opts alignment sections)) begins ≡ map (first_owner opts sections alignment) begins
-owners-sections opts alignment sections begins = map_same _ _ 0 begins (λ i lt. owner_among-sections opts alignment sections (get_or begins i 0))
+pub owners-sections : (mapping : Mapping) (alignment : ℕ) (sections : List Section) (begins : List ℕ) → map (owner_among (section_windows mapping alignment sections)) begins ≡ map (first_owner mapping sections alignment) begins
+owners-sections mapping alignment sections begins = map_same _ _ 0 begins (λ i lt. owner_among-sections mapping alignment sections (get_or begins i 0))

@@ -13,7 +13,7 @@ use Rattle.std.proofs.lemmas.Bool.Decides.{nat_tests}
 use Rattle.std.specs.Int.{is_power_of_two}
 use Rattle.goblin_pe_sect.specs.Mapping.{read_size, window_end, is_in_window, offset_in, file_offset}
 use Rattle.goblin_pe_sect.specs.WindowIndex.{IsCut, IsIndex, Pieces, AreNear, reached, last_owner, located, owner_offset, first_owner, owner_of_section, owners_of}
-use Rattle.goblin_pe_sect.specs.declared.options.ParseOptions.{ParseOptions}
+use Rattle.goblin_pe_sect.specs.declared.options.Mapping.{Mapping}
 use Rattle.goblin_pe_sect.specs.SectionTable.{Section}
 use Rattle.goblin_pe_sect.specs.declared.windows.bounds.Piece.{Piece}
 use Rattle.goblin_pe_sect.specs.declared.windows.owners.Owner.{Owner}
@@ -58,21 +58,21 @@ begins_after begins up rva k h v has high =
     ]
 
 -- a window holds an address as it holds the start of its piece
-same_window : (opts : ParseOptions) (sections : List Section) (alignment : ℕ) (begins : List ℕ) → IsCut opts sections alignment begins → (rva k : ℕ) → IsBetween begins rva k → (j : ℕ) (s : Section) → slice_get sections j ≡ Some s → is_in_window opts alignment (slice_index begins k) s ≡ is_in_window opts alignment rva s
-same_window opts sections alignment begins cut rva k h j s is =
-    elim (cases_lt 0 (read_size opts.raw_pointer_rule s alignment)) [
+same_window : (mapping : Mapping) (sections : List Section) (alignment : ℕ) (begins : List ℕ) → IsCut mapping sections alignment begins → (rva k : ℕ) → IsBetween begins rva k → (j : ℕ) (s : Section) → slice_get sections j ≡ Some s → is_in_window mapping alignment (slice_index begins k) s ≡ is_in_window mapping alignment rva s
+same_window mapping sections alignment begins cut rva k h j s is =
+    elim (cases_lt 0 (read_size mapping.view s alignment)) [
       | inl some ↦
-          interval_same s.virtual_address (window_end opts s alignment) (slice_index begins k) rva
+          interval_same s.virtual_address (window_end mapping s alignment) (slice_index begins k) rva
           (λ low. omega (arith, h.before, low))
           (λ low. at_or_before begins cut.rising rva k h s.virtual_address (cut.all s.virtual_address (inr (j, s, is, some, inl refl))) low)
-          (λ high. (begins_after begins cut.rising rva k h (window_end opts s alignment) (cut.all (window_end opts s alignment) (inr (j, s, is, some, inr refl))) high).2)
+          (λ high. (begins_after begins cut.rising rva k h (window_end mapping s alignment) (cut.all (window_end mapping s alignment) (inr (j, s, is, some, inr refl))) high).2)
           (λ high. omega (arith, h.before, high))
-      | inr none ↦ interval_none s.virtual_address (window_end opts s alignment) (slice_index begins k) rva (omega arith)
+      | inr none ↦ interval_none s.virtual_address (window_end mapping s alignment) (slice_index begins k) rva (omega arith)
     ]
 
 -- every address lies in a piece
-in_one_piece : (opts : ParseOptions) (sections : List Section) (alignment : ℕ) (begins : List ℕ) → IsCut opts sections alignment begins → (rva : ℕ) → (0 < reached begins rva) × IsBetween begins rva (reached begins rva - 1)
-in_one_piece opts sections alignment begins cut rva =
+in_one_piece : (mapping : Mapping) (sections : List Section) (alignment : ℕ) (begins : List ℕ) → IsCut mapping sections alignment begins → (rva : ℕ) → (0 < reached begins rva) × IsBetween begins rva (reached begins rva - 1)
+in_one_piece mapping sections alignment begins cut rva =
     let n : ℕ = reached begins rva in
     let start : Contains begins 0 = cut.all 0 (inl refl) in
     let i : ℕ = start.0 in
@@ -93,47 +93,47 @@ in_one_piece opts sections alignment begins cut rva =
       | inr none ↦ absurd (omega (arith, here, stops (omega (arith, start.1)), rising_to begins cut.rising n i (omega arith) start.1))
     ]
 
-section_answers : (opts : ParseOptions) (alignment rva i : ℕ) (o : Option Section) → option_map (owner_offset rva) (option_map (owner_of_section opts alignment i) o) ≡ option_map (λ s. offset_in opts s rva) o
-section_answers opts alignment rva i None = refl
-section_answers opts alignment rva i (Some s) = refl
+section_answers : (mapping : Mapping) (alignment rva i : ℕ) (o : Option Section) → option_map (owner_offset rva) (option_map (owner_of_section mapping alignment i) o) ≡ option_map (λ s. offset_in mapping s rva) o
+section_answers mapping alignment rva i None = refl
+section_answers mapping alignment rva i (Some s) = refl
 
-index_answers : (opts : ParseOptions) (sections : List Section) (alignment rva i : ℕ) (b : Bool) → (b ≡ false → slice_get sections i ≡ None) → option_map (owner_offset rva) (option_and_then (λ (i : ℕ). option_map (owner_of_section opts alignment i) (slice_get sections i)) (cond b (Some i) None)) ≡ option_map (λ s. offset_in opts s rva) (slice_get sections i)
-index_answers opts sections alignment rva i true none = section_answers opts alignment rva i (slice_get sections i)
-index_answers opts sections alignment rva i false none = rw (none refl) refl
+index_answers : (mapping : Mapping) (sections : List Section) (alignment rva i : ℕ) (b : Bool) → (b ≡ false → slice_get sections i ≡ None) → option_map (owner_offset rva) (option_and_then (λ (i : ℕ). option_map (owner_of_section mapping alignment i) (slice_get sections i)) (cond b (Some i) None)) ≡ option_map (λ s. offset_in mapping s rva) (slice_get sections i)
+index_answers mapping sections alignment rva i true none = section_answers mapping alignment rva i (slice_get sections i)
+index_answers mapping sections alignment rva i false none = rw (none refl) refl
 
 -- the owner answers as the first section does
-owner_answers : (opts : ParseOptions) (sections : List Section) (alignment begin rva : ℕ) → option_map (owner_offset rva) (first_owner opts sections alignment begin) ≡ option_map (λ s. offset_in opts s rva) (find (is_in_window opts alignment begin) sections)
-owner_answers opts sections alignment begin rva =
-    let i : ℕ = position_or_len (is_in_window opts alignment begin) sections in
+owner_answers : (mapping : Mapping) (sections : List Section) (alignment begin rva : ℕ) → option_map (owner_offset rva) (first_owner mapping sections alignment begin) ≡ option_map (λ s. offset_in mapping s rva) (find (is_in_window mapping alignment begin) sections)
+owner_answers mapping sections alignment begin rva =
+    let i : ℕ = position_or_len (is_in_window mapping alignment begin) sections in
     let past : nat_lt i (length sections) ≡ false → slice_get sections i ≡ None = λ e. slice_get_past sections i (search (rules, tests)) in
-    index_answers opts sections alignment rva i (nat_lt i (length sections)) past ∙ ap (option_map (λ s. offset_in opts s rva)) (sym (find_at (is_in_window opts alignment begin) sections))
+    index_answers mapping sections alignment rva i (nat_lt i (length sections)) past ∙ ap (option_map (λ s. offset_in mapping s rva)) (sym (find_at (is_in_window mapping alignment begin) sections))
 
 pub last_owner_some : (owners : List (Option Owner)) (n : ℕ) → 0 < n → last_owner owners n ≡ slice_index_or owners (n - 1) None
 last_owner_some owners zero some = absurd (omega arith)
 last_owner_some owners (suc k) some = let same : k ≡ suc k - 1 = omega arith in ap (λ (j : ℕ). slice_index_or owners j None) same
 
 -- pieces cut at the windows answer as the first section whose window holds the address
-pub mapped_pieces : (opts : ParseOptions) (sections : List Section) (alignment : ℕ) (begins : List ℕ) → IsCut opts sections alignment begins → (rva : ℕ) → option_map (owner_offset rva) (last_owner (map (first_owner opts sections alignment) begins) (reached begins rva)) ≡ option_map (λ s. offset_in opts s rva) (find (is_in_window opts alignment rva) sections)
-mapped_pieces opts sections alignment begins cut rva =
+pub mapped_pieces : (mapping : Mapping) (sections : List Section) (alignment : ℕ) (begins : List ℕ) → IsCut mapping sections alignment begins → (rva : ℕ) → option_map (owner_offset rva) (last_owner (map (first_owner mapping sections alignment) begins) (reached begins rva)) ≡ option_map (λ s. offset_in mapping s rva) (find (is_in_window mapping alignment rva) sections)
+mapped_pieces mapping sections alignment begins cut rva =
     let n : ℕ = reached begins rva in
-    let place = in_one_piece opts sections alignment begins cut rva in
+    let place = in_one_piece mapping sections alignment begins cut rva in
     let answer : Option Owner → Option ℕ = option_map (owner_offset rva) in
-    let owner : last_owner (map (first_owner opts sections alignment) begins) n ≡ first_owner opts sections alignment (slice_index begins (n - 1)) = last_owner_some (map (first_owner opts sections alignment) begins) n place.0 ∙ get_or-map (first_owner opts sections alignment) begins (n - 1) 0 None place.1.within in
-    let same : find (is_in_window opts alignment (slice_index begins (n - 1))) sections ≡ find (is_in_window opts alignment rva) sections = find_same _ _ sections (same_window opts sections alignment begins cut rva (n - 1) place.1) in
-    ap answer owner ∙ owner_answers opts sections alignment (slice_index begins (n - 1)) rva ∙ ap (option_map (λ s. offset_in opts s rva)) same
+    let owner : last_owner (map (first_owner mapping sections alignment) begins) n ≡ first_owner mapping sections alignment (slice_index begins (n - 1)) = last_owner_some (map (first_owner mapping sections alignment) begins) n place.0 ∙ get_or-map (first_owner mapping sections alignment) begins (n - 1) 0 None place.1.within in
+    let same : find (is_in_window mapping alignment (slice_index begins (n - 1))) sections ≡ find (is_in_window mapping alignment rva) sections = find_same _ _ sections (same_window mapping sections alignment begins cut rva (n - 1) place.1) in
+    ap answer owner ∙ owner_answers mapping sections alignment (slice_index begins (n - 1)) rva ∙ ap (option_map (λ s. offset_in mapping s rva)) same
 
 -- an owner is that of a section whose window holds the address
-record IsOwned (opts : ParseOptions) (sections : List Section) (alignment begin : ℕ) (o : Owner) : Type 0 where
+record IsOwned (mapping : Mapping) (sections : List Section) (alignment begin : ℕ) (o : Owner) : Type 0 where
   place : ℕ
   section : Section
   is : slice_get sections place ≡ Some section
-  holds : is_in_window opts alignment begin section ≡ true
+  holds : is_in_window mapping alignment begin section ≡ true
   address : o.address ≡ section.virtual_address
 
-owned_by_section : (opts : ParseOptions) (sections : List Section) (alignment begin : ℕ) (o : Owner) (i : ℕ) → position (is_in_window opts alignment begin) sections ≡ Some i → (found : Option Section) → slice_get sections i ≡ found → option_map (owner_of_section opts alignment i) found ≡ Some o → IsOwned opts sections alignment begin o
-owned_by_section opts sections alignment begin o i at None is e = absurd (cc)
-owned_by_section opts sections alignment begin o i at (Some s) is e =
-    let passes : is_in_window opts alignment begin (get_or sections i s) ≡ true = (position-Some (is_in_window opts alignment begin) sections i s at).1 in
+owned_by_section : (mapping : Mapping) (sections : List Section) (alignment begin : ℕ) (o : Owner) (i : ℕ) → position (is_in_window mapping alignment begin) sections ≡ Some i → (found : Option Section) → slice_get sections i ≡ found → option_map (owner_of_section mapping alignment i) found ≡ Some o → IsOwned mapping sections alignment begin o
+owned_by_section mapping sections alignment begin o i at None is e = absurd (cc)
+owned_by_section mapping sections alignment begin o i at (Some s) is e =
+    let passes : is_in_window mapping alignment begin (get_or sections i s) ≡ true = (position-Some (is_in_window mapping alignment begin) sections i s at).1 in
     let same : get_or sections i s ≡ s = get_or_from_slice_get sections i s s is in
     record {
       place = i;
@@ -143,49 +143,49 @@ owned_by_section opts sections alignment begin o i at (Some s) is e =
       address = ap (λ (x : Option Owner). option_map_or (λ (o : Owner). o.address) x 0) (sym e);
     }
 
-owned_by_index : (opts : ParseOptions) (sections : List Section) (alignment begin : ℕ) (o : Owner) (at : Option ℕ) → position (is_in_window opts alignment begin) sections ≡ at → option_and_then (λ (i : ℕ). option_map (owner_of_section opts alignment i) (slice_get sections i)) at ≡ Some o → IsOwned opts sections alignment begin o
-owned_by_index opts sections alignment begin o None is e = absurd (cc)
-owned_by_index opts sections alignment begin o (Some i) is e = owned_by_section opts sections alignment begin o i is (slice_get sections i) refl e
+owned_by_index : (mapping : Mapping) (sections : List Section) (alignment begin : ℕ) (o : Owner) (at : Option ℕ) → position (is_in_window mapping alignment begin) sections ≡ at → option_and_then (λ (i : ℕ). option_map (owner_of_section mapping alignment i) (slice_get sections i)) at ≡ Some o → IsOwned mapping sections alignment begin o
+owned_by_index mapping sections alignment begin o None is e = absurd (cc)
+owned_by_index mapping sections alignment begin o (Some i) is e = owned_by_section mapping sections alignment begin o i is (slice_get sections i) refl e
 
 -- an owned piece of the index
-owned_piece : (opts : ParseOptions) (sections : List Section) (alignment : ℕ) (begins : List ℕ) → (k : ℕ) (o : Owner) → slice_index_or (map (first_owner opts sections alignment) begins) k None ≡ Some o → (k < length begins) × IsOwned opts sections alignment (slice_index begins k) o
-owned_piece opts sections alignment begins k o e =
+owned_piece : (mapping : Mapping) (sections : List Section) (alignment : ℕ) (begins : List ℕ) → (k : ℕ) (o : Owner) → slice_index_or (map (first_owner mapping sections alignment) begins) k None ≡ Some o → (k < length begins) × IsOwned mapping sections alignment (slice_index begins k) o
+owned_piece mapping sections alignment begins k o e =
     elim (cases_lt k (length begins)) [
-      | inl within ↦ (within, owned_by_index opts sections alignment (slice_index begins k) o _ refl (sym (get_or-map (first_owner opts sections alignment) begins k 0 None within) ∙ e))
+      | inl within ↦ (within, owned_by_index mapping sections alignment (slice_index begins k) o _ refl (sym (get_or-map (first_owner mapping sections alignment) begins k 0 None within) ∙ e))
       | inr past ↦
-          let none : slice_index_or (map (first_owner opts sections alignment) begins) k None ≡ None = get_or_past _ k None (omega (arith, length-map begins (first_owner opts sections alignment))) in
+          let none : slice_index_or (map (first_owner mapping sections alignment) begins) k None ≡ None = get_or_past _ k None (omega (arith, length-map begins (first_owner mapping sections alignment))) in
           absurd (cc)
     ]
 
-pub index_is : (opts : ParseOptions) (sections : List Section) (alignment : ℕ) (begins : List ℕ) → IsCut opts sections alignment begins → AreNear opts sections alignment → IsIndex true begins (map (first_owner opts sections alignment) begins)
-index_is opts sections alignment begins cut near = record {
+pub index_is : (mapping : Mapping) (sections : List Section) (alignment : ℕ) (begins : List ℕ) → IsCut mapping sections alignment begins → AreNear mapping sections alignment → IsIndex true begins (map (first_owner mapping sections alignment) begins)
+index_is mapping sections alignment begins cut near = record {
   rising = cut.rising;
-  one_each = length-map begins (first_owner opts sections alignment);
+  one_each = length-map begins (first_owner mapping sections alignment);
   low = λ k o e.
-      let own = owned_piece opts sections alignment begins k o e in
-      omega (arith, own.1.address, in_window opts alignment (slice_index begins k) own.1.section own.1.holds);
+      let own = owned_piece mapping sections alignment begins k o e in
+      omega (arith, own.1.address, in_window mapping alignment (slice_index begins k) own.1.section own.1.holds);
   high = λ k o e.
-      let own = owned_piece opts sections alignment begins k o e in
+      let own = owned_piece mapping sections alignment begins k o e in
       let s : Section = own.1.section in
-      let inside = in_window opts alignment (slice_index begins k) s own.1.holds in
+      let inside = in_window mapping alignment (slice_index begins k) s own.1.holds in
       let here : IsBetween begins (slice_index begins k) k = record { within = own.0; before = omega arith; after = λ lt. rising_at begins cut.rising k (k + 1) (omega arith) lt } in
-      let next = begins_after begins cut.rising (slice_index begins k) k here (window_end opts s alignment) (cut.all (window_end opts s alignment) (inr (own.1.place, s, own.1.is, omega (arith, inside), inr refl))) inside.1 in
+      let next = begins_after begins cut.rising (slice_index begins k) k here (window_end mapping s alignment) (cut.all (window_end mapping s alignment) (inr (own.1.place, s, own.1.is, omega (arith, inside), inr refl))) inside.1 in
       (next.0, omega (arith, next.1, own.1.address, near own.1.place s own.1.is));
   unmapped = λ off. cc;
 }
 
 -- the three kinds of index answer as the section table does
-pub located-direct : (opts : ParseOptions) (sections : List Section) (alignment rva : ℕ) → opts.resolve_rva ≡ false → located (record { resolves = false; begins = []; owners = [] }) rva ≡ file_offset opts sections alignment rva
+pub located-direct : (mapping : Mapping) (sections : List Section) (alignment rva : ℕ) → mapping.resolve_rva ≡ false → located (record { resolves = false; begins = []; owners = [] }) rva ≡ file_offset mapping sections alignment rva
 unfolding located file_offset
-located-direct opts sections alignment rva off = rw off refl
+located-direct mapping sections alignment rva off = rw off refl
 
-pub located-unaligned : (opts : ParseOptions) (sections : List Section) (alignment rva : ℕ) → opts.resolve_rva ≡ true → is_power_of_two alignment ≡ false → located (record { resolves = true; begins = []; owners = [] }) rva ≡ file_offset opts sections alignment rva
+pub located-unaligned : (mapping : Mapping) (sections : List Section) (alignment rva : ℕ) → mapping.resolve_rva ≡ true → is_power_of_two alignment ≡ false → located (record { resolves = true; begins = []; owners = [] }) rva ≡ file_offset mapping sections alignment rva
 unfolding located file_offset
-located-unaligned opts sections alignment rva on odd = rw (on, odd) refl
+located-unaligned mapping sections alignment rva on odd = rw (on, odd) refl
 
-pub located-prepared : (opts : ParseOptions) (sections : List Section) (alignment : ℕ) (begins : List ℕ) (owners : List (Option Owner)) → opts.resolve_rva ≡ true → is_power_of_two alignment ≡ true → IsCut opts sections alignment begins → owners ≡ map (first_owner opts sections alignment) begins → (rva : ℕ) → located (record { resolves = true; begins = begins; owners = owners }) rva ≡ file_offset opts sections alignment rva
+pub located-prepared : (mapping : Mapping) (sections : List Section) (alignment : ℕ) (begins : List ℕ) (owners : List (Option Owner)) → mapping.resolve_rva ≡ true → is_power_of_two alignment ≡ true → IsCut mapping sections alignment begins → owners ≡ map (first_owner mapping sections alignment) begins → (rva : ℕ) → located (record { resolves = true; begins = begins; owners = owners }) rva ≡ file_offset mapping sections alignment rva
 unfolding located file_offset
-located-prepared opts sections alignment begins owners on even cut is rva = rw (on, even, is) (mapped_pieces opts sections alignment begins cut rva)
+located-prepared mapping sections alignment begins owners on even cut is rva = rw (on, even, is) (mapped_pieces mapping sections alignment begins cut rva)
 
 -- ---- what an index answers by its pieces
 

@@ -3,9 +3,10 @@ use Rattle.std.specs.Prelude.{⊤, ℕ, ◌==◌, ◌≡◌, ◌<◌, Bool, fals
 use Rattle.std.specs.Prelude.{None, length}
 use Rattle.std.specs.Option.{is_some}
 use Rattle.goblin_base.specs.declared.permissive.ParseMode.TheVariants.{Strict}
+use Rattle.goblin_pe_sect.specs.declared.options.Mapping.{Mapping}
 use Rattle.goblin_pe_sect.specs.declared.options.ParseOptions.{ParseOptions}
 use Rattle.goblin_pe_sect.specs.Mapping.{file_offset}
-use Rattle.goblin_pe_sect.specs.Options.{is_strict}
+use Rattle.goblin_pe_sect.specs.Options.{is_strict, mapping_by, mapping_in}
 use Rattle.goblin_pe_sect.specs.SectionTable.{MappedSections, Section, mapped_of, recorded_sections}
 use Rattle.goblin_pe_sect.specs.SectionTable.{with_front}
 use Rattle.goblin_pe_sect.specs.WindowIndex.{HasPieces, located}
@@ -35,7 +36,8 @@ map_to opts offset_of = record { opts = opts; addressing = with_whole_names offs
 
 -- the map by these options, sections and file alignment
 abbrev pub map_by : ParseOptions → List Section → ℕ → MapOfAddresses
-map_by opts sections file_alignment = map_to opts (file_offset opts sections file_alignment)
+map_by opts sections file_alignment =
+    map_to opts (file_offset (mapping_by opts) sections file_alignment)
 
 -- The same offsets. But if the file's front is mapped, address 0 has none, because address 0 in a
 -- table means that there is nothing.
@@ -44,19 +46,20 @@ without_null false offset_of = offset_of
 without_null true offset_of = λ rva. if rva == 0 then None else offset_of rva
 
 -- the file offset of an address in a table
-abbrev pub table_offset : ParseOptions → MappedSections → ℕ → ℕ → Option ℕ
-table_offset opts mapped file_alignment =
+abbrev pub table_offset : Mapping → MappedSections → ℕ → ℕ → Option ℕ
+table_offset mapping mapped file_alignment =
     without_null (is_some mapped.front)
-    (file_offset opts (with_front mapped.front mapped.sections) file_alignment)
+    (file_offset mapping (with_front mapped.front mapped.sections) file_alignment)
 
 -- the map of the addresses in tables
 abbrev pub map_in : ParseOptions → MappedSections → ℕ → MapOfAddresses
-map_in opts mapped file_alignment = map_to opts (table_offset opts mapped file_alignment)
+map_in opts mapped file_alignment =
+    map_to opts (table_offset (mapping_in mapped.view opts) mapped file_alignment)
 
 -- the file offset of an address, by the windows of section headers or by an index
 abbrev pub offset_by_windows : ParseOptions → Windows → ℕ → Option ℕ
 offset_by_windows opts (Walked records file_alignment) =
-    table_offset opts (mapped_of records) file_alignment
+    table_offset (mapping_in records.view opts) (mapped_of records) file_alignment
 offset_by_windows opts (Indexed index) = located index
 offset_by_windows opts (IndexedWithFront index) = without_null true (located index)
 
@@ -73,7 +76,7 @@ AreMany count = 96 < count
 -- if addresses are mapped by windows, a walk goes over few sections only
 abbrev pub WalksFew : ParseOptions → Windows → Type 0
 WalksFew opts (Walked records file_alignment) =
-    HasPieces opts file_alignment → ¬ AreMany (length (recorded_sections records.records))
+    HasPieces (mapping_in records.view opts) file_alignment → ¬ AreMany (length (recorded_sections records.records))
 WalksFew opts (Indexed index) = ⊤
 WalksFew opts (IndexedWithFront index) = ⊤
 

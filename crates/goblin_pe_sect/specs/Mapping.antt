@@ -1,40 +1,46 @@
 -- The map from addresses in memory to file offsets.
 use Rattle.std.specs.Prelude.{IsTrue, ℕ, ◌+◌, ◌-◌, ◌==◌, ◌≡◌, ◌<◌, ◌≤◌, min, Bool, ◌&&◌, nat_le}
-use Rattle.std.specs.Prelude.{nat_lt, if◌then◌else◌, List, Option, Some, None, find}
+use Rattle.std.specs.Prelude.{nat_lt, if◌then◌else◌, false, true, List, Option, Some, None, find}
 use Rattle.std.specs.Prelude.{slice_get, option_map}
 use Rattle.std.specs.Int.{is_power_of_two}
 use Rattle.goblin_base.specs.declared.error.CauseOf.TheVariants.{Message}
 use Rattle.goblin_base.specs.declared.error.ErrorOf.{ErrorOf}
 use Rattle.goblin_base.specs.declared.error.ErrorOf.TheVariants.{Malformed}
-use Rattle.goblin_pe_sect.specs.declared.options.ParseOptions.{ParseOptions}
+use Rattle.goblin_pe_sect.specs.declared.options.Mapping.{Mapping}
 use Rattle.goblin_pe_sect.specs.declared.options.RawPointerRule.{RawPointerRule}
 use Rattle.goblin_pe_sect.specs.declared.options.RawPointerRule.TheVariants.{AsStored, RoundedTo512}
-use Rattle.goblin_pe_sect.specs.declared.options.RawPointerRule.TheVariants.{Unrounded}
+use Rattle.goblin_pe_sect.specs.declared.options.View.{View}
+use Rattle.goblin_pe_sect.specs.declared.options.View.TheVariants.{LoadedSections, Loader, Sections}
 use Rattle.goblin_pe_sect.specs.Multiples.{greatest_multiple, least_multiple}
 use Rattle.goblin_pe_sect.specs.SectionTable.{Section}
 
 -- PE Format leaves the mapping of addresses to loaders. The windows defined here are goblin's,
--- except by the rule that rounds nothing. The rule that rounds raw pointers is that of the Windows
--- loader for images whose section alignment is 4,096 or more.
+-- except in a loader's view of an alignment below 512. The rule that rounds raw pointers is that of
+-- the Windows loader for images whose section alignment is 4,096 or more.
 
--- How many bytes raw data has in whole file blocks at this alignment, by a rule: in goblin from the
--- raw pointer rounded down to 512 to the end of the raw data rounded up to the alignment; or else
--- the raw size rounded up to the alignment.
-abbrev pub blocks_size : RawPointerRule → ℕ → ℕ → ℕ → ℕ
-blocks_size AsStored alignment pointer size =
-    least_multiple alignment (pointer + size) - greatest_multiple 512 pointer
-blocks_size RoundedTo512 alignment pointer size =
-    least_multiple alignment (pointer + size) - greatest_multiple 512 pointer
-blocks_size Unrounded alignment pointer size = least_multiple alignment size
+-- the windows are a loader's
+abbrev pub is_loaders : View → Bool
+is_loaders Sections = false
+is_loaders LoadedSections = true
+is_loaders Loader = true
+
+-- How many bytes raw data has in whole file blocks at this alignment: from the raw pointer rounded
+-- down to 512 to the end of the raw data rounded up to the alignment; or, in a loader's view of an
+-- alignment below 512, the raw size rounded up to the alignment.
+abbrev pub blocks_size : View → ℕ → ℕ → ℕ → ℕ
+blocks_size view alignment pointer size =
+    if is_loaders view && nat_lt alignment 512
+    then least_multiple alignment size
+    else least_multiple alignment (pointer + size) - greatest_multiple 512 pointer
 
 -- How many bytes of a section are read from the file at this file alignment. There are none if it
 -- has no raw data. Otherwise they are those of its file blocks; but there are at most as many as
 -- the raw size in whole pages, and at most as many as the virtual size in whole pages, if that is
 -- not 0.
-unfoldable pub read_size : RawPointerRule → Section → ℕ → ℕ
-read_size rule s alignment =
+unfoldable pub read_size : View → Section → ℕ → ℕ
+read_size view s alignment =
     let raw = s.size_of_raw_data in
-    let stored = min (blocks_size rule alignment s.pointer_to_raw_data raw)
+    let stored = min (blocks_size view alignment s.pointer_to_raw_data raw)
     (least_multiple 4096 raw) in
     if raw == 0
     then 0
@@ -43,91 +49,91 @@ read_size rule s alignment =
     else min stored (least_multiple 4096 s.virtual_size))
 
 -- the first address after a section's window; the window begins at the section's address
-abbrev pub window_end : ParseOptions → Section → ℕ → ℕ
-window_end opts s alignment = s.virtual_address + read_size opts.raw_pointer_rule s alignment
+abbrev pub window_end : Mapping → Section → ℕ → ℕ
+window_end mapping s alignment = s.virtual_address + read_size mapping.view s alignment
 
 -- the start and the end of a section's window; there is no window if the alignment is not a power
 -- of two
-abbrev pub window_of : ParseOptions → Section → ℕ → Option (ℕ × ℕ)
-window_of opts s alignment =
+abbrev pub window_of : Mapping → Section → ℕ → Option (ℕ × ℕ)
+window_of mapping s alignment =
     if is_power_of_two alignment
-    then Some (s.virtual_address, window_end opts s alignment)
+    then Some (s.virtual_address, window_end mapping s alignment)
     else None
 
 -- the window of a section holds this address
-abbrev pub is_in_window : ParseOptions → ℕ → ℕ → Section → Bool
-is_in_window opts alignment rva s =
-    nat_le s.virtual_address rva && nat_lt rva (window_end opts s alignment)
+abbrev pub is_in_window : Mapping → ℕ → ℕ → Section → Bool
+is_in_window mapping alignment rva s =
+    nat_le s.virtual_address rva && nat_lt rva (window_end mapping s alignment)
 
 -- the file offset at which raw data with this raw pointer begins, by a rule: the pointer as stored,
 -- or the greatest multiple of 512 that is at most the pointer
 abbrev pub ruled : RawPointerRule → ℕ → ℕ
 ruled AsStored pointer = pointer
-ruled Unrounded pointer = pointer
 ruled RoundedTo512 pointer = greatest_multiple 512 pointer
 
--- the file offset at which a section's raw data begins, by the rule of the options
-abbrev pub raw_begin : ParseOptions → Section → ℕ
-raw_begin opts s = ruled opts.raw_pointer_rule s.pointer_to_raw_data
+-- the file offset at which a section's raw data begins, by the rule of the mapping
+abbrev pub raw_begin : Mapping → Section → ℕ
+raw_begin mapping s = ruled mapping.raw_pointer_rule s.pointer_to_raw_data
 
 -- the file offset of an address in a section's window: it is as far from the start of the raw data
 -- as the address is from the section's address
-abbrev pub offset_in : ParseOptions → Section → ℕ → ℕ
-offset_in opts s rva = raw_begin opts s + (rva - s.virtual_address)
+abbrev pub offset_in : Mapping → Section → ℕ → ℕ
+offset_in mapping s rva = raw_begin mapping s + (rva - s.virtual_address)
 
 -- The file offset of an address, by the first section whose window holds it. If addresses are not
 -- mapped, the offset is the address itself. Otherwise no address has one if the alignment is not a
 -- power of two.
-unfoldable pub file_offset : ParseOptions → List Section → ℕ → ℕ → Option ℕ
-file_offset opts sections alignment rva =
-    if opts.resolve_rva
+unfoldable pub file_offset : Mapping → List Section → ℕ → ℕ → Option ℕ
+file_offset mapping sections alignment rva =
+    if mapping.resolve_rva
     then (if is_power_of_two alignment
-    then option_map (λ s. offset_in opts s rva)
-    (find (is_in_window opts alignment rva) sections)
+    then option_map (λ s. offset_in mapping s rva)
+    (find (is_in_window mapping alignment rva) sections)
     else None)
     else Some rva
 
 -- the first section whose window holds the address; there is none if the alignment is not a power
 -- of two
-abbrev pub section_at : ParseOptions → ℕ → ℕ → List Section → Option Section
-section_at opts alignment rva sections =
-    if is_power_of_two alignment then find (is_in_window opts alignment rva) sections else None
+abbrev pub section_at : Mapping → ℕ → ℕ → List Section → Option Section
+section_at mapping alignment rva sections =
+    if is_power_of_two alignment then find (is_in_window mapping alignment rva) sections else None
 
 -- ---- what holds of the file offset of an address
 
 -- the section's window holds the address
-abbrev pub InWindow : ParseOptions → ℕ → ℕ → Section → Type 0
-InWindow opts alignment rva s = (s.virtual_address ≤ rva) × (rva < window_end opts s alignment)
+abbrev pub InWindow : Mapping → ℕ → ℕ → Section → Type 0
+InWindow mapping alignment rva s =
+    (s.virtual_address ≤ rva) × (rva < window_end mapping s alignment)
 
 -- the window of the section at this index holds the address, and no earlier section's window does
-pub record IsFirstWindow (opts : ParseOptions) (sections : List Section)
+pub record IsFirstWindow (mapping : Mapping) (sections : List Section)
     (alignment rva index : ℕ) : Type 0 where
   pub section : Section
   pub is : slice_get sections index ≡ Some section
-  pub holds : InWindow opts alignment rva section
+  pub holds : InWindow mapping alignment rva section
   pub least : (k : ℕ) (s : Section) → k < index → slice_get sections k ≡ Some s
-      → ¬ InWindow opts alignment rva s
+      → ¬ InWindow mapping alignment rva s
 
 -- Different addresses that one section maps have different offsets.
-abbrev pub OffsetsApart : ParseOptions → List Section → ℕ → Type 0
-OffsetsApart opts sections alignment =
+abbrev pub OffsetsApart : Mapping → List Section → ℕ → Type 0
+OffsetsApart mapping sections alignment =
     (first second index : ℕ) → IsTrue (is_power_of_two alignment)
-    → IsFirstWindow opts sections alignment first index
-    → IsFirstWindow opts sections alignment second index
-    → file_offset opts sections alignment first ≡ file_offset opts sections alignment second
+    → IsFirstWindow mapping sections alignment first index
+    → IsFirstWindow mapping sections alignment second index
+    → file_offset mapping sections alignment first ≡ file_offset mapping sections alignment second
     → first ≡ second
 
 -- the offset is the one by the section with the least index among those whose windows hold the
 -- address
-abbrev pub MapsTo : ParseOptions → List Section → ℕ → ℕ → ℕ → Type 0
-MapsTo opts sections alignment rva offset =
-    (index : ℕ) × (first : IsFirstWindow opts sections alignment rva index)
-    × (offset ≡ offset_in opts first.section rva)
+abbrev pub MapsTo : Mapping → List Section → ℕ → ℕ → ℕ → Type 0
+MapsTo mapping sections alignment rva offset =
+    (index : ℕ) × (first : IsFirstWindow mapping sections alignment rva index)
+    × (offset ≡ offset_in mapping first.section rva)
 
 -- no section's window holds the address
-abbrev pub MapsNowhere : ParseOptions → List Section → ℕ → ℕ → Type 0
-MapsNowhere opts sections alignment rva =
-    (k : ℕ) (s : Section) → slice_get sections k ≡ Some s → ¬ InWindow opts alignment rva s
+abbrev pub MapsNowhere : Mapping → List Section → ℕ → ℕ → Type 0
+MapsNowhere mapping sections alignment rva =
+    (k : ℕ) (s : Section) → slice_get sections k ≡ Some s → ¬ InWindow mapping alignment rva s
 
 -- the cause is this message
 abbrev pub IsMessage : List ℕ → ErrorOf → Type 0

@@ -14,6 +14,7 @@ use Rattle.goblin_base.specs.Record.{FieldValue, encoding, record_at}
 use Rattle.goblin_base.specs.Record.FieldValue.{octets, uint}
 use Rattle.goblin_base.specs.Tables.{records_in}
 use Rattle.goblin_base.specs.declared.endian.Endian.TheVariants.{Little}
+use Rattle.goblin_pe_sect.specs.declared.options.View.{View}
 use Rattle.goblin_pe_sect.specs.declared.address_map.records.MappedRecords.{MappedRecords}
 use Rattle.goblin_pe_sect.specs.declared.section_table.records.SectionRecords.{SectionRecords}
 
@@ -105,15 +106,17 @@ with_front (Some size) sections = sections ++ front_section size ∷ []
 abbrev pub mapped_sections : MappedRecords → List Section
 mapped_sections r = with_front r.front (recorded_sections r.records)
 
--- what maps the addresses in a file's tables: the sections and, if the file's front is mapped, the
--- size of the headers
+-- what maps the addresses in a file's tables: the sections, the view in which they are mapped and,
+-- if the file's front is mapped, the size of the headers
 pub record MappedSections : Type 0 where
   pub sections : List Section
+  pub view : View
   pub front : Option ℕ
 
 -- the same, of section headers
 abbrev pub mapped_of : MappedRecords → MappedSections
-mapped_of r = record { sections = recorded_sections r.records; front = r.front }
+mapped_of r =
+    record { sections = recorded_sections r.records; view = r.view; front = r.front }
 
 -- section headers keep only their bytes
 abbrev pub AreBytesAlone : Type 0

@@ -1,14 +1,14 @@
 -- The pieces of the address space with their owners, as made from the windows of sections.
 use Rattle.std.specs.Prelude.{ℕ, ◌≡◌, List, map}
-use Rattle.goblin_pe_sect.specs.declared.options.ParseOptions.{ParseOptions}
+use Rattle.goblin_pe_sect.specs.declared.options.Mapping.{Mapping}
 use Rattle.goblin_pe_sect.specs.declared.windows.bounds.Piece.{Piece}
 use Rattle.goblin_pe_sect.specs.SectionTable.{Section}
 use Rattle.goblin_pe_sect.specs.WindowIndex.{AreNear, IsCut, begins_of, first_owner, owners_of}
 
 -- the pieces are those of the sections' windows; each has what is kept of the first section whose
 -- window covers it
-pub record IsDivision (opts : ParseOptions) (sections : List Section) (alignment : ℕ)
+pub record IsDivision (mapping : Mapping) (sections : List Section) (alignment : ℕ)
     (pieces : List Piece) : Type 0 where
-  pub cut : IsCut opts sections alignment (begins_of pieces)
-  pub near : AreNear opts sections alignment
-  pub owned : owners_of pieces ≡ map (first_owner opts sections alignment) (begins_of pieces)
+  pub cut : IsCut mapping sections alignment (begins_of pieces)
+  pub near : AreNear mapping sections alignment
+  pub owned : owners_of pieces ≡ map (first_owner mapping sections alignment) (begins_of pieces)

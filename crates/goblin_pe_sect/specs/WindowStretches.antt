@@ -2,7 +2,7 @@
 use Rattle.std.specs.Prelude.{ℕ, ◌≡◌, ◌≤◌, ◌<◌, Bool, ◌&&◌, nat_le, nat_lt, List, Option, find}
 use Rattle.std.specs.Prelude.{length, map, slice_index, option_map}
 use Rattle.std.specs.List.{enumerate_from}
-use Rattle.goblin_pe_sect.specs.declared.options.ParseOptions.{ParseOptions}
+use Rattle.goblin_pe_sect.specs.declared.options.Mapping.{Mapping}
 use Rattle.goblin_pe_sect.specs.declared.windows.bounds.Piece.{Piece}
 use Rattle.goblin_pe_sect.specs.declared.windows.owners.Owner.{Owner}
 use Rattle.goblin_pe_sect.specs.declared.windows.owners.Window.{Window}
@@ -38,17 +38,17 @@ FindTheSame first last fewer windows =
 
 -- the window of the section at this index of the table; and the windows of all sections, in the
 -- order of the table
-abbrev pub section_window_at : ParseOptions → ℕ → ℕ → Section → Window
-section_window_at opts alignment i s =
+abbrev pub section_window_at : Mapping → ℕ → ℕ → Section → Window
+section_window_at mapping alignment i s =
     record {
       begin = s.virtual_address;
-      end = window_end opts s alignment;
-      owner = owner_of_section opts alignment i s;
+      end = window_end mapping s alignment;
+      owner = owner_of_section mapping alignment i s;
     }
 
-abbrev pub section_windows : ParseOptions → ℕ → List Section → List Window
-section_windows opts alignment sections =
-    map (λ (r : ℕ × Section). section_window_at opts alignment r.0 r.1) (enumerate_from 0 sections)
+abbrev pub section_windows : Mapping → ℕ → List Section → List Window
+section_windows mapping alignment sections =
+    map (λ (r : ℕ × Section). section_window_at mapping alignment r.0 r.1) (enumerate_from 0 sections)
 
 -- the numbers do not fall
 abbrev pub IsRising : List ℕ → Type 0

@@ -8,7 +8,7 @@ ghost use Rattle.goblin_pe_sect.specs.Addresses.{map_by, map_of, offset_of};
 ghost use Rattle.goblin_pe_sect.specs.Runs.{IsRun, offset_in_run};
 ghost use Rattle.goblin_pe_sect.specs.WindowIndex.{located};
 
-use crate::options::{ParseMode, ParseOptions};
+use crate::options::{Mapping, ParseMode, ParseOptions, View};
 use crate::section_table::SectionTable;
 use crate::windows::WindowIndex;
 use goblin_base::ResultOf;
@@ -59,16 +59,16 @@ pub(crate) fn index_of<'e>(
     alloc: Global,
     sections: &[SectionTable],
     file_alignment: u32,
-    opts: &ParseOptions,
+    mapping: Mapping,
 ) -> ResultOf<'e, WindowIndex>
-    ensures mapped { let offset_of = file_offset opts.now sections.now file_alignment in
+    ensures mapped { let offset_of = file_offset mapping sections.now file_alignment in
         IfOk result (λ w. (rva : ℕ) → located w rva ≡ offset_of rva) }
     ensures refused { IfErr result IsMemory }
 {
     if sections.is_empty() {
-        return Ok(WindowIndex::without_pieces(alloc, opts.resolve_rva));
+        return Ok(WindowIndex::without_pieces(alloc, mapping.resolve_rva));
     }
-    WindowIndex::prepare(alloc, sections, file_alignment, opts)
+    WindowIndex::prepare_by(alloc, sections, file_alignment, mapping)
 }
 
 impl<'s> AddressMap<'s> {
@@ -91,7 +91,8 @@ impl<'s> AddressMap<'s> {
         ensures indexed { IfOk result IsIndexed }
         ensures whole { KeepsWindowsAlone }
     {
-        let index = index_of(alloc, sections, file_alignment, opts)?;
+        let mapping = View::Sections.mapping(opts);
+        let index = index_of(alloc, sections, file_alignment, mapping)?;
         Ok(AddressMap {
             opts: *opts,
             windows: Windows::Indexed(index),
@@ -145,7 +146,8 @@ impl<'s> AddressMap<'s> {
     {
         match &self.windows {
             Windows::Walked(records, file_alignment) => {
-                find_in_records(*records, *file_alignment, &self.opts, rva, run)
+                let mapping = records.view.mapping(&self.opts);
+                find_in_records(*records, *file_alignment, mapping, rva, run)
             }
             Windows::IndexedWithFront(_) if rva == 0 => None,
             Windows::Indexed(index) | Windows::IndexedWithFront(index) => index.find(rva),

@@ -1,42 +1,35 @@
 //! How a PE file is read.
 
 ghost use Rattle.std.specs.Prelude.{◌≡◌};
-ghost use Rattle.goblin_pe_sect.specs.Options.{default_options, front_of, rule_by_alignment};
-ghost use Rattle.goblin_pe_sect.specs.Options.{te_options};
+ghost use Rattle.goblin_pe_sect.specs.Options.{default_options, front_of, mapping_in};
+ghost use Rattle.goblin_pe_sect.specs.Options.{rule_by_alignment, te_options};
 
 pub use goblin_base::ParseMode;
 
-/// The rule for where the raw data of a section begins when addresses are mapped, and how long its
-/// window is.
+/// The rule for where the raw data of a section begins when addresses are mapped.
 ///
-/// All rules give the same offset if the raw pointer is a multiple of 512, as the PE/COFF
+/// Both rules give the same offset if the raw pointer is a multiple of 512, as the PE/COFF
 /// specification requires for the usual file alignments. For other raw pointers the right rule
 /// depends on `section_alignment`. If it is 4,096 or more, rounding is right. If it is less, the
 /// pointer as stored is right, because the Windows loader maps such an image as one flat view of
 /// the file. For a lawful image, [`RawPointerRule::by_file_alignment`] gives the right rule.
 #[derive(Debug, PartialEq, Copy, Clone)]
 pub enum RawPointerRule {
-    /// The raw data begins at the raw pointer, as in goblin. The size of the window is measured
-    /// from the pointer rounded down to a multiple of 512. So the window may reach past the next
-    /// section's address.
+    /// The raw data begins at the raw pointer, as in goblin.
     AsStored,
-    /// The raw data begins at the raw pointer rounded down to a multiple of 512, and the window is
-    /// as long as in goblin.
+    /// The raw data begins at the raw pointer rounded down to a multiple of 512.
     RoundedTo512,
-    /// The raw data begins at the raw pointer. The window is as long as the raw data, rounded up to
-    /// the file alignment.
-    Unrounded,
 }
 
 impl RawPointerRule {
     /// The rule that is right for an image with this file alignment: rounded if the alignment is
-    /// 512 or more, else not rounded. It is the right rule for every lawful image, because there
-    /// the file alignment is below 512 only if it equals a `section_alignment` below 4,096.
+    /// 512 or more, else as stored. It is the right rule for every lawful image, because there the
+    /// file alignment is below 512 only if it equals a `section_alignment` below 4,096.
     pub fn by_file_alignment(file_alignment: u32) -> RawPointerRule
         ensures { result ≡ rule_by_alignment file_alignment }
     {
         if file_alignment < 512 {
-            RawPointerRule::Unrounded
+            RawPointerRule::AsStored
         } else {
             RawPointerRule::RoundedTo512
         }
@@ -46,13 +39,29 @@ impl RawPointerRule {
 /// What maps the addresses of an image.
 #[derive(Debug, PartialEq, Copy, Clone)]
 pub enum View {
-    /// The sections, as in goblin.
+    /// The sections, as in goblin. The size of a window is measured from the raw pointer rounded
+    /// down to a multiple of 512. So if the raw data begins at a pointer as stored, the window may
+    /// reach past it, and past the next section's address.
     Sections,
-    /// The sections and, for an address that no section's window holds, the front of the file,
-    /// since the Windows loader maps the headers at the image's base. The window of the front has
-    /// `size_of_headers` bytes, rounded up to the file alignment, but to no more than whole pages
-    /// of 4,096 bytes. An address 0 in a table still means that there is nothing.
+    /// The sections, as a loader maps them. If the file alignment is below 512, a window is as long
+    /// as the raw data, rounded up to the file alignment. Otherwise it is as long as in goblin.
+    LoadedSections,
+    /// As [`View::LoadedSections`] and, for an address that no section's window holds, the front of
+    /// the file, since the Windows loader maps the headers at the image's base. The window of the
+    /// front has `size_of_headers` bytes, rounded up to the file alignment, but to no more than
+    /// whole pages of 4,096 bytes. An address 0 in a table still means that there is nothing.
     Loader,
+}
+
+/// How addresses are mapped to file offsets by sections.
+#[derive(Copy, Clone)]
+pub struct Mapping {
+    /// Whether addresses are mapped. If it is false, an address is a file offset itself.
+    pub resolve_rva: bool,
+    /// Where the raw data of a section begins.
+    pub raw_pointer_rule: RawPointerRule,
+    /// How long the window of a section is.
+    pub view: View,
 }
 
 impl View {
@@ -64,8 +73,20 @@ impl View {
         ensures { result ≡ front_of self size_of_headers }
     {
         match self {
-            View::Sections => None,
+            View::Sections | View::LoadedSections => None,
             View::Loader => Some(size_of_headers),
+        }
+    }
+
+    /// How addresses are mapped in this view, with these options.
+    #[inline(always)]
+    pub fn mapping(self, opts: &ParseOptions) -> Mapping
+        ensures { result ≡ mapping_in self opts.now }
+    {
+        Mapping {
+            resolve_rva: opts.resolve_rva,
+            raw_pointer_rule: opts.raw_pointer_rule,
+            view: self,
         }
     }
 }

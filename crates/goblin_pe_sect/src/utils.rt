@@ -15,10 +15,10 @@ ghost use Rattle.goblin_pe_sect.specs.Mapping.{file_offset, InWindow, is_in_wind
 ghost use Rattle.goblin_pe_sect.specs.Mapping.{offset_in, raw_begin, section_at};
 ghost use Rattle.goblin_pe_sect.specs.Mapping.{MapsNowhere, OffsetsApart, IsMessage};
 ghost use Rattle.goblin_pe_sect.specs.Multiples.{greatest_multiple, least_multiple};
-ghost use Rattle.goblin_pe_sect.specs.Options.{is_strict, default_options};
+ghost use Rattle.goblin_pe_sect.specs.Options.{default_options, is_strict, mapping_by};
 
 use crate::data_directories::DataDirectory;
-use crate::options::{ParseOptions, RawPointerRule};
+use crate::options::{Mapping, ParseOptions, RawPointerRule, View};
 use crate::section_table::SectionTable;
 use goblin_base::{
     Cause, CauseOf, Endian, Error, ErrorOf, Result, ResultOf, TryFromCtx, pread_str,
@@ -56,33 +56,33 @@ fn round_up(size: usize, step: usize) -> usize
 
 // How many bytes the section's raw data has in whole file blocks.
 #[inline(always)]
-fn blocks_size(section: &SectionTable, file_alignment: u32, opts: &ParseOptions) -> usize
+fn blocks_size(section: &SectionTable, file_alignment: u32, view: View) -> usize
     requires { 0 < file_alignment }
-    ensures { result ≡ blocks_size opts.now.raw_pointer_rule file_alignment
+    ensures { result ≡ blocks_size view file_alignment
         section.now.pointer_to_raw_data section.now.size_of_raw_data }
 {
     let pointer = section.pointer_to_raw_data as usize;
     let raw_size = section.size_of_raw_data as usize;
-    match opts.raw_pointer_rule {
-        RawPointerRule::Unrounded => round_up(raw_size, file_alignment as usize),
-        RawPointerRule::AsStored | RawPointerRule::RoundedTo512 => {
-            round_up(pointer + raw_size, file_alignment as usize) - round_down(pointer, 512)
+    match view {
+        View::LoadedSections | View::Loader if file_alignment < 512 => {
+            round_up(raw_size, file_alignment as usize)
         }
+        _ => round_up(pointer + raw_size, file_alignment as usize) - round_down(pointer, 512),
     }
 }
 
 // How many bytes of the section are read from the file, in whole file blocks and pages.
 #[tactic(auto, unfolding(crate::specs::Mapping::read_size))]
-fn read_size(section: &SectionTable, file_alignment: u32, opts: &ParseOptions) -> usize
+fn read_size(section: &SectionTable, file_alignment: u32, view: View) -> usize
     requires { 0 < file_alignment }
-    ensures value { result ≡ read_size opts.now.raw_pointer_rule section.now file_alignment }
+    ensures value { result ≡ read_size view section.now file_alignment }
     ensures bound { result < 2 ^ 33 }
 {
     let raw_size = section.size_of_raw_data as usize;
     if raw_size == 0 {
         return 0;
     }
-    let blocks = blocks_size(section, file_alignment, opts);
+    let blocks = blocks_size(section, file_alignment, view);
     let stored = blocks.min(round_up(raw_size, 4096));
     match section.virtual_size as usize {
         0 => stored,
@@ -94,25 +94,28 @@ fn read_size(section: &SectionTable, file_alignment: u32, opts: &ParseOptions) -
 pub(crate) fn section_window(
     section: &SectionTable,
     file_alignment: u32,
-    opts: &ParseOptions,
+    mapping: Mapping,
 ) -> (usize, usize)
     requires { 0 < file_alignment }
     ensures begin { result.0 ≡ section.now.virtual_address }
-    ensures end { result.1 ≡ window_end opts.now section.now file_alignment }
+    ensures end { result.1 ≡ window_end mapping section.now file_alignment }
     ensures near { result.1 < result.0 + 2 ^ 33 }
 {
     let begin = section.virtual_address as usize;
-    (begin, begin + read_size(section, file_alignment, opts))
+    (
+        begin,
+        begin + read_size(section, file_alignment, mapping.view),
+    )
 }
 
-// An upper bound of the end of the section's window, for any options and file alignment. It holds
+// An upper bound of the end of the section's window, for any mapping and file alignment. It holds
 // because no more than the raw size in whole pages is read. It takes fewer steps than the window
 // itself.
 #[inline(always)]
 #[tactic(auto, using(crate::proofs::Mapped::window_below))]
 pub(crate) fn past_window(section: &SectionTable) -> usize
-    ensures past { (opts : ParseOptions) (alignment : ℕ)
-        → window_end opts section.now alignment ≤ result }
+    ensures past { (mapping : Mapping) (alignment : ℕ)
+        → window_end mapping section.now alignment ≤ result }
     ensures near { result < section.now.virtual_address + 2 ^ 33 }
 {
     section.virtual_address as usize + round_up(section.size_of_raw_data as usize, 4096)
@@ -132,23 +135,24 @@ pub(crate) fn past_window(section: &SectionTable) -> usize
 ///
 /// Source: none; PE Format leaves the mapping to loaders. These are goblin's windows.
 pub fn window(section: &SectionTable, file_alignment: u32) -> Option<(usize, usize)>
-    ensures { result ≡ window_of default_options section.now file_alignment }
+    ensures { result ≡ window_of (mapping_by default_options) section.now file_alignment }
 {
-    window_with_opts(section, file_alignment, &ParseOptions::default())
+    let mapping = View::Sections.mapping(&ParseOptions::default());
+    window_by(section, file_alignment, mapping)
 }
 
-/// As [`window`], by the rule of `opts`. By [`RawPointerRule::Unrounded`] the first of the three
-/// sizes is the raw size rounded up to `file_alignment`.
+/// As [`window`], in the view of `mapping`. In the views of a loader, if `file_alignment` is below
+/// 512, the first of the three sizes is the raw size rounded up to `file_alignment`.
 #[tactic(auto, using(crate::proofs::Mapped::power_positive))]
-pub fn window_with_opts(
+pub fn window_by(
     section: &SectionTable,
     file_alignment: u32,
-    opts: &ParseOptions,
+    mapping: Mapping,
 ) -> Option<(usize, usize)>
-    ensures { result ≡ window_of opts.now section.now file_alignment }
+    ensures { result ≡ window_of mapping section.now file_alignment }
 {
     if file_alignment.is_power_of_two() {
-        Some(section_window(section, file_alignment, opts))
+        Some(section_window(section, file_alignment, mapping))
     } else {
         None
     }
@@ -156,16 +160,11 @@ pub fn window_with_opts(
 
 // Whether the section's window holds the address.
 #[tactic(auto, unfolding(crate::specs::Mapping::read_size))]
-fn is_in_window(
-    rva: usize,
-    section: &SectionTable,
-    file_alignment: u32,
-    opts: &ParseOptions,
-) -> bool
+fn is_in_window(rva: usize, section: &SectionTable, file_alignment: u32, mapping: Mapping) -> bool
     requires { 0 < file_alignment }
-    ensures { result ≡ is_in_window opts.now file_alignment rva section.now }
+    ensures { result ≡ is_in_window mapping file_alignment rva section.now }
 {
-    let (begin, end) = section_window(section, file_alignment, opts);
+    let (begin, end) = section_window(section, file_alignment, mapping);
     is_in_range(rva, begin, end)
 }
 
@@ -175,16 +174,14 @@ fn first_in_window<'s>(
     rva: usize,
     sections: &'s [SectionTable],
     file_alignment: u32,
-    opts: &ParseOptions,
+    mapping: Mapping,
 ) -> Option<&'s SectionTable>
     requires { 0 < file_alignment }
     ensures value { option_copied result
-        ≡ find (is_in_window opts.now file_alignment rva) sections.now }
-    ensures holds { IfSome result (λ s. InWindow opts.now file_alignment rva s.now) }
+        ≡ find (is_in_window mapping file_alignment rva) sections.now }
+    ensures holds { IfSome result (λ s. InWindow mapping file_alignment rva s.now) }
 {
-    sections
-        .iter()
-        .find(|section| is_in_window(rva, section, file_alignment, opts))
+    sections.iter().find(|section| is_in_window(rva, section, file_alignment, mapping))
 }
 
 /// The section in which an address lies: the first whose window holds it. [`find_offset`] maps the
@@ -197,40 +194,41 @@ pub fn section_at<'s>(
     file_alignment: u32,
     opts: &ParseOptions,
 ) -> Option<&'s SectionTable>
-    ensures value { option_copied result ≡ section_at opts.now file_alignment rva sections.now }
-    ensures holds { IfSome result (λ s. InWindow opts.now file_alignment rva s.now) }
+    ensures value { option_copied result
+        ≡ section_at (mapping_by opts.now) file_alignment rva sections.now }
+    ensures holds { IfSome result (λ s. InWindow (mapping_by opts.now) file_alignment rva s.now) }
 {
     if file_alignment.is_power_of_two() {
-        first_in_window(rva, sections, file_alignment, opts)
+        first_in_window(rva, sections, file_alignment, View::Sections.mapping(opts))
     } else {
         None
     }
 }
 
 /// The file offset at which the section's raw data begins when addresses are mapped. It is the raw
-/// pointer, as stored or rounded down to a multiple of 512, by the rule of `opts`.
+/// pointer, as stored or rounded down to a multiple of 512, by the rule of `mapping`.
 ///
 /// Source: none; [`RawPointerRule`] says for which images each rule is right.
-pub fn raw_begin(section: &SectionTable, opts: &ParseOptions) -> u32
-    ensures { result ≡ raw_begin opts.now section.now }
+pub fn raw_begin(section: &SectionTable, mapping: Mapping) -> u32
+    ensures { result ≡ raw_begin mapping section.now }
 {
     let pointer = section.pointer_to_raw_data;
-    match opts.raw_pointer_rule {
-        RawPointerRule::AsStored | RawPointerRule::Unrounded => pointer,
+    match mapping.raw_pointer_rule {
+        RawPointerRule::AsStored => pointer,
         RawPointerRule::RoundedTo512 => round_down(pointer as usize, 512) as u32,
     }
 }
 
 // The file offset of an address in the section's window.
 #[tactic(auto, using(crate::proofs::Mapped::read_size_le))]
-fn offset_in(rva: usize, section: &SectionTable, file_alignment: u32, opts: &ParseOptions) -> usize
-    requires { InWindow opts.now file_alignment rva section.now }
-    ensures { result ≡ offset_in opts.now section.now rva }
+fn offset_in(rva: usize, section: &SectionTable, file_alignment: u32, mapping: Mapping) -> usize
+    requires { InWindow mapping file_alignment rva section.now }
+    ensures { result ≡ offset_in mapping section.now rva }
 {
     let distance = rva - section.virtual_address as usize;
     let raw_size = section.size_of_raw_data as usize;
     prove!(distance < raw_size + 4096);
-    raw_begin(section, opts) as usize + distance
+    raw_begin(section, mapping) as usize + distance
 }
 
 // The file offset of an address, by the first section whose window holds it.
@@ -241,19 +239,20 @@ fn offset_by(
     file_alignment: u32,
     opts: &ParseOptions,
 ) -> Option<usize>
-    ensures { result ≡ file_offset opts.now sections.now file_alignment rva }
+    ensures { result ≡ file_offset (mapping_by opts.now) sections.now file_alignment rva }
 {
     if !opts.resolve_rva {
         return Some(rva);
     }
     let section = section_at(rva, sections, file_alignment, opts)?;
-    Some(offset_in(rva, section, file_alignment, opts))
+    let mapping = View::Sections.mapping(opts);
+    Some(offset_in(rva, section, file_alignment, mapping))
 }
 
 /// The file offset of the address `rva`, by the first section, in the order of the table, whose
 /// window holds the address. If windows overlap, the first hides the others.
 ///
-/// The windows are those that [`window_with_opts`] returns. The offset is the raw pointer, as
+/// The windows are those that [`window`] returns. The offset is the raw pointer, as
 /// stored or rounded down to a multiple of 512 by the rule of `opts`, plus the distance of `rva`
 /// from the section's address. It may lie past the end of the file, so test it before you read
 /// there.
@@ -270,11 +269,11 @@ pub fn find_offset(
     file_alignment: u32,
     opts: &ParseOptions,
 ) -> Option<usize>
-    ensures value { result ≡ file_offset opts.now sections.now file_alignment rva }
+    ensures value { result ≡ file_offset (mapping_by opts.now) sections.now file_alignment rva }
     ensures first { IsTrue opts.now.resolve_rva → IsTrue (is_power_of_two file_alignment) →
-        MatchOption result (MapsNowhere opts.now sections.now file_alignment rva)
-        (MapsTo opts.now sections.now file_alignment rva) }
-    ensures apart { OffsetsApart opts.now sections.now file_alignment }
+        MatchOption result (MapsNowhere (mapping_by opts.now) sections.now file_alignment rva)
+        (MapsTo (mapping_by opts.now) sections.now file_alignment rva) }
+    ensures apart { OffsetsApart (mapping_by opts.now) sections.now file_alignment }
 {
     offset_by(rva, sections, file_alignment, opts)
 }
@@ -290,7 +289,7 @@ pub fn find_offset_or(
     opts: &ParseOptions,
     msg: &'static str,
 ) -> Result<usize>
-    ensures { Answers (λ p. p) result (file_offset opts.now sections.now file_alignment rva)
+    ensures { Answers (λ p. p) result (file_offset (mapping_by opts.now) sections.now file_alignment rva)
         (IsMessage msg.now) }
 {
     find_offset(rva, sections, file_alignment, opts).ok_or(Error::Malformed(Cause::Message(msg)))
@@ -309,7 +308,7 @@ pub fn try_name<'a>(
     file_alignment: u32,
     opts: &ParseOptions,
 ) -> Result<&'a str>
-    ensures { let m = file_offset opts.now sections.now file_alignment in
+    ensures { let m = file_offset (mapping_by opts.now) sections.now file_alignment in
         Reads (λ s. s.now) result (text_at_address m rva) bytes.now }
 {
     match find_offset(rva, sections, file_alignment, opts) {
@@ -332,7 +331,7 @@ pub fn safe_try_name<'a>(
     file_alignment: u32,
     opts: &ParseOptions,
 ) -> Result<Option<&'a str>>
-    ensures { let m = with_whole_names (file_offset opts.now sections.now file_alignment) in
+    ensures { let m = with_whole_names (file_offset (mapping_by opts.now) sections.now file_alignment) in
         Reads (option_map (λ s. s.now)) result
         (name_or_none (is_strict opts.now.parse_mode) m rva) bytes.now }
 {
@@ -399,7 +398,7 @@ pub fn get_data<'a, 'e, T: TryFromCtx<'a>>(
     directory: DataDirectory,
     file_alignment: u32,
 ) -> ResultOf<'e, T>
-    ensures { let m = file_offset default_options sections.now file_alignment in
+    ensures { let m = file_offset (mapping_by default_options) sections.now file_alignment in
         let rva = directory.virtual_address in
         Reads T.model result (data_at m T.value_of T.refusal rva) bytes.now }
 {
@@ -428,7 +427,7 @@ pub fn get_data_with_opts<'a, 'e, T: TryFromCtx<'a>>(
     file_alignment: u32,
     opts: &ParseOptions,
 ) -> ResultOf<'e, T>
-    ensures { let m = file_offset opts.now sections.now file_alignment in
+    ensures { let m = file_offset (mapping_by opts.now) sections.now file_alignment in
         let rva = directory.virtual_address in
         Reads T.model result (data_at m T.value_of T.refusal rva) bytes.now }
 {

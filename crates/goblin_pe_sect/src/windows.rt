@@ -13,6 +13,7 @@ ghost use Rattle.goblin_base.specs.Answers.{IsMemory};
 ghost use Rattle.goblin_pe_sect.specs.Mapping.{file_offset};
 ghost use Rattle.goblin_pe_sect.specs.WindowIndex.{IsCut, begins_of, first_owner, located};
 ghost use Rattle.goblin_pe_sect.specs.WindowIndex.{reached, halvings, HasPieces};
+ghost use Rattle.goblin_pe_sect.specs.Options.{mapping_by};
 ghost use Rattle.goblin_pe_sect.specs.WindowIndexFields.{KeepsPiecesAlone};
 
 mod bounds;
@@ -20,7 +21,7 @@ mod cuts;
 mod division;
 mod owners;
 
-use crate::options::ParseOptions;
+use crate::options::{Mapping, ParseOptions, View};
 use crate::section_table::SectionTable;
 pub use bounds::{Bounds, Piece};
 use division::division_of;
@@ -109,24 +110,48 @@ impl WindowIndex {
     ) -> ResultOf<'e, WindowIndex>
         ensures mapped { IfOk result
             (λ w.
-            (rva : ℕ) → located w rva ≡ file_offset opts.now sections.now file_alignment rva) }
+            (rva : ℕ) → located w rva ≡ file_offset (mapping_by opts.now) sections.now file_alignment rva) }
         ensures refused { IfErr result IsMemory }
         ensures few { IfOk result (λ w. length w.begins ≤ 2 * length sections.now + 1) }
-        ensures no_pieces { IfOk result (λ w. ¬ HasPieces opts.now file_alignment → w.begins ≡ []) }
+        ensures no_pieces { IfOk result (λ w. ¬ HasPieces (mapping_by opts.now) file_alignment → w.begins ≡ []) }
         ensures cut { IfOk result
             (λ w.
             IsTrue opts.now.resolve_rva → IsTrue (is_power_of_two file_alignment)
-            → IsCut opts.now sections.now file_alignment w.begins) }
+            → IsCut (mapping_by opts.now) sections.now file_alignment w.begins) }
         ensures owned { IfOk result
-            (λ w. w.owners ≡ map (first_owner opts.now sections.now file_alignment) w.begins) }
+            (λ w. w.owners ≡ map (first_owner (mapping_by opts.now) sections.now file_alignment) w.begins) }
     {
-        if !opts.resolve_rva {
+        let mapping = View::Sections.mapping(opts);
+        WindowIndex::prepare_by(alloc, sections, file_alignment, mapping)
+    }
+
+    // The same, with addresses mapped by `mapping`.
+    pub(crate) fn prepare_by<'e>(
+        alloc: Global,
+        sections: &[SectionTable],
+        file_alignment: u32,
+        mapping: Mapping,
+    ) -> ResultOf<'e, WindowIndex>
+        ensures mapped { IfOk result
+            (λ w.
+            (rva : ℕ) → located w rva ≡ file_offset mapping sections.now file_alignment rva) }
+        ensures refused { IfErr result IsMemory }
+        ensures few { IfOk result (λ w. length w.begins ≤ 2 * length sections.now + 1) }
+        ensures no_pieces { IfOk result (λ w. ¬ HasPieces mapping file_alignment → w.begins ≡ []) }
+        ensures cut { IfOk result
+            (λ w.
+            IsTrue mapping.resolve_rva → IsTrue (is_power_of_two file_alignment)
+            → IsCut mapping sections.now file_alignment w.begins) }
+        ensures owned { IfOk result
+            (λ w. w.owners ≡ map (first_owner mapping sections.now file_alignment) w.begins) }
+    {
+        if !mapping.resolve_rva {
             return Ok(WindowIndex::without_pieces(alloc, false));
         }
         if !file_alignment.is_power_of_two() {
             return Ok(WindowIndex::without_pieces(alloc, true));
         }
-        let pieces = division_of(alloc, sections, file_alignment, opts)?;
+        let pieces = division_of(alloc, sections, file_alignment, mapping)?;
         Ok(WindowIndex {
             resolves: true,
             pieces,

@@ -15,7 +15,7 @@ use goblin_pe_export::laws::read_exports;
 use goblin_pe_head::Header;
 use goblin_pe_sect::address_map::{AddressMap, MappedRecords};
 use goblin_pe_sect::section_table::{SIZEOF_SECTION_TABLE, SectionRecords};
-use goblin_pe_sect::{ParseOptions, SectionTable, WindowIndex};
+use goblin_pe_sect::{ParseOptions, SectionTable, View, WindowIndex};
 use std::alloc::Global;
 use std::io;
 
@@ -85,6 +85,7 @@ fn layout_by<'a>(
 ) -> goblin_base::Result<Layout<'a>> {
     let mapped = MappedRecords {
         records,
+        view: View::Sections,
         front: None,
     };
     let address_map = AddressMap::of_records(alloc, mapped, ALIGNMENT, opts)?;

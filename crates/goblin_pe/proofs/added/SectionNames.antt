@@ -71,15 +71,15 @@ records_counted strict h bytes records made =
 -- ---- the map of addresses
 
 -- names change no address, whether or not the file's front is mapped
-pub mapped_by_names : (opts : ParseOptions) (front : Option ℕ) (read : Option (List Section)) (records : List Section) (alignment : ℕ) (m : MapOfAddresses)
-    → option_map (map unnamed) read ≡ Some records → m ≡ map_in opts (record { sections = records; front = front }) alignment
-    → (sections : List Section) → read ≡ Some sections → m ≡ map_in opts (record { sections = sections; front = front }) alignment
-mapped_by_names opts front None records alignment m made by sections is = absurd cc
-mapped_by_names opts front (Some sections) records alignment m made by own is =
+pub mapped_by_names : (opts : ParseOptions) (view : View) (front : Option ℕ) (read : Option (List Section)) (records : List Section) (alignment : ℕ) (m : MapOfAddresses)
+    → option_map (map unnamed) read ≡ Some records → m ≡ map_in opts (record { sections = records; view = view; front = front }) alignment
+    → (sections : List Section) → read ≡ Some sections → m ≡ map_in opts (record { sections = sections; view = view; front = front }) alignment
+mapped_by_names opts view front None records alignment m made by sections is = absurd cc
+mapped_by_names opts view front (Some sections) records alignment m made by own is =
     let same : map unnamed sections ≡ records = steps.same_value (map unnamed sections) records made in
     let own_is : sections ≡ own = steps.same_value sections own is in
-    by ∙ ap (λ (xs : List Section). map_in opts (record { sections = xs; front = front }) alignment) (sym same) ∙ unnamed_map_in opts front sections alignment
-    ∙ ap (λ (xs : List Section). map_in opts (record { sections = xs; front = front }) alignment) own_is
+    by ∙ ap (λ (xs : List Section). map_in opts (record { sections = xs; view = view; front = front }) alignment) (sym same) ∙ unnamed_map_in opts view front sections alignment
+    ∙ ap (λ (xs : List Section). map_in opts (record { sections = xs; view = view; front = front }) alignment) own_is
 
 -- what holds of the map, the places and the bytes of a layout holds of its file's
 pub of_file : (view : View) (opts : ParseOptions) (bytes : List ℕ) (header : Header) (l : Layout) → IsLayoutOf view opts bytes header l

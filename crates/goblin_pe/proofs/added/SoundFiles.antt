@@ -8,7 +8,6 @@ use Rattle.readings.specs.Reads.{◌beside◌, in_its_place, pair_of}
 use Rattle.readings.specs.Reads as reads
 use Rattle.goblin_pe_sect.specs.declared.options.ParseOptions.{ParseOptions}
 use Rattle.goblin_pe_sect.specs.declared.options.View.{View}
-use Rattle.goblin_pe_sect.specs.Mapping.{file_offset}
 use Rattle.goblin_pe_sect.specs.Options.{is_strict}
 use Rattle.goblin_pe_sect.specs.SectionTable.{Section}
 use Rattle.goblin_pe_sect.specs.Addresses.{Addressing}
@@ -100,7 +99,6 @@ module _ (view : View) (opts : ParseOptions) (bytes : List ℕ) where
 
   -- strict mode reads a file of these tables, and permissive mode the same
   alike : (h : PeHeader) (s : List Section) (tables : Option NumberedTables) → (tables_with view (in_mode Strict opts) h s).value bytes ≡ tables → IsSome tables → (left_out_of opts (addressing_by opts (mapped_in view h s) (places_in h.optional_header)) (places_in h.optional_header) bytes).libraries ≡ 0 → (pe_header true).value bytes ≡ Some h → (sections_after true h).value bytes ≡ Some s → Alike h s
-  unfolding file_offset
   alike h s None is some none header sections = absurd cc
   alike h s (Some t) is some none header sections =
       let places = places_in h.optional_header in
@@ -119,7 +117,7 @@ module _ (view : View) (opts : ParseOptions) (bytes : List ℕ) where
       }
 
   sound_read : (l : PeHeader × List Section) (d : Damage) → (layout opts).value bytes ≡ Some l → IsDamaged view opts l.0 l.1 bytes d → IsSound d → Alike l.0 l.1
-  unfolding layout file_offset
+  unfolding layout
   sound_read l d found damaged sound =
       let strict = is_strict opts.parse_mode in
       let first = step ((pe_header strict).value bytes) (λ h. option_map (λ s. (h, s)) ((sections_after strict h).value bytes)) l found in
@@ -135,14 +133,14 @@ module _ (view : View) (opts : ParseOptions) (bytes : List ℕ) where
 
   -- both modes read a file alike in which nothing is damaged, for each reader of header, sections and tables
   module _ {A : Type 0} (read : ParseOptions → Reading A) (make : PeHeader → List Section → NumberedTables → A) (made : (o : ParseOptions) (h : PeHeader) (s : List Section) (t : NumberedTables) → IsRead view o bytes h s t → (read o).value bytes ≡ Some (make h s t)) where
-    sound_said : (o : Option (PeHeader × List Section)) (d : Damage) → (layout opts).value bytes ≡ o → IsSomeAnd o (λ l. IsDamaged view opts l.0 l.1 bytes d) → IsSound d → IsReadByBoth read opts bytes
-    sound_said None d is damaged sound = absurd damaged
-    sound_said (Some l) d is damaged sound =
+    sound_damage : (o : Option (PeHeader × List Section)) (d : Damage) → (layout opts).value bytes ≡ o → IsSomeAnd o (λ l. IsDamaged view opts l.0 l.1 bytes d) → IsSound d → IsReadByBoth read opts bytes
+    sound_damage None d is damaged sound = absurd damaged
+    sound_damage (Some l) d is damaged sound =
         let both = sound_read l d is damaged sound in
         rw (made (in_mode Strict opts) l.0 l.1 both.tables both.strictly) (made (in_mode Permissive opts) l.0 l.1 both.tables both.permissively)
 
     pub sound_reported : (result : Result Damage ErrorOf) → TellsDamage view opts bytes result → IfOk result (λ d. IsSound d → IsReadByBoth read opts bytes)
-    sound_reported (Ok d) tells = sound_said ((layout opts).value bytes) d refl tells
+    sound_reported (Ok d) tells = sound_damage ((layout opts).value bytes) d refl tells
     sound_reported (Err e) tells = tt
 
   -- what it tells for a whole file
@@ -171,4 +169,4 @@ module _ {A : Type 0} (make : PeHeader → List Section → NumberedTables → A
 
   -- both modes read the same from a file without damage, if no library is left out
   pub sound_made : (l : PeHeader × List Section) (d : Damage) → (layout opts).value bytes ≡ Some l → IsDamaged view opts l.0 l.1 bytes d → IsSound d → IsReadByBoth made_in opts bytes
-  sound_made l d found damaged sound = sound_said view opts bytes made_in make made (Some l) d found damaged sound
+  sound_made l d found damaged sound = sound_damage view opts bytes made_in make made (Some l) d found damaged sound

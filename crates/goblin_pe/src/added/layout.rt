@@ -130,6 +130,8 @@ impl<'a> Layout<'a> {
     ///
     /// - Raw pointers follow the file alignment ([`RawPointerRule::by_file_alignment`]), whatever
     ///   rule `opts` name.
+    /// - If the file alignment is below 512, a section's window is as long as its raw data, rounded up
+    ///   to that alignment.
     /// - The front of the file is mapped at the image's base: as many bytes as the header says that
     ///   the headers have, in whole file blocks.
     ///
@@ -189,7 +191,11 @@ impl<'a> Layout<'a> {
         let records = section_records_of(bytes, header, opts)?;
         let front = view.front(size_of_headers(&header.optional_header));
         let places = Places::of(&header.optional_header);
-        let mapped = MappedRecords { records, front };
+        let mapped = MappedRecords {
+            records,
+            view,
+            front,
+        };
         let address_map = AddressMap::of_records(alloc, mapped, places.file_alignment, opts)?;
         Ok(Layout::by(bytes, places, records, address_map))
     }

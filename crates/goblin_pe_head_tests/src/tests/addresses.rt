@@ -1,8 +1,8 @@
 //! The windows of sections, and the pieces of an index of them.
 
 use fixture::sample::{ALIGNMENT, section};
-use goblin_pe_sect::utils::{find_offset, window};
-use goblin_pe_sect::{ParseOptions, RawPointerRule, SectionTable, WindowIndex};
+use goblin_pe_sect::utils::{find_offset, window, window_by};
+use goblin_pe_sect::{ParseOptions, RawPointerRule, SectionTable, View, WindowIndex};
 use std::alloc::Global;
 
 /// A section by its address, its size in memory, and its data's size and offset in the file.
@@ -53,27 +53,21 @@ fn raw_pointers_are_rounded_to_512_at_any_alignment(rt: HostRuntime) {
     assert!(rt; rounded(0x1200, 0x200) == None);
 }
 
-/// Two sections that are 0x40 apart in memory, but 0x10 apart in the file.
-const PACKED: [Numbers; 2] = [(0x1000, 0x10, 0x10, 0x390), (0x1040, 0x10, 0x10, 0x3A0)];
+/// A section whose data begins at a multiple of 16, but not of 512.
+const PACKED: Numbers = (0x1000, 0x10, 0x10, 0x390);
 
-/// The offset of the second section's address in [`PACKED`], by a rule for raw pointers.
-fn packed(raw_pointer_rule: RawPointerRule) -> Option<usize> {
-    let opts = ParseOptions {
-        raw_pointer_rule,
-        ..ParseOptions::default()
-    };
-    find_offset(
-        0x1040,
-        &[section_of(PACKED[0]), section_of(PACKED[1])],
-        0x10,
-        &opts,
-    )
+/// The window of [`PACKED`] in a view.
+fn packed(view: View, alignment: u32) -> Option<(usize, usize)> {
+    let mapping = view.mapping(&ParseOptions::default());
+    window_by(&section_of(PACKED), alignment, mapping)
 }
 
 #[test]
-fn a_window_that_is_not_rounded_ends_before_the_next_section(rt: HostRuntime) {
-    assert!(rt; packed(RawPointerRule::by_file_alignment(0x10)) == Some(0x3A0));
-    assert!(rt; packed(RawPointerRule::AsStored) == Some(0x3D0));
+fn a_loader_maps_whole_blocks_below_512_alone(rt: HostRuntime) {
+    assert!(rt; packed(View::Sections, 0x10) == Some((0x1000, 0x11A0)));
+    assert!(rt; packed(View::LoadedSections, 0x10) == Some((0x1000, 0x1010)));
+    assert!(rt; packed(View::Loader, 0x100) == Some((0x1000, 0x1100)));
+    assert!(rt; packed(View::Loader, 0x200) == Some((0x1000, 0x1200)));
 }
 
 /// How many pieces an index has, an offset, and the most probes to find it.

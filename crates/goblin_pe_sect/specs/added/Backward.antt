@@ -2,16 +2,16 @@
 use Rattle.std.specs.Prelude.{ℕ, ◌+◌, ◌-◌, ◌==◌, ◌≡◌, Bool, ◌&&◌, nat_le, false, nat_lt}
 use Rattle.std.specs.Prelude.{if◌then◌else◌, List, Option, Some, None, find, option_and_then}
 use Rattle.std.specs.Int.{is_power_of_two}
-use Rattle.goblin_pe_sect.specs.declared.options.ParseOptions.{ParseOptions}
+use Rattle.goblin_pe_sect.specs.declared.options.Mapping.{Mapping}
 use Rattle.goblin_pe_sect.specs.SectionTable.{Section}
 use Rattle.goblin_pe_sect.specs.Mapping.{read_size, raw_begin, file_offset}
 
 -- the address that a section's window has at a file offset; none if the window has no address
 -- there, or if the alignment is not a power of two
-abbrev pub rva_in : ParseOptions → ℕ → ℕ → Section → Option ℕ
-rva_in opts alignment p s =
-    let begin = raw_begin opts s in
-    let end = begin + read_size opts.raw_pointer_rule s alignment in
+abbrev pub rva_in : Mapping → ℕ → ℕ → Section → Option ℕ
+rva_in mapping alignment p s =
+    let begin = raw_begin mapping s in
+    let end = begin + read_size mapping.view s alignment in
     if is_power_of_two alignment && (nat_le begin p && nat_lt p end)
     then Some (s.virtual_address + (p - begin))
     else None
@@ -22,21 +22,21 @@ is_at p None = false
 is_at p (Some found) = found == p
 
 -- there is an address, and the sections map it to this file offset
-abbrev pub maps_to : ParseOptions → List Section → ℕ → ℕ → Option ℕ → Bool
-maps_to opts sections alignment p None = false
-maps_to opts sections alignment p (Some rva) =
-    is_at p (file_offset opts sections alignment rva)
+abbrev pub maps_to : Mapping → List Section → ℕ → ℕ → Option ℕ → Bool
+maps_to mapping sections alignment p None = false
+maps_to mapping sections alignment p (Some rva) =
+    is_at p (file_offset mapping sections alignment rva)
 
 -- The address of a file offset: the one in the first section whose window has an address there that
 -- the sections map back to the offset. If addresses are not mapped, it is the offset itself.
-unfoldable pub file_address : ParseOptions → List Section → ℕ → ℕ → Option ℕ
-file_address opts sections alignment p =
-    if opts.resolve_rva
-    then option_and_then (rva_in opts alignment p)
-    (find (λ s. maps_to opts sections alignment p (rva_in opts alignment p s)) sections)
+unfoldable pub file_address : Mapping → List Section → ℕ → ℕ → Option ℕ
+file_address mapping sections alignment p =
+    if mapping.resolve_rva
+    then option_and_then (rva_in mapping alignment p)
+    (find (λ s. maps_to mapping sections alignment p (rva_in mapping alignment p s)) sections)
     else Some p
 
 -- no address is mapped to the file offset
-abbrev pub IsMappedFromNowhere : ParseOptions → List Section → ℕ → ℕ → Type 0
-IsMappedFromNowhere opts sections alignment p =
-    (rva : ℕ) → ¬ (file_offset opts sections alignment rva ≡ Some p)
+abbrev pub IsMappedFromNowhere : Mapping → List Section → ℕ → ℕ → Type 0
+IsMappedFromNowhere mapping sections alignment p =
+    (rva : ℕ) → ¬ (file_offset mapping sections alignment rva ≡ Some p)

@@ -12,7 +12,7 @@ ghost use Rattle.goblin_pe_sect.specs.SectionTable.{mapped_of, mapped_sections, 
 use crate::address_map::run::Run;
 use crate::address_map::walk::find_by_sections;
 use crate::address_map::{AddressMap, MappedRecords, Windows, index_of};
-use crate::options::{ParseMode, ParseOptions};
+use crate::options::{Mapping, ParseMode, ParseOptions};
 use crate::section_table::SectionTable;
 use goblin_base::ResultOf;
 use std::alloc::Global;
@@ -42,16 +42,16 @@ fn listed<'e>(alloc: Global, records: MappedRecords) -> ResultOf<'e, Vec<Section
 pub fn offset_by_records(
     records: MappedRecords,
     file_alignment: u32,
-    opts: &ParseOptions,
+    mapping: Mapping,
     rva: u32,
 ) -> Option<usize>
     ensures { result
-        ≡ file_offset opts.now (mapped_sections records.entry) file_alignment rva }
+        ≡ file_offset mapping (mapped_sections records.entry) file_alignment rva }
 {
     find_by_sections(
         records,
         file_alignment,
-        opts,
+        mapping,
         rva as usize,
         &mut Run::default(),
     )
@@ -76,7 +76,8 @@ impl<'s> Windows<'s> {
             return Ok(Windows::Walked(records, file_alignment));
         }
         let sections = listed(alloc, records)?;
-        let index = index_of(alloc, &sections, file_alignment, opts)?;
+        let mapping = records.view.mapping(opts);
+        let index = index_of(alloc, &sections, file_alignment, mapping)?;
         let Some(_) = records.front else {
             return Ok(Windows::Indexed(index));
         };

@@ -5,10 +5,11 @@ ghost use Rattle.std.specs.Option.{option_copied};
 ghost use Rattle.goblin_pe_sect.specs.added.Backward.{IsMappedFromNowhere, file_address};
 ghost use Rattle.goblin_pe_sect.specs.Mapping.{file_offset};
 ghost use Rattle.goblin_pe_sect.specs.added.Backward.{maps_to, rva_in};
+ghost use Rattle.goblin_pe_sect.specs.Options.{mapping_by};
 
-use crate::options::ParseOptions;
+use crate::options::{Mapping, ParseOptions, View};
 use crate::section_table::SectionTable;
-use crate::utils::{find_offset, raw_begin, window_with_opts};
+use crate::utils::{find_offset, raw_begin, window_by};
 
 /// The address that the window of this section has at the file offset `offset`, whatever other
 /// sections map. `None` if the window has no address there, or if `file_alignment` is not a power
@@ -17,12 +18,12 @@ pub fn rva_in(
     offset: usize,
     section: &SectionTable,
     file_alignment: u32,
-    opts: &ParseOptions,
+    mapping: Mapping,
 ) -> Option<usize>
-    ensures { result ≡ rva_in opts.now file_alignment offset section.now }
+    ensures { result ≡ rva_in mapping file_alignment offset section.now }
 {
-    let (first, end) = window_with_opts(section, file_alignment, opts)?;
-    let begin = raw_begin(section, opts) as usize;
+    let (first, end) = window_by(section, file_alignment, mapping)?;
+    let begin = raw_begin(section, mapping) as usize;
     if offset < begin || end - first <= offset - begin {
         return None;
     }
@@ -38,10 +39,15 @@ fn is_mapped_back(
     opts: &ParseOptions,
 ) -> bool
     ensures { result
-        ≡ maps_to opts.now sections.now file_alignment offset
-        (rva_in opts.now file_alignment offset section.now) }
+        ≡ maps_to (mapping_by opts.now) sections.now file_alignment offset
+        (rva_in (mapping_by opts.now) file_alignment offset section.now) }
 {
-    let Some(rva) = rva_in(offset, section, file_alignment, opts) else {
+    let Some(rva) = rva_in(
+        offset,
+        section,
+        file_alignment,
+        View::Sections.mapping(opts),
+    ) else {
         return false;
     };
     match find_offset(rva, sections, file_alignment, opts) {
@@ -58,8 +64,8 @@ fn first_back<'s>(
     opts: &ParseOptions,
 ) -> Option<&'s SectionTable>
     ensures { option_copied result
-        ≡ find (λ s. maps_to opts.now sections.now file_alignment offset
-        (rva_in opts.now file_alignment offset s)) sections.now }
+        ≡ find (λ s. maps_to (mapping_by opts.now) sections.now file_alignment offset
+        (rva_in (mapping_by opts.now) file_alignment offset s)) sections.now }
 {
     sections.iter().find(|section| is_mapped_back(offset, section, sections, file_alignment, opts))
 }
@@ -72,13 +78,18 @@ fn address_by(
     file_alignment: u32,
     opts: &ParseOptions,
 ) -> Option<usize>
-    ensures { result ≡ file_address opts.now sections.now file_alignment offset }
+    ensures { result ≡ file_address (mapping_by opts.now) sections.now file_alignment offset }
 {
     if !opts.resolve_rva {
         return Some(offset);
     }
     let section = first_back(offset, sections, file_alignment, opts)?;
-    rva_in(offset, section, file_alignment, opts)
+    rva_in(
+        offset,
+        section,
+        file_alignment,
+        View::Sections.mapping(opts),
+    )
 }
 
 /// The address that [`find_offset`] maps to the file offset `offset`. If there are several, it is
@@ -99,10 +110,10 @@ pub fn find_rva(
     file_alignment: u32,
     opts: &ParseOptions,
 ) -> Option<usize>
-    ensures value { result ≡ file_address opts.now sections.now file_alignment offset }
+    ensures value { result ≡ file_address (mapping_by opts.now) sections.now file_alignment offset }
     ensures back { MatchOption result
-        (IsMappedFromNowhere opts.now sections.now file_alignment offset)
-        (λ rva. file_offset opts.now sections.now file_alignment rva ≡ Some offset) }
+        (IsMappedFromNowhere (mapping_by opts.now) sections.now file_alignment offset)
+        (λ rva. file_offset (mapping_by opts.now) sections.now file_alignment rva ≡ Some offset) }
 {
     address_by(offset, sections, file_alignment, opts)
 }

@@ -6,6 +6,7 @@ ghost use Rattle.std.specs.Fn.{FnReturnsAt};
 ghost use Rattle.readings.specs.Tests.{IsTest};
 ghost use Rattle.goblin_pe_sect.specs.SectionTable.{Section, front_section, mapped_sections};
 
+use crate::options::View;
 use crate::section_table::{SectionRecords, SectionTable};
 
 /// What maps addresses: the sections and, after them, the front of the file if it is mapped.
@@ -13,6 +14,8 @@ use crate::section_table::{SectionRecords, SectionTable};
 pub struct MappedRecords<'a> {
     /// The section headers.
     pub records: SectionRecords<'a>,
+    /// The view in which they are mapped: how long their windows are.
+    pub view: View,
     /// The size of the headers, in bytes, if the front of the file is mapped at the image's base;
     /// `None` if it is not. The front is mapped as [`front_section`] says.
     pub front: Option<u32>,
@@ -51,13 +54,12 @@ impl<'a> MappedRecords<'a> {
             (λ both. mapped_sections self.now ≡ both.0 ∷ mapped_sections both.1) }
     {
         if let Some((section, records)) = self.records.split_first() {
-            let front = self.front;
-            return Some((section, MappedRecords { records, front }));
+            return Some((section, MappedRecords { records, ..*self }));
         }
         let size = self.front?;
         let later = MappedRecords {
-            records: self.records,
             front: None,
+            ..*self
         };
         Some((front_section(size), later))
     }

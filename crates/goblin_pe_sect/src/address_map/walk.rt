@@ -9,7 +9,7 @@ ghost use Rattle.goblin_pe_sect.specs.SectionTable.{mapped_of, mapped_sections};
 
 use super::records::MappedRecords;
 use super::run::Run;
-use crate::options::ParseOptions;
+use crate::options::Mapping;
 use crate::utils::{past_window, raw_begin, section_window};
 
 // All addresses. Each is its own file offset.
@@ -22,22 +22,22 @@ const ALL_ADDRESSES: Run = Run {
 // The file offset of an address, by the first section whose window holds it. Sets `run` to the
 // addresses around it that this section owns: those up to the windows of the sections before it in
 // the table. (So the walk compares the windows of all these sections with the address, which the
-// search in `mapping` does not. The address is not a u32, which would be kept in two registers.)
+// search in `utils` does not. The address is not a u32, which would be kept in two registers.)
 #[inline(always)]
 fn find_window(
     records: MappedRecords,
     file_alignment: u32,
-    opts: &ParseOptions,
+    mapping: Mapping,
     rva: usize,
     run: &mut Run,
 ) -> Option<usize>
-    requires maps { IsTrue opts.now.resolve_rva }
+    requires maps { IsTrue mapping.resolve_rva }
     requires aligned { IsTrue (is_power_of_two file_alignment) }
     requires small { rva < 2 ^ 32 }
     ensures value { result
-        ≡ file_offset opts.now (mapped_sections records.entry) file_alignment rva }
+        ≡ file_offset mapping (mapped_sections records.entry) file_alignment rva }
     ensures is { let sections = mapped_sections records.entry in
-        let offset_of = file_offset opts.now sections file_alignment in
+        let offset_of = file_offset mapping sections file_alignment in
         IsRun offset_of run.old → IsRun offset_of run.new }
     ensures about { IfSome result (λ p. offset_in_run run.new rva ≡ Some p) }
 {
@@ -51,13 +51,13 @@ fn find_window(
             low = low.max(past);
             continue 'records;
         }
-        let (begin, end) = section_window(&section, file_alignment, opts);
+        let (begin, end) = section_window(&section, file_alignment, mapping);
         if rva < begin {
             high = high.min(begin);
         } else if end <= rva {
             low = low.max(end);
         } else {
-            let pointer = raw_begin(&section, opts) as usize;
+            let pointer = raw_begin(&section, mapping) as usize;
             let first = low.max(begin);
             *run = Run {
                 first,
@@ -78,26 +78,26 @@ fn find_window(
 pub(crate) fn find_by_sections(
     records: MappedRecords,
     file_alignment: u32,
-    opts: &ParseOptions,
+    mapping: Mapping,
     rva: usize,
     run: &mut Run,
 ) -> Option<usize>
     requires { rva < 2 ^ 32 }
     ensures value { result
-        ≡ file_offset opts.now (mapped_sections records.entry) file_alignment rva }
+        ≡ file_offset mapping (mapped_sections records.entry) file_alignment rva }
     ensures is { let sections = mapped_sections records.entry in
-        let offset_of = file_offset opts.now sections file_alignment in
+        let offset_of = file_offset mapping sections file_alignment in
         IsRun offset_of run.old → IsRun offset_of run.new }
     ensures about { IfSome result (λ p. offset_in_run run.new rva ≡ Some p) }
 {
-    if !opts.resolve_rva {
+    if !mapping.resolve_rva {
         *run = ALL_ADDRESSES;
         return Some(rva);
     }
     if !file_alignment.is_power_of_two() {
         return None;
     }
-    find_window(records, file_alignment, opts, rva, run)
+    find_window(records, file_alignment, mapping, rva, run)
 }
 
 // As `find_by_sections`, for sections with the file's front, with which address 0 has no offset.
@@ -105,15 +105,15 @@ pub(crate) fn find_by_sections(
 fn find_past_null(
     records: MappedRecords,
     file_alignment: u32,
-    opts: &ParseOptions,
+    mapping: Mapping,
     rva: usize,
     run: &mut Run,
 ) -> Option<usize>
     requires { rva < 2 ^ 32 }
     ensures value { let sections = mapped_sections records.entry in
-        result ≡ without_null true (file_offset opts.now sections file_alignment) rva }
+        result ≡ without_null true (file_offset mapping sections file_alignment) rva }
     ensures is { let sections = mapped_sections records.entry in
-        let offset_of = without_null true (file_offset opts.now sections file_alignment) in
+        let offset_of = without_null true (file_offset mapping sections file_alignment) in
         IsRun offset_of run.old → IsRun offset_of run.new }
     ensures about { IfSome result (λ p. offset_in_run run.new rva ≡ Some p) }
 {
@@ -121,7 +121,7 @@ fn find_past_null(
         return None;
     }
     let mut found = Run::default();
-    let offset = find_by_sections(records, file_alignment, opts, rva, &mut found)?;
+    let offset = find_by_sections(records, file_alignment, mapping, rva, &mut found)?;
     *run = found.past_null();
     Some(offset)
 }
@@ -133,19 +133,19 @@ fn find_past_null(
 pub(super) fn find_in_records(
     records: MappedRecords,
     file_alignment: u32,
-    opts: &ParseOptions,
+    mapping: Mapping,
     rva: usize,
     run: &mut Run,
 ) -> Option<usize>
     requires { rva < 2 ^ 32 }
     ensures value { result
-        ≡ table_offset opts.now (mapped_of records.entry) file_alignment rva }
-    ensures is { let offset_of = table_offset opts.now (mapped_of records.entry) file_alignment in
+        ≡ table_offset mapping (mapped_of records.entry) file_alignment rva }
+    ensures is { let offset_of = table_offset mapping (mapped_of records.entry) file_alignment in
         IsRun offset_of run.old → IsRun offset_of run.new }
     ensures about { IfSome result (λ p. offset_in_run run.new rva ≡ Some p) }
 {
     match records.front {
-        Some(_) => find_past_null(records, file_alignment, opts, rva, run),
-        None => find_by_sections(records, file_alignment, opts, rva, run),
+        Some(_) => find_past_null(records, file_alignment, mapping, rva, run),
+        None => find_by_sections(records, file_alignment, mapping, rva, run),
     }
 }

@@ -13,7 +13,7 @@ ghost use Rattle.goblin_pe_sect.specs.BaseRelocations.{block_item, block_items, 
 ghost use Rattle.goblin_pe_sect.specs.BaseRelocations.{relocation_bytes, word_fields, word_items};
 ghost use Rattle.goblin_pe_sect.specs.BaseRelocations.{word_record, words_left};
 ghost use Rattle.goblin_pe_sect.specs.Mapping.{file_offset};
-ghost use Rattle.goblin_pe_sect.specs.Options.{default_options};
+ghost use Rattle.goblin_pe_sect.specs.Options.{default_options, mapping_by};
 
 use crate::data_directories::DataDirectory;
 use crate::options::ParseOptions;
@@ -55,7 +55,8 @@ impl<'a> RelocationData<'a> {
         sections: &[SectionTable],
         file_alignment: u32,
     ) -> Result<Self>
-        ensures { let offset_of = file_offset default_options sections.now file_alignment in
+        ensures { let mapping = mapping_by default_options in
+            let offset_of = file_offset mapping sections.now file_alignment in
             Reads relocation_bytes result (relocation_data offset_of dd) bytes.now }
     {
         let opts = ParseOptions::default();
@@ -77,7 +78,8 @@ impl<'a> RelocationData<'a> {
         file_alignment: u32,
         opts: &ParseOptions,
     ) -> Result<Self>
-        ensures { let offset_of = file_offset opts.now sections.now file_alignment in
+        ensures { let mapping = mapping_by opts.now in
+            let offset_of = file_offset mapping sections.now file_alignment in
             Reads relocation_bytes result (relocation_data offset_of dd) bytes.now }
     {
         let rva = dd.virtual_address as usize;

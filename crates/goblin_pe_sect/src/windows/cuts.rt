@@ -3,7 +3,7 @@
 ghost use Rattle.std.specs.Prelude.{◌<◌, IfOk};
 ghost use Rattle.goblin_pe_sect.specs.WindowIndex.{AreNear, IsCut};
 
-use crate::options::ParseOptions;
+use crate::options::Mapping;
 use crate::section_table::SectionTable;
 use crate::utils::section_window;
 use std::alloc::{AllocError, Global};
@@ -14,16 +14,16 @@ pub(super) fn cuts_of(
     alloc: Global,
     sections: &[SectionTable],
     file_alignment: u32,
-    opts: &ParseOptions,
+    mapping: Mapping,
 ) -> Result<Vec<usize>, AllocError>
     requires { 0 < file_alignment }
-    ensures cut { IfOk result (λ v. IsCut opts.now sections.now file_alignment v.items) }
-    ensures near { IfOk result (λ v. AreNear opts.now sections.now file_alignment) }
+    ensures cut { IfOk result (λ v. IsCut mapping sections.now file_alignment v.items) }
+    ensures near { IfOk result (λ v. AreNear mapping sections.now file_alignment) }
 {
     let mut points = Vec::with_capacity(alloc, 2 * sections.len() + 1)?;
     points.push(0)?;
     for section in sections {
-        let (begin, end) = section_window(section, file_alignment, opts);
+        let (begin, end) = section_window(section, file_alignment, mapping);
         if begin < end {
             points.push(begin)?;
             points.push(end)?;

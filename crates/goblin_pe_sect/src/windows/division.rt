@@ -11,7 +11,7 @@ ghost use Rattle.goblin_pe_sect.specs.WindowIndex.{begins_of, owners_of};
 use super::bounds::Piece;
 use super::cuts::cuts_of;
 use super::owners::{Owner, Window, put_pieces, window_at};
-use crate::options::ParseOptions;
+use crate::options::Mapping;
 use crate::section_table::SectionTable;
 use goblin_base::room::make_room;
 use std::alloc::{AllocError, Global};
@@ -53,16 +53,16 @@ fn push_in_order(
     pieces: &mut Vec<Piece>,
     sections: &[SectionTable],
     file_alignment: u32,
-    opts: &ParseOptions,
+    mapping: Mapping,
 ) -> Result<bool, AllocError>
     requires aligned { 0 < file_alignment }
     requires empty { pieces.old.items ≡ [] }
     ensures { IfOk result (λ got_through. IsTrue got_through
-        → IsDivision opts.now sections.now file_alignment pieces.new.items) }
+        → IsDivision mapping sections.now file_alignment pieces.new.items) }
 {
     let mut end = 0;
     'sections: for (index, section) in sections.iter().enumerate() {
-        let window = window_at(index, section, file_alignment, opts);
+        let window = window_at(index, section, file_alignment, mapping);
         if window.begin < window.end {
             if window.begin < end {
                 return Ok(false);
@@ -83,13 +83,20 @@ fn division_of_any(
     mut pieces: Vec<Piece>,
     sections: &[SectionTable],
     file_alignment: u32,
-    opts: &ParseOptions,
+    mapping: Mapping,
 ) -> Result<Vec<Piece>, AllocError>
     requires { 0 < file_alignment }
-    ensures { IfOk result (λ v. IsDivision opts.now sections.now file_alignment v.items) }
+    ensures { IfOk result (λ v. IsDivision mapping sections.now file_alignment v.items) }
 {
-    let begins = cuts_of(alloc, sections, file_alignment, opts)?;
-    put_pieces(alloc, &begins, sections, file_alignment, opts, &mut pieces)?;
+    let begins = cuts_of(alloc, sections, file_alignment, mapping)?;
+    put_pieces(
+        alloc,
+        &begins,
+        sections,
+        file_alignment,
+        mapping,
+        &mut pieces,
+    )?;
     Ok(pieces)
 }
 
@@ -99,14 +106,14 @@ pub(super) fn division_of(
     alloc: Global,
     sections: &[SectionTable],
     file_alignment: u32,
-    opts: &ParseOptions,
+    mapping: Mapping,
 ) -> Result<Vec<Piece>, AllocError>
     requires { 0 < file_alignment }
-    ensures { IfOk result (λ v. IsDivision opts.now sections.now file_alignment v.items) }
+    ensures { IfOk result (λ v. IsDivision mapping sections.now file_alignment v.items) }
 {
     let mut pieces = Vec::with_capacity(alloc, 2 * sections.len() + 1)?;
-    if push_in_order(&mut pieces, sections, file_alignment, opts)? {
+    if push_in_order(&mut pieces, sections, file_alignment, mapping)? {
         return Ok(pieces);
     }
-    division_of_any(alloc, pieces, sections, file_alignment, opts)
+    division_of_any(alloc, pieces, sections, file_alignment, mapping)
 }

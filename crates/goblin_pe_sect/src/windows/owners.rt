@@ -12,7 +12,7 @@ ghost use Rattle.goblin_pe_sect.specs.WindowStretches.{owner_among, piece_among,
 ghost use Rattle.goblin_pe_sect.specs.WindowStretches.{FindTheSame, IsRising, section_windows};
 
 use super::bounds::Piece;
-use crate::options::ParseOptions;
+use crate::options::Mapping;
 use crate::section_table::SectionTable;
 use crate::utils::{raw_begin, section_window};
 use std::alloc::{AllocError, Global};
@@ -48,20 +48,20 @@ pub(super) fn window_at(
     index: usize,
     section: &SectionTable,
     file_alignment: u32,
-    opts: &ParseOptions,
+    mapping: Mapping,
 ) -> Window
     requires { 0 < file_alignment }
-    ensures value { result ≡ section_window_at opts.now file_alignment index section.now }
+    ensures value { result ≡ section_window_at mapping file_alignment index section.now }
     ensures near { result.end ≤ result.begin + 2 ^ 33 }
 {
-    let (begin, end) = section_window(section, file_alignment, opts);
+    let (begin, end) = section_window(section, file_alignment, mapping);
     Window {
         begin,
         end,
         owner: Owner {
             index,
             address: section.virtual_address,
-            pointer: raw_begin(section, opts),
+            pointer: raw_begin(section, mapping),
         },
     }
 }
@@ -72,14 +72,14 @@ fn windows_of(
     alloc: Global,
     sections: &[SectionTable],
     file_alignment: u32,
-    opts: &ParseOptions,
+    mapping: Mapping,
 ) -> Result<Vec<Window>, AllocError>
     requires { 0 < file_alignment }
-    ensures { IfOk result (λ v. v.items ≡ section_windows opts.now file_alignment sections.now) }
+    ensures { IfOk result (λ v. v.items ≡ section_windows mapping file_alignment sections.now) }
 {
     let mut windows = Vec::with_capacity(alloc, sections.len())?;
     'sections: for (index, section) in sections.iter().enumerate() {
-        windows.push(window_at(index, section, file_alignment, opts))?;
+        windows.push(window_at(index, section, file_alignment, mapping))?;
     }
     Ok(windows)
 }
@@ -207,7 +207,7 @@ pub(super) fn put_pieces(
     begins: &[usize],
     sections: &[SectionTable],
     file_alignment: u32,
-    opts: &ParseOptions,
+    mapping: Mapping,
     pieces: &mut Vec<Piece>,
 ) -> Result<(), AllocError>
     requires aligned { 0 < file_alignment }
@@ -215,9 +215,9 @@ pub(super) fn put_pieces(
     ensures begins { OnOk result (begins_of pieces.new.items ≡ begins.now) }
     ensures owners { OnOk result
         (owners_of pieces.new.items
-        ≡ map (first_owner opts.now sections.now file_alignment) begins.now) }
+        ≡ map (first_owner mapping sections.now file_alignment) begins.now) }
 {
-    let windows = windows_of(alloc, sections, file_alignment, opts)?;
+    let windows = windows_of(alloc, sections, file_alignment, mapping)?;
     pieces.clear();
     push_pieces(alloc, begins, &windows, pieces)?;
     Ok(())

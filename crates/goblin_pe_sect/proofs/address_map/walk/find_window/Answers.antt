@@ -9,7 +9,7 @@ pub records-preserved-then-past-rva : goal.records-preserved-then-past-rva
 records-preserved-then-past-rva c =
     let now = c.records.invariant in
     record {
-      is = passed_before _ _ c.requires.maps c.requires.aligned _ _ _ _ _ now.is _ _ c.in-Some.ensures _ _ c.past_window-past.result (grind (arith, common_steps)) refl (c.past_window-past.ensures.past c.args.opts.now c.args.file_alignment) c.if-past-rva.true;
+      is = passed_before _ _ c.requires.maps c.requires.aligned _ _ _ _ _ now.is _ _ c.in-Some.ensures _ _ c.past_window-past.result (grind (arith, common_steps)) refl (c.past_window-past.ensures.past c.args.mapping c.args.file_alignment) c.if-past-rva.true;
       same = now.same;
     }
 
@@ -51,7 +51,7 @@ returns-else-end-rva-clause-value c =
     let rva = c.args.rva in
     let has = owned _ _ c.requires.maps c.requires.aligned _ _ _ _ _ now.is s _ c.in-Some.ensures rva now.is.from now.is.to
     (omega (arith, w.begin, c.if-rva-begin.false)) (omega (arith, w.end, c.if-end-rva.false)) in
-    let same : c.raw_begin-pointer.result + (rva - c.section_window-begin.result.0) ≡ offset_in c.args.opts.now s rva = omega (arith, c.raw_begin-pointer.ensures, w.begin) in
+    let same : c.raw_begin-pointer.result + (rva - c.section_window-begin.result.0) ≡ offset_in c.args.mapping s rva = omega (arith, c.raw_begin-pointer.ensures, w.begin) in
     ap (λ (n : ℕ). Some n) same ∙ sym has
 
 pub returns-else-end-rva-clause-is : goal.returns-else-end-rva-clause-is
@@ -65,7 +65,7 @@ returns-else-end-rva-clause-is c =
       answers = λ rva from to.
           let has = owned _ _ c.requires.maps c.requires.aligned _ _ _ _ _ c.records.invariant.is s _ c.in-Some.ensures rva
           (omega (arith, from, c.max-first.ensures)) (omega (arith, from, to, c.min.ensures)) (omega (arith, from, c.max-first.ensures, w.begin)) (omega (arith, from, to, c.min.ensures, w.end)) in
-          let same : offset_in c.args.opts.now s rva ≡ c.raw_begin-pointer.result + (first - c.section_window-begin.result.0) + (rva - first) = omega (arith, from, c.max-first.ensures, c.raw_begin-pointer.ensures, w.begin) in
+          let same : offset_in c.args.mapping s rva ≡ c.raw_begin-pointer.result + (first - c.section_window-begin.result.0) + (rva - first) = omega (arith, from, c.max-first.ensures, c.raw_begin-pointer.ensures, w.begin) in
           has ∙ ap (λ (n : ℕ). Some n) same;
     }
 

@@ -7,7 +7,7 @@ use Rattle.goblin_pe_sect.proofs.address_map.walk.find_window.Given as goal
 
 abbrev pub invariant-records : goal.invariant-records
 invariant-records l = record {
-  is : IsLeft l.opts l.file_alignment (mapped_sections l.fn.records) (mapped_sections l.rest) l.rva l.low l.high;
+  is : IsLeft l.mapping l.file_alignment (mapped_sections l.fn.records) (mapped_sections l.rest) l.rva l.low l.high;
   same : l.run ≡ l.fn.run;
 }
 

@@ -1,4 +1,4 @@
-use Rattle.std.proofs.Common.{ℕ, ◌≡◌, ◌∙◌, ◌+◌, ◌-◌, ◌*◌, ◌^◌, ◌<◌, ◌≤◌, length, Some, slice_get, refl, ap, inl, inr, arith}
+use Rattle.std.proofs.Common.{◌≡◌, ◌∙◌, ◌^◌, ◌<◌, ◌≤◌, Some, slice_get, refl, ap, inl, inr, arith}
 use Rattle.std.proofs.lemmas.Bool.{cases_lt}
 use Rattle.std.proofs.lemmas.Option.{slice_get_read}
 use Rattle.goblin_pe_sect.specs.Mapping.{read_size, window_end}
@@ -12,14 +12,14 @@ pub sections-preserved : goal.sections-preserved
 sections-preserved c =
     let s = c.index-sections-index.result in
     let here : slice_get c.args.sections.now c.sections.index ≡ Some s = slice_get_read _ _ _ s refl c.sections-test.true c.index-sections-index.is in
-    let window : c.window_at-window.result ≡ section_window_at c.args.opts.now c.args.file_alignment c.sections.index s = c.window_at-window.ensures.value in
+    let window : c.window_at-window.result ≡ section_window_at c.args.mapping c.args.file_alignment c.sections.index s = c.window_at-window.ensures.value in
     let begin : c.window_at-window.result.begin ≡ s.virtual_address = ap (λ (w : Window). w.begin) window in
-    let end : c.window_at-window.result.end ≡ window_end c.args.opts.now s c.args.file_alignment = ap (λ (w : Window). w.end) window in
-    let small : read_size c.args.opts.now.raw_pointer_rule s c.args.file_alignment ≤ 2 ^ 33 = omega (arith, c.window_at-window.ensures.near, begin, end) in
+    let end : c.window_at-window.result.end ≡ window_end c.args.mapping s c.args.file_alignment = ap (λ (w : Window). w.end) window in
+    let small : read_size c.args.mapping.view s c.args.file_alignment ≤ 2 ^ 33 = omega (arith, c.window_at-window.ensures.near, begin, end) in
     elim c.if-window.branch [
       | then-window+else-window-end+in_ok-push_window w ↦
-          let some : 0 < read_size c.args.opts.now.raw_pointer_rule s c.args.file_alignment = omega (arith, w.if-window.true, begin, end) in
-          let last : c.if-window.end ≡ window_end c.args.opts.now s c.args.file_alignment = w.end-is ∙ end in
+          let some : 0 < read_size c.args.mapping.view s c.args.file_alignment = omega (arith, w.if-window.true, begin, end) in
+          let last : c.if-window.end ≡ window_end c.args.mapping s c.args.file_alignment = w.end-is ∙ end in
           elim (cases_lt c.sections.end s.virtual_address) [
             | inl after ↦
                 rw (w.pieces-is, last, w.in_ok-push_window.ensures.apart_begins (omega arith), w.in_ok-push_window.ensures.apart_owners (omega arith), window) (in_order_apart _ _ _ _ _ _ _ s c.sections.invariant here after some small)
@@ -28,7 +28,7 @@ sections-preserved c =
                 rw (w.pieces-is, last, w.in_ok-push_window.ensures.begins (omega arith), w.in_ok-push_window.ensures.owners (omega arith), window) (in_order_touching _ _ _ _ _ _ _ s c.sections.invariant here touching some small)
           ]
       | else-window w ↦
-          let empty : read_size c.args.opts.now.raw_pointer_rule s c.args.file_alignment ≡ 0 = omega (arith, w.if-window.false, begin, end) in
+          let empty : read_size c.args.mapping.view s c.args.file_alignment ≡ 0 = omega (arith, w.if-window.false, begin, end) in
           rw (w.pieces-is, w.end-is) (in_order_empty _ _ _ _ _ _ _ s c.sections.invariant here empty)
     ]
 

@@ -11,4 +11,4 @@ returns-clause-begins c =
 
 pub returns-clause-owners : goal.returns-clause-owners
 returns-clause-owners c =
-    rw (c.in_ok-push_pieces.ensures, c.clear.ensures.items, c.deref.ensures.value, owners-among c.in_ok-windows.windows.items c.args.begins.now, c.in_ok-windows.ensures) (owners-sections c.args.opts.now c.args.file_alignment c.args.sections.now c.args.begins.now)
+    rw (c.in_ok-push_pieces.ensures, c.clear.ensures.items, c.deref.ensures.value, owners-among c.in_ok-windows.windows.items c.args.begins.now, c.in_ok-windows.ensures) (owners-sections c.args.mapping c.args.file_alignment c.args.sections.now c.args.begins.now)
