@@ -127,8 +127,8 @@ fn is_unstored(section: &SectionTable) -> bool
         && section.pointer_to_raw_data == 0
 }
 
-// How many bytes of a section are raw data: from where they begin, by the rule of `mapping`, to where
-// they end as stored.
+// How many bytes of a section are raw data: from where they begin, by the rule of `mapping`, to
+// where they end as stored.
 fn stored_size(section: &SectionTable, mapping: Mapping) -> usize
     ensures value { result ≡ stored_size mapping section.now }
     ensures small { result < 2 ^ 33 }

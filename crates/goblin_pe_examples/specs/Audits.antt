@@ -69,9 +69,8 @@ is_code_there (Some s) = is_code s
 abbrev pub is_entered_in_code : ParseOptions → Option OptionalHeader → List Section → Bool
 is_entered_in_code opts None sections = false
 is_entered_in_code opts (Some h) sections =
-    is_code_there
-    (section_at (mapping_by opts) h.windows_fields.file_alignment h.standard_fields.address_of_entry_point
-    sections)
+    let entry = h.standard_fields.address_of_entry_point in
+    is_code_there (section_at (mapping_by opts) h.windows_fields.file_alignment entry sections)
 
 -- the same for a file
 abbrev pub enters_code : Reading Bool
