@@ -138,7 +138,7 @@ def type_of(text: str) -> Type:
 def record_of(doc: str, text: str) -> Declared:
     """A record. One that has bytes or records alone is a pointer and a length or count."""
     (name,) = read(r"pub struct (\w+)(?:<'a>)? \{\n", text)
-    items = [Item(field, type_of(it), said) for field, it, said in rows_of(text, r"pub (\w+): (.+),")]
+    items = [Item(field, type_of(it), comment) for field, it, comment in rows_of(text, r"pub (\w+): (.+),")]
     if any(it.type.is_written or it.type.is_reference and it.type.form not in ("slice", "table") for it in items):
         raise Refused("a reference in the record " + name)
     if len(items) == 1 and items[0].type.is_reference:
@@ -152,8 +152,8 @@ def enum_of(doc: str, text: str) -> Declared:
     """An enum of numbers. A variant without a number has the one after that before it."""
     (name,) = read(r"(?:pub(?:\(crate\))? )?enum (\w+) \{\n", text)
     items: List[Item] = []
-    for variant, number, said in rows_of(text, r"(\w+)(?: = (\d+))?,"):
-        items.append(Item(variant, Type("number", "u32"), said, number or str(int(items[-1].number) + 1 if items else 0)))
+    for variant, number, comment in rows_of(text, r"(\w+)(?: = (\d+))?,"):
+        items.append(Item(variant, Type("number", "u32"), comment, number or str(int(items[-1].number) + 1 if items else 0)))
     return Declared(named(name), doc, items)
 
 

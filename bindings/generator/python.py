@@ -14,8 +14,8 @@ def python_files(it: Interface) -> Dict[str, str]:
     def kind(of: Type) -> str:
         if of.form == "pointer":
             return "c.POINTER(%s)" % of.name if of.name else "c.c_void_p"
-        plain = number(of.name) if of.name in NUMBERS else of.name
-        return "%s * %d" % (plain, of.length) if of.form == "array" else plain
+        single = number(of.name) if of.name in NUMBERS else of.name
+        return "%s * %d" % (single, of.length) if of.form == "array" else single
 
     def record(r: Declared) -> str:
         rows = "".join('        ("%s", %s),\n' % (f.name, kind(f.type)) for f in r.items)
@@ -24,8 +24,8 @@ def python_files(it: Interface) -> Dict[str, str]:
     def taken(of: Type) -> List[str]:
         if of.form in ("slice", "table"):
             return ["c.c_void_p", "c.c_size_t"]
-        plain = number(of.name) if of.name in NUMBERS else of.name
-        return ["c.POINTER(%s)" % plain if of.is_reference else plain]
+        single = number(of.name) if of.name in NUMBERS else of.name
+        return ["c.POINTER(%s)" % single if of.is_reference else single]
 
     def call(d: Declared) -> str:
         arguments = ", ".join(word for p in d.items for word in taken(p.type))

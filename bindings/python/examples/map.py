@@ -165,7 +165,7 @@ def drawn(part: Part, scale: Callable[[int], float], y: float) -> Iterator[str]:
     x, width, fill = scale(part.begin), scale(part.end) - scale(part.begin), FILLS[part.what]
     name = part.name if len(part.name) <= LONGEST else part.name[:LONGEST - 2] + ".."
     more = ' class="clear"' if fill.startswith("url") else ""
-    yield '<g><title>%s</title><rect x="%.1f" y="%.1f" width="%.1f" height="%d" fill="%s"/>' % (html.escape(said(part)), x, y, width, HEIGHT, fill)
+    yield '<g><title>%s</title><rect x="%.1f" y="%.1f" width="%.1f" height="%d" fill="%s"/>' % (html.escape(in_words(part)), x, y, width, HEIGHT, fill)
     if width > LETTER * len(name) + 4:
         yield text(x + width / 2, y + HEIGHT / 2 + 4, name, MIDDLE + more)
     elif width > 11:
@@ -173,7 +173,7 @@ def drawn(part: Part, scale: Callable[[int], float], y: float) -> Iterator[str]:
     yield "</g>"
 
 
-def said(part: Part) -> str:
+def in_words(part: Part) -> str:
     """A part in words."""
     return "%s (%s) at %#x, %d bytes" % (part.name, part.what, part.begin, part.end - part.begin)
 
@@ -263,7 +263,7 @@ def picture(image: Image, name: str, count: int, ranges: Optional[List[range]]) 
         WIDTH + LEFT + 60, height, WIDTH + LEFT + 60, height)
     yield '<title id="title">%s</title>' % html.escape(title)
     yield '<desc id="desc">In the file: %s. In memory: %s. The answers depend on %s bytes.</desc>' % (
-        html.escape("; ".join(map(said, [*parts, *tables]))), html.escape("; ".join(map(said, memory))),
+        html.escape("; ".join(map(in_words, [*parts, *tables]))), html.escape("; ".join(map(in_words, memory))),
         "unknown" if ranges is None else sum(map(len, ranges)))
     yield ('<style>text{font:11px sans-serif;fill:#000}.small{font-size:9px}.clear{stroke:#fff;stroke-width:4;paint-order:stroke}'
            'rect,path{stroke:#444;stroke-width:.6}.way{fill:#e8e8e8;stroke:#fff;stroke-width:1.5}</style><defs>')

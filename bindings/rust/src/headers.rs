@@ -62,13 +62,13 @@ pub(crate) const STUB: usize = 0x40;
 pub(crate) fn default_stub(image: &ffi::Image) -> &'static [u8] {
     static WRITTEN: OnceLock<Vec<u8>> = OnceLock::new();
     let written = WRITTEN.get_or_init(|| {
-        let plain = ffi::Image {
+        let replaced = ffi::Image {
             kind: 1,
             dos_stub_size: image.dos_stub_size,
             is_dos_stub_replaced: true,
             ..ffi::Image::default()
         };
-        written(&plain).unwrap_or_default()
+        written(&replaced).unwrap_or_default()
     });
     written.get(STUB..STUB + image.dos_stub_size).unwrap_or_default()
 }

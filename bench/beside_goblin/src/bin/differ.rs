@@ -146,14 +146,14 @@ fn changed(random: &mut Random, image: &[u8], places: &[usize], table: Directory
 }
 
 /// The answers about a file, a line each.
-type Said = Vec<String>;
+type Lines = Vec<String>;
 
 /// The answers of this library, and the file offset of the import directory; or the refusal.
-fn ours(file: &[u8]) -> Result<(Said, Option<usize>), goblin_pe::Error> {
+fn ours(file: &[u8]) -> Result<(Lines, Option<usize>), goblin_pe::Error> {
     let options = Options::default().with_mapping(Mapping::ByFileAlignment);
     let pe = Pe::read(file, options, &mut Budget::unlimited())?;
-    let lines = pe.sections.iter().map(|s| section_line!(s.name.0, s));
-    let mut said: Said = lines.collect();
+    let sections = pe.sections.iter().map(|s| section_line!(s.name.0, s));
+    let mut lines: Lines = sections.collect();
     // goblin counts the entries that were kept, this library those in the file.
     let (mut library, mut kept) = (None, 0);
     let size = if pe.image.is_64() { 8 } else { 4 };
@@ -161,12 +161,12 @@ fn ours(file: &[u8]) -> Result<(Said, Option<usize>), goblin_pe::Error> {
         kept = if library == Some(x.library) { kept + 1 } else { 0 };
         library = Some(x.library);
         let table = x.iat_rva.wrapping_sub((x.thunk_index * size) as u32);
-        said.push(import_line(x, table as usize + kept * size, size));
+        lines.push(import_line(x, table as usize + kept * size, size));
     }
     // goblin 0.2.1 leaves out what has no file offset.
     for x in pe.exports.iter().filter(|x| x.offset.is_some()) {
         let forwarder = x.forwarder.map(|it| it.to_string());
-        said.push(format!(
+        lines.push(format!(
             "export {:?} {:x?} {:x} {:?}",
             x.name.map(|it| it.0),
             x.offset,
@@ -176,7 +176,7 @@ fn ours(file: &[u8]) -> Result<(Said, Option<usize>), goblin_pe::Error> {
     }
     let imports = pe.image.directory(DirectoryType::ImportTable);
     let at = imports.and_then(|it| pe.image.find_offset(it.virtual_address));
-    Ok((said, at))
+    Ok((lines, at))
 }
 
 /// The line of an import, whose slot goblin has at this offset.
@@ -211,14 +211,14 @@ fn asks_for_too_much(file: &[u8]) -> Option<bool> {
 }
 
 /// The answers of goblin, or its refusal, or how it would have ended the process.
-fn goblins(file: &[u8]) -> Result<Result<Said, String>, Known> {
+fn goblins(file: &[u8]) -> Result<Result<Lines, String>, Known> {
     let read = catch_unwind(AssertUnwindSafe(|| match asks_for_too_much(file) {
         Some(true) => Err(Known::Growth),
         _ => Ok(PE::parse(file)),
     }))
     .map_err(|_| Known::Panic)??;
     Ok(read.map_err(|error| error.to_string()).and_then(|pe| {
-        let mut said: Said = pe
+        let mut lines: Lines = pe
             .sections
             .iter()
             .map(|s| {
@@ -229,7 +229,7 @@ fn goblins(file: &[u8]) -> Result<Result<Said, String>, Known> {
             .collect();
         let text = |it: &str| goblin_pe::Text(it.as_bytes()).to_string();
         for x in &pe.imports {
-            said.push(format!(
+            lines.push(format!(
                 "import {} {} {} {:x} {:x} {}",
                 text(&x.name),
                 text(x.dll),
@@ -244,7 +244,7 @@ fn goblins(file: &[u8]) -> Result<Result<Said, String>, Known> {
                 Reexport::DLLName { lib, export } => format!("{}.{}", text(lib), text(export)),
                 Reexport::DLLOrdinal { lib, ordinal } => format!("{}.#{ordinal}", text(lib)),
             });
-            said.push(format!(
+            lines.push(format!(
                 "export {:?} {:x?} {:x} {:?}",
                 x.name.map(|it| it.as_bytes()),
                 Some(x.offset),
@@ -260,7 +260,7 @@ fn goblins(file: &[u8]) -> Result<Result<Said, String>, Known> {
         if has_exports && pe.export_data.is_none() {
             Err("export data".into())
         } else {
-            Ok(said)
+            Ok(lines)
         }
     }))
 }
@@ -312,9 +312,9 @@ fn ends_before_zeros(file: &[u8], mut at: usize) -> bool {
 }
 
 /// Whether some section has a name with a slash at its front in this library, because it leads to no text.
-fn has_lost_name(said: &Said) -> bool {
+fn has_lost_name(lines: &Lines) -> bool {
     let slash = format!("section [{}, ", b'/');
-    said.iter().any(|line| line.starts_with(&slash))
+    lines.iter().any(|line| line.starts_with(&slash))
 }
 
 /// Why goblin reads a file that this library refuses.
