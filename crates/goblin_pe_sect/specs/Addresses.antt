@@ -76,7 +76,8 @@ AreMany count = 96 < count
 -- if addresses are mapped by windows, a walk goes over few sections only
 abbrev pub WalksFew : ParseOptions → Windows → Type 0
 WalksFew opts (Walked records file_alignment) =
-    HasPieces (mapping_in records.view opts) file_alignment → ¬ AreMany (length (recorded_sections records.records))
+    HasPieces (mapping_in records.view opts) file_alignment
+    → ¬ AreMany (length (recorded_sections records.records))
 WalksFew opts (Indexed index) = ⊤
 WalksFew opts (IndexedWithFront index) = ⊤
 

@@ -48,7 +48,8 @@ section_window_at mapping alignment i s =
 
 abbrev pub section_windows : Mapping → ℕ → List Section → List Window
 section_windows mapping alignment sections =
-    map (λ (r : ℕ × Section). section_window_at mapping alignment r.0 r.1) (enumerate_from 0 sections)
+    map (λ (r : ℕ × Section). section_window_at mapping alignment r.0 r.1)
+    (enumerate_from 0 sections)
 
 -- the numbers do not fall
 abbrev pub IsRising : List ℕ → Type 0

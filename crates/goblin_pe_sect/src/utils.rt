@@ -289,7 +289,8 @@ pub fn find_offset_or(
     opts: &ParseOptions,
     msg: &'static str,
 ) -> Result<usize>
-    ensures { Answers (λ p. p) result (file_offset (mapping_by opts.now) sections.now file_alignment rva)
+    ensures { let mapping = mapping_by opts.now in
+        Answers (λ p. p) result (file_offset mapping sections.now file_alignment rva)
         (IsMessage msg.now) }
 {
     find_offset(rva, sections, file_alignment, opts).ok_or(Error::Malformed(Cause::Message(msg)))
@@ -331,7 +332,8 @@ pub fn safe_try_name<'a>(
     file_alignment: u32,
     opts: &ParseOptions,
 ) -> Result<Option<&'a str>>
-    ensures { let m = with_whole_names (file_offset (mapping_by opts.now) sections.now file_alignment) in
+    ensures { let mapping = mapping_by opts.now in
+        let m = with_whole_names (file_offset mapping sections.now file_alignment) in
         Reads (option_map (λ s. s.now)) result
         (name_or_none (is_strict opts.now.parse_mode) m rva) bytes.now }
 {

@@ -108,18 +108,20 @@ impl WindowIndex {
         file_alignment: u32,
         opts: &ParseOptions,
     ) -> ResultOf<'e, WindowIndex>
-        ensures mapped { IfOk result
-            (λ w.
-            (rva : ℕ) → located w rva ≡ file_offset (mapping_by opts.now) sections.now file_alignment rva) }
+        ensures mapped { let mapping = mapping_by opts.now in
+            IfOk result
+            (λ w. (rva : ℕ) → located w rva ≡ file_offset mapping sections.now file_alignment rva) }
         ensures refused { IfErr result IsMemory }
         ensures few { IfOk result (λ w. length w.begins ≤ 2 * length sections.now + 1) }
-        ensures no_pieces { IfOk result (λ w. ¬ HasPieces (mapping_by opts.now) file_alignment → w.begins ≡ []) }
+        ensures no_pieces { let mapping = mapping_by opts.now in
+            IfOk result (λ w. ¬ HasPieces mapping file_alignment → w.begins ≡ []) }
         ensures cut { IfOk result
             (λ w.
             IsTrue opts.now.resolve_rva → IsTrue (is_power_of_two file_alignment)
             → IsCut (mapping_by opts.now) sections.now file_alignment w.begins) }
-        ensures owned { IfOk result
-            (λ w. w.owners ≡ map (first_owner (mapping_by opts.now) sections.now file_alignment) w.begins) }
+        ensures owned { let mapping = mapping_by opts.now in
+            IfOk result
+            (λ w. w.owners ≡ map (first_owner mapping sections.now file_alignment) w.begins) }
     {
         let mapping = View::Sections.mapping(opts);
         WindowIndex::prepare_by(alloc, sections, file_alignment, mapping)
