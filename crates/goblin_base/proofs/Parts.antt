@@ -15,7 +15,7 @@ use Rattle.goblin_base.specs.Footprints.{Agree, Covers, Range, led_to, positions
 use Rattle.goblin_base.specs.Parts.{between_footprint, bytes_between, front_through, least_place, moved_by, search_footprint}
 use Rattle.goblin_base.specs.Reading.{IsInFile}
 use Rattle.goblin_base.specs.Strtab.{IsStringTableFault, string_table}
-use Rattle.goblin_base.proofs.Footprints.{agree-led, agree-slice, same-byte, same-number, same-slice_range, same-within}
+use Rattle.goblin_base.proofs.Footprints.{agree-led, agree-slice, same-byte, same-number, same-slice_range, same-within, same_if}
 use Rattle.goblin_base.proofs.Inside.{AreInside, positions-in}
 use Rattle.goblin_base.proofs.Readings.{by_cases-not_memory}
 
@@ -101,21 +101,13 @@ slice-moved-in begin end bytes ranges h =
 
 -- ---- the bytes between two offsets
 
-same_if : {A : Type 0} (test again : Bool) (x y : A) → test ≡ again → (test ≡ true → x ≡ y)
-    → cond test (Some x) None ≡ cond again (Some y) None
-same_if {A} true true x y is same = ap (λ (z : A). Some z) (same refl)
-same_if true false x y is same = absurd cc
-same_if false true x y is same = absurd cc
-same_if false false x y is same = refl
-
 pub same-bytes_between : (a b : List ℕ) (begin end : ℕ)
     → Agree (between_footprint a begin end) a b
     → bytes_between a begin end ≡ bytes_between b begin end
 same-bytes_between a b begin end h =
     same_if (nat_le begin end && nat_le end (length a)) (nat_le begin end && nat_le end (length b))
-    (slice_range a begin end) (slice_range b begin end)
-    (ap (λ (n : ℕ). nat_le begin end && nat_le end n) h.same_length)
-    (λ there.
+    _ _ None (ap (λ (n : ℕ). nat_le begin end && nat_le end n) h.same_length)
+    (λ there. ap Some (
     let tests = and_parts (nat_le begin end) (nat_le end (length a)) there in
     let low = leb-true begin end tests.0 in
     let high = leb-true end (length a) tests.1 in
@@ -126,7 +118,7 @@ same-bytes_between a b begin end h =
     let all : begin + (end - begin) ≡ end = omega (arith, low) in
     subst (λ (k : ℕ). slice_range a begin k ≡ slice_range b begin k) all
     (same-within begin end a b begin (end - begin) own (omega arith) (omega (arith, all))
-    (omega (arith, all, high))))
+    (omega (arith, all, high)))))
 
 between_by : (bytes own : List ℕ) (begin end : ℕ) (there : Bool)
     → (there ≡ true → end ≤ length bytes)
@@ -274,18 +266,10 @@ module _ (endian : Endian) (n more : ℕ) (test : ℕ → Bool) where
 pub same-string_table : (a b : List ℕ) (p n : ℕ) → Agree (slice_footprint a p n) a b
     → string_table a p n ≡ string_table b p n
 same-string_table a b p n h =
-    let long : nat_le (p + n) (length a) ≡ nat_le (p + n) (length b) =
-    ap (nat_le (p + n)) h.same_length in
-    elim (cases_Bool (nat_le (p + n) (length a))) [
-      | inl there ↦
-          ap (λ (own : List ℕ). cond (nat_le (p + n) (length a)) (text_of own) None)
-          (same-slice_range a b p n h (leb-true (p + n) (length a) there))
-          ∙ ap (λ (t : Bool). cond t (text_of (slice_range b p (p + n))) None) long
-      | inr past ↦
-          cond-false (nat_le (p + n) (length a)) (text_of (slice_range a p (p + n))) None past
-          ∙ sym (cond-false (nat_le (p + n) (length b)) (text_of (slice_range b p (p + n))) None
-          (sym long ∙ past))
-    ]
+    same_if (nat_le (p + n) (length a)) (nat_le (p + n) (length b)) _ _ None
+    (ap (nat_le (p + n)) h.same_length)
+    (λ there.
+    ap text_of (same-slice_range a b p n h (leb-true (p + n) (length a) there)))
 
 pub string_table-not_memory : (bytes : List ℕ) (p n : ℕ) (e : ErrorOf)
     → IsStringTableFault bytes p n e → ¬ IsMemory e
