@@ -1,5 +1,5 @@
 -- What is reached lies in the file: one lemma for each form of footprint.
-use Rattle.std.proofs.Common.{◌≡◌, ◌<◌, ◌≤◌, ◌+◌, ◌*◌, ℕ, zero, suc, min, Bool, true, false, cond, nat_le, nat_lt, Option, Some, None, List, [], ◌∷◌, ◌++◌, length, subst, refl, arith, inl, inr, is_none, All, is_some}
+use Rattle.std.proofs.Common.{◌≡◌, ◌<◌, ◌≤◌, ◌+◌, ◌*◌, ℕ, zero, suc, min, Bool, true, false, cond, nat_le, nat_lt, Option, Some, None, List, [], ◌∷◌, ◌++◌, length, ap, subst, refl, arith, inl, inr, is_none, All, is_some}
 use Rattle.std.proofs.lemmas.Bool.{cases_lt, leb-true, ltb-true}
 use Rattle.std.proofs.lemmas.List.Elements.{All-append, All-cons, All-nil}
 use Rattle.goblin_base.specs.Bytes.{stretch}
@@ -8,6 +8,7 @@ use Rattle.goblin_base.specs.Reading.{IsInFile}
 use Rattle.goblin_base.specs.Tables.{Format, SlotFormat, concat_below, ends_table, entry_at, least, slot_at, slot_place, stop, whole_entries}
 use Rattle.goblin_base.proofs.Below.{least-before}
 use Rattle.goblin_base.proofs.Records.{record_at-some}
+use Rattle.goblin_base.proofs.SlotTables.{going}
 
 abbrev pub AreInside : List ℕ → List Range → Type 0
 AreInside bytes ranges = All (IsInFile bytes) ranges
@@ -15,11 +16,6 @@ AreInside bytes ranges = All (IsInFile bytes) ranges
 is_there : {V : Type 0} (slot : Option V) → is_some slot ≡ true → (v : V) × (slot ≡ Some v)
 is_there None e = absurd cc
 is_there (Some v) e = (v, refl)
-
-going_on : {V : Type 0} (is_last : V → Bool) (slot : Option V)
-    → ends_table is_last slot ≡ false → is_some slot ≡ true
-going_on is_last None e = absurd cc
-going_on is_last (Some v) e = refl
 
 module _ (bytes : List ℕ) where
   pub none-in : AreInside bytes []
@@ -97,7 +93,7 @@ module _ (bytes : List ℕ) where
         let last : Bool = is_some (slot_at slots bytes o (stop slots bytes o)) in
         elim (cases_lt j (stop slots bytes o)) [
           | inl before ↦
-              going_on slots.is_last (slot_at slots bytes o j) (before_stop j before)
+              ap is_some (going slots.is_last (slot_at slots bytes o j) (before_stop j before)).1
           | inr past ↦ at_stop j last refl past lt
         ]
 

@@ -1,6 +1,6 @@
 -- The ranges of marked positions: they cover what is marked, and are the only ones that do.
 use Rattle.std.proofs.Common.{◌≡◌, ◌<◌, ◌≤◌, ℕ, zero, suc, ◌+◌, ◌-◌, Bool, true, false, cond, eqb, leb, ltb, ◌&&◌, ◌||◌, List, [], ◌∷◌, length, get_or, drop, replicate, ap, sym, subst, ◌∙◌, refl, arith, inl, inr, All}
-use Rattle.std.proofs.Math.Bool.{or_assoc}
+use Rattle.std.proofs.Math.Bool.{and-false, and-true, or-false, or_assoc}
 use Rattle.std.proofs.lemmas.Bool.{cases_lt, cases_eq, cases_Bool, eq-eqb, ne_eqb, lt-ltb, le-leb, lt-leb, false≢true}
 use Rattle.std.proofs.lemmas.Bool.Decides.{nat_tests}
 use Rattle.std.proofs.lemmas.List.{drop_all, drop_more, get_or_past, get_or-replicate, length-replicate}
@@ -63,31 +63,18 @@ covered-put_before p q (r ∷ rs) h =
           ∙ ap (λ (b : Bool). b || is_covered (r ∷ rs) q) (single_span p q)
     ]
 
-mark-cons : (p q : ℕ) (ms : List Bool) → (eqb q p || (leb (p + 1) q && get_or ms (q - (p + 1)) false)) ≡ (leb p q && get_or (true ∷ ms) (q - p) false)
-mark-cons p q ms =
+mark-more : (mark : Bool) (p q : ℕ) (ms : List Bool)
+    → ((mark && eqb q p) || (leb (p + 1) q && get_or ms (q - (p + 1)) false)) ≡ (leb p q && get_or (mark ∷ ms) (q - p) false)
+mark-more mark p q ms =
     elim (cases_lt q p) [
-      | inl before ↦ rw (ne_eqb q p (λ e. omega (arith, e, before)), lt-leb (p + 1) q (omega (arith, before)), lt-leb p q before) refl
+      | inl before ↦ rw (ne_eqb q p (λ e. omega (arith, e, before)), and-false mark, lt-leb (p + 1) q (omega (arith, before)), lt-leb p q before) refl
       | inr from ↦ elim (cases_eq q p) [
         | inl same ↦
             let none : q - p ≡ 0 = omega (arith, same) in
-            rw (eq-eqb q p same, le-leb p q from, none) refl
+            rw (eq-eqb q p same, and-true mark, lt-leb (p + 1) q (omega (arith, same)), or-false mark, le-leb p q from, none) refl
         | inr other ↦
             let next : q - p ≡ suc (q - (p + 1)) = omega (arith, from, other) in
-            rw (ne_eqb q p other, le-leb (p + 1) q (omega (arith, from, other)), le-leb p q from, next) refl
-      ]
-    ]
-
-mark-skip : (p q : ℕ) (ms : List Bool) → (leb (p + 1) q && get_or ms (q - (p + 1)) false) ≡ (leb p q && get_or (false ∷ ms) (q - p) false)
-mark-skip p q ms =
-    elim (cases_lt q p) [
-      | inl before ↦ rw (lt-leb (p + 1) q (omega (arith, before)), lt-leb p q before) refl
-      | inr from ↦ elim (cases_eq q p) [
-        | inl same ↦
-            let none : q - p ≡ 0 = omega (arith, same) in
-            rw (lt-leb (p + 1) q (omega (arith, same)), le-leb p q from, none) refl
-        | inr other ↦
-            let next : q - p ≡ suc (q - (p + 1)) = omega (arith, from, other) in
-            rw (le-leb (p + 1) q (omega (arith, from, other)), le-leb p q from, next) refl
+            rw (ne_eqb q p other, and-false mark, le-leb (p + 1) q (omega (arith, from, other)), le-leb p q from, next) refl
       ]
     ]
 
@@ -97,8 +84,8 @@ covered-from p q [] = elim (cases_Bool (leb p q)) [ inl t ↦ rw t refl | inr f 
 covered-from p q (true ∷ ms) =
     covered-put_before p q (ranges_from (p + 1) ms) (ranges_from-apart (p + 1) ms)
     ∙ ap (λ (b : Bool). eqb q p || b) (covered-from (p + 1) q ms)
-    ∙ mark-cons p q ms
-covered-from p q (false ∷ ms) = covered-from (p + 1) q ms ∙ mark-skip p q ms
+    ∙ mark-more true p q ms
+covered-from p q (false ∷ ms) = covered-from (p + 1) q ms ∙ mark-more false p q ms
 
 -- the ranges cover what is marked
 pub covered-ranges_of : (marks : List Bool) (p : ℕ) → is_covered (ranges_of marks) p ≡ get_or marks p false
@@ -132,10 +119,10 @@ same-covered xs ys p there back =
 
 -- ---- one range after another
 
-one_step : (m : List Bool) (at : ℕ)
+one_step : (m : List Bool) (at : ℕ) (mark : Bool) → get_or m at false ≡ mark
     → ranges_from at (drop at m)
-    ≡ cond (get_or m at false) (put_before at (ranges_from (at + 1) (drop (at + 1) m))) (ranges_from (at + 1) (drop (at + 1) m))
-one_step m at =
+    ≡ cond mark (put_before at (ranges_from (at + 1) (drop (at + 1) m))) (ranges_from (at + 1) (drop (at + 1) m))
+one_step m at mark is =
     elim (cases_lt at (length m)) [
       | inl in' ↦ ap (ranges_from at) (drop_more m at false in')
       | inr past ↦
@@ -143,16 +130,7 @@ one_step m at =
           ∙ ap (ranges_from (at + 1)) (sym (drop_all (at + 1) m (omega (arith, past))))
           ∙ ap (λ (b : Bool). cond b (put_before at (ranges_from (at + 1) (drop (at + 1) m))) (ranges_from (at + 1) (drop (at + 1) m))) (sym (get_or_past m at false past))
     ]
-
-step_marked : (m : List Bool) (at : ℕ) → get_or m at false ≡ true
-    → ranges_from at (drop at m) ≡ put_before at (ranges_from (at + 1) (drop (at + 1) m))
-step_marked m at is =
-    one_step m at ∙ ap (λ (b : Bool). cond b (put_before at (ranges_from (at + 1) (drop (at + 1) m))) (ranges_from (at + 1) (drop (at + 1) m))) is
-
-step_unmarked : (m : List Bool) (at : ℕ) → get_or m at false ≡ false
-    → ranges_from at (drop at m) ≡ ranges_from (at + 1) (drop (at + 1) m)
-step_unmarked m at is =
-    one_step m at ∙ ap (λ (b : Bool). cond b (put_before at (ranges_from (at + 1) (drop (at + 1) m))) (ranges_from (at + 1) (drop (at + 1) m))) is
+    ∙ ap (λ (b : Bool). cond b (put_before at (ranges_from (at + 1) (drop (at + 1) m))) (ranges_from (at + 1) (drop (at + 1) m))) is
 
 -- what is not marked is passed over
 skip : (m : List Bool) (k at to : ℕ) → at + k ≡ to → ((p : ℕ) → at ≤ p → p < to → get_or m p false ≡ false)
@@ -160,7 +138,7 @@ skip : (m : List Bool) (k at to : ℕ) → at + k ≡ to → ((p : ℕ) → at �
 skip m zero at to e none =
     let same : at ≡ to = omega (arith, e) in ap (λ (x : ℕ). ranges_from x (drop x m)) same
 skip m (suc k) at to e none =
-    step_unmarked m at (none at (omega arith) (omega (arith, e)))
+    one_step m at false (none at (omega arith) (omega (arith, e)))
     ∙ skip m k (at + 1) to (omega (arith, e)) (λ p low high. none p (omega (arith, low)) high)
 
 -- a run of marked positions is one range
@@ -171,17 +149,17 @@ run m zero begin end e all none =
     let next : begin + 1 ≡ end = omega (arith, e) in
     let rest = ranges_from (begin + 1) (drop (begin + 1) m) in
     let unmarked : get_or m (begin + 1) false ≡ false = ap (λ (x : ℕ). get_or m x false) next ∙ none in
-    let later : rest ≡ ranges_from (begin + 1 + 1) (drop (begin + 1 + 1) m) = step_unmarked m (begin + 1) unmarked in
+    let later : rest ≡ ranges_from (begin + 1 + 1) (drop (begin + 1 + 1) m) = one_step m (begin + 1) false unmarked in
     let two : begin + 1 + 1 ≡ begin + 2 = omega arith in
     let apart : AreApart (begin + 2) rest =
     subst (AreApart (begin + 2)) (sym later)
     (subst (λ (x : ℕ). AreApart x (ranges_from (begin + 1 + 1) (drop (begin + 1 + 1) m))) two (ranges_from-apart (begin + 1 + 1) (drop (begin + 1 + 1) m))) in
-    step_marked m begin (all begin (omega arith) (omega (arith, e)))
+    one_step m begin true (all begin (omega arith) (omega (arith, e)))
     ∙ put_before-stands begin rest apart
     ∙ ap (λ (x : ℕ). (begin, x) ∷ ranges_from x (drop x m)) next
 run m (suc k) begin end e all none =
     let rest = run m k (begin + 1) end (omega (arith, e)) (λ p low high. all p (omega (arith, low)) high) none in
-    step_marked m begin (all begin (omega arith) (omega (arith, e)))
+    one_step m begin true (all begin (omega arith) (omega (arith, e)))
     ∙ ap (put_before begin) rest
     ∙ put_before-joins begin (begin + 1, end) (ranges_from end (drop end m)) refl
 

@@ -28,9 +28,6 @@ cut_span : (begin end n cut p : ℕ) → p < n → cut ≡ min end n
     → (leb begin p && ltb p cut) ≡ (leb begin p && ltb p end)
 cut_span begin end n cut p lt is = grind (arith, nat_tests)
 
-no_span : (begin end n cut p : ℕ) → end ≤ begin → cut ≡ min end n → (leb begin p && ltb p cut) ≡ false
-no_span begin end n cut p none is = grind (arith, nat_tests)
-
 -- marks are the same where they are the same at each position
 pub same_marks : (xs ys : List Bool) → length xs ≡ length ys
     → ((p : ℕ) → p < length xs → get_or xs p false ≡ get_or ys p false) → xs ≡ ys
@@ -183,6 +180,9 @@ IsMask-shifted first last less le =
 
 -- ---- one range
 
+empty_span : (begin cut p : ℕ) → cut ≤ begin → (leb begin p && ltb p cut) ≡ false
+empty_span begin cut p none = grind (arith, nat_tests)
+
 -- what a range marks, cut at the end of the file
 pub covered-cut : (begin end n cut p : ℕ) → p < n → cut ≡ min end n
     → (leb begin p && ltb p cut) ≡ is_covered (positions begin end) p
@@ -191,11 +191,8 @@ covered-cut begin end n cut p lt is =
     elim (cases_lt begin end) [
       | inl some ↦
           rw (lt-ltb begin end some) (cut_span begin end n cut p lt is ∙ sym (or-false (leb begin p && ltb p end)))
-      | inr none ↦ rw (le-ltb begin end none) (no_span begin end n cut p none is)
+      | inr none ↦ rw (le-ltb begin end none) (empty_span begin cut p (omega (arith, none, is)))
     ]
-
-empty_span : (begin cut p : ℕ) → cut ≤ begin → (leb begin p && ltb p cut) ≡ false
-empty_span begin cut p none = grind (arith, nat_tests)
 
 -- where no position is to be marked, nothing changes
 pub word_marks-same : (n : ℕ) (words : List ℕ) (begin end cut : ℕ) → cut ≡ min end n → cut ≤ begin

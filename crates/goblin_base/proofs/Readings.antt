@@ -11,7 +11,8 @@ use Rattle.goblin_base.specs.Footprints.{Agree, led_to, rest_footprint, slot_foo
 use Rattle.goblin_base.specs.Reading.{IsRefused, Reading, Reads, ReadsOrMemory, Twins, TwinsOrMemory}
 use Rattle.goblin_base.specs.Tables.{IsTableFault, SlotFormat, kept_slots, slot_at, slot_place, slot_table, stop}
 use Rattle.goblin_base.specs.Values.{value_at}
-use Rattle.goblin_base.proofs.Footprints.{agree-left, agree-right, alike_answers, alike_or_memory_answers, same-kept_slots, same-led, same-slot_table, same-within}
+use Rattle.goblin_base.proofs.Footprints.{agree-left, agree-right, alike_answers, alike_or_memory_answers, same-kept_slots, same-led, same-slot_table, same-within, same_if}
+use Rattle.goblin_base.proofs.Numbers.{rest_is_drop}
 use Rattle.goblin_base.proofs.Inside.{AreInside, both-in, led-in, slots-in}
 
 -- ---- a read, and one that depends on its value
@@ -81,33 +82,19 @@ no_text-not_memory bytes = by_cases-not_memory (IsNoText bytes) (λ m h. h)
 same_rest : (a b : List ℕ) (p : ℕ) → p < length a → Agree (rest_footprint a p) a b
     → drop p a ≡ drop p b
 same_rest a b p lt h =
-    let n : ℕ = length a - p in
-    let end : p + n ≡ length a = omega (arith, lt) in
-    let width : p + n - p ≡ n = omega arith in
-    let all_a : slice_range a p (p + n) ≡ drop p a =
-    take_all (p + n - p) (drop p a) (omega (arith, width, length-drop p a)) in
-    let all_b : slice_range b p (p + n) ≡ drop p b =
-    take_all (p + n - p) (drop p b)
-    (omega (arith, width, length-drop p b, h.same_length)) in
-    sym all_a
-    ∙ same-within p (length a) a b p n h (omega arith) (omega (arith, end)) (omega (arith, end))
-    ∙ all_b
+    let end : p + (length a - p) ≡ length a = omega (arith, lt) in
+    sym (rest_is_drop a p)
+    ∙ subst (λ (k : ℕ). slice_range a p k ≡ slice_range b p k) end
+    (same-within p (length a) a b p (length a - p) h (omega arith) (omega (arith, end)) (omega (arith, end)))
+    ∙ ap (slice_range b p) h.same_length ∙ rest_is_drop b p
 
 pub value-local : {Y : Type 0} (value_of : Endian → List ℕ → Option (Y × ℕ)) (endian : Endian)
     (a b : List ℕ) (p : ℕ) → Agree (rest_footprint a p) a b
     → value_at value_of endian a p ≡ value_at value_of endian b p
 value-local {Y} value_of endian a b p h =
     let value : List ℕ → Option Y = λ own. option_map (λ (x : Y × ℕ). x.0) (value_of endian own) in
-    let test : nat_lt p (length a) ≡ nat_lt p (length b) = ap (nat_lt p) h.same_length in
-    elim (cases_Bool (nat_lt p (length a))) [
-      | inl before ↦
-          let same : drop p a ≡ drop p b = same_rest a b p (ltb-true p (length a) before) h in
-          ap (λ (own : List ℕ). cond (nat_lt p (length a)) (value own) None) same
-          ∙ ap (λ (t : Bool). cond t (value (drop p b)) None) test
-      | inr past ↦
-          cond-false (nat_lt p (length a)) (value (drop p a)) None past
-          ∙ sym (cond-false (nat_lt p (length b)) (value (drop p b)) None (sym test ∙ past))
-    ]
+    same_if (nat_lt p (length a)) (nat_lt p (length b)) _ _ None (ap (nat_lt p) h.same_length)
+    (λ lt. ap value (same_rest a b p (ltb-true p (length a) lt) h))
 
 -- ---- two reads beside each other
 
