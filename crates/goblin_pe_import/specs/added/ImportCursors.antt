@@ -7,12 +7,13 @@ use Rattle.goblin_pe_sect.specs.AddressReadings.{offset_at}
 use Rattle.goblin_pe_sect.specs.Addresses.{MapOfAddresses, Addressing}
 use Rattle.goblin_pe_import.specs.ImportReadings.{first_record_offset}
 use Rattle.goblin_pe_import.specs.added.ImportWalks.{IsWalkAt, no_imports}
+use Rattle.goblin_pe_import.specs.added.Libraries.{at_record}
 use Rattle.goblin_pe_import.specs.declared.added.imports.ImportCursor.{ImportCursor}
 use Rattle.goblin_pe_import.specs.declared.added.imports.Imports.{Imports}
 
 -- the cursor before the first import descriptor of a directory, which lies at this offset
 abbrev pub before_record : ℕ → ImportCursor
-before_record p = record no_imports { first_record = p; next_record = Some p }
+before_record p = at_record p p
 
 -- the same if there is such a descriptor, else the end
 abbrev pub before_first : Option ℕ → ImportCursor

@@ -160,15 +160,10 @@ IsNextCause strict format addressing bytes (Some p) e =
 
 -- ---- how many more may come
 
--- an upper bound of what comes from p on: for each descriptor that may be left, a whole file of
--- entries, a refusal of their table and one of the address table
-abbrev pub records_bound : List ℕ → ℕ → ℕ
-records_bound bytes p = (length bytes + 2) * (length bytes - p + 1)
-
--- an upper bound of what comes from the next descriptor on
+-- an upper bound of what comes from the next descriptor on: for each descriptor that may be left, a
+-- whole file of entries, a refusal of their table and one of the address table
 abbrev pub bound_next : List ℕ → Option ℕ → ℕ
-bound_next bytes None = 0
-bound_next bytes (Some p) = records_bound bytes p
+bound_next bytes next = (length bytes + 2) * slots_bound bytes next
 
 -- ---- the walk, by what it holds of the library that it is in
 

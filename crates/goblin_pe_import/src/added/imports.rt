@@ -27,7 +27,7 @@ ghost use Rattle.goblin_pe_import.specs.added.ImportWalks.{imports_left, kept_im
 ghost use Rattle.goblin_pe_import.specs.KeptEntries.{kept_value, slots_bound};
 ghost use Rattle.goblin_pe_import.specs.added.ImportWalks.{later_items, library_items};
 ghost use Rattle.goblin_pe_import.specs.added.ImportWalks.{library_name, one_if, origin};
-ghost use Rattle.goblin_pe_import.specs.added.ImportWalks.{records_bound, finder_of, ascii_at};
+ghost use Rattle.goblin_pe_import.specs.added.ImportWalks.{finder_of, ascii_at};
 ghost use Rattle.goblin_pe_import.specs.added.ImportWalks.{ascii_walk, walk_answer, walk_at};
 ghost use Rattle.goblin_pe_import.specs.added.ImportWalks.{record_index};
 ghost use Rattle.goblin_pe_import.specs.added.ImportWalks.{pending_table, walk_bound, walk_left};
@@ -123,11 +123,7 @@ impl ImportCursor {
     pub fn before_record(offset: usize) -> ImportCursor
         ensures { result ≡ before_record offset }
     {
-        ImportCursor {
-            first_record: offset,
-            next_record: Some(offset),
-            ..ImportCursor::end()
-        }
+        ImportCursor::at_record(offset, offset)
     }
 
     /// The cursor before the first import of `directory`. In permissive mode it is the cursor at
@@ -259,34 +255,14 @@ pub(super) fn record_index(first: usize, offset: usize) -> usize
     offset.saturating_sub(first) / SIZEOF_IMPORT_DIRECTORY_ENTRY
 }
 
-// An upper bound of the number of entries from the slot at `place` on.
-fn slots_bound(bytes: &[u8], place: Option<usize>) -> usize
+// An upper bound of the number of slots or descriptors from the one at `place` on.
+pub(super) fn slots_bound(bytes: &[u8], place: Option<usize>) -> usize
     ensures value { result ≡ slots_bound bytes.now place }
     ensures low { result < 2 ^ 63 + 1 }
 {
     match place {
         Some(place) => bytes.len().saturating_sub(place) + 1,
         None => 0,
-    }
-}
-
-// An upper bound of the number of imports from the descriptor at `offset` on, if it fits.
-fn records_bound(bytes: &[u8], offset: usize) -> Option<usize>
-    ensures value { IfSome result (λ n. n ≡ records_bound bytes.now offset) }
-    ensures fits { records_bound bytes.now offset < 2 ^ 64 → IsSome result }
-{
-    let records = bytes.len().saturating_sub(offset) + 1;
-    (bytes.len() + 2).checked_mul(records)
-}
-
-// An upper bound of the number of imports from the next descriptor on, if it fits.
-fn bound_next(bytes: &[u8], next: Option<usize>) -> Option<usize>
-    ensures value { IfSome result (λ n. n ≡ bound_next bytes.now next) }
-    ensures fits { bound_next bytes.now next < 2 ^ 64 → IsSome result }
-{
-    match next {
-        Some(offset) => records_bound(bytes, offset),
-        None => Some(0),
     }
 }
 
@@ -428,7 +404,8 @@ impl<'a, 'm> Walk<'a, 'm> {
     {
         let pending = usize::from(self.at.pending.is_some());
         let slots = slots_bound(self.bytes, self.at.place) + pending;
-        slots.checked_add(bound_next(self.bytes, self.at.next_record)?)
+        let records = slots_bound(self.bytes, self.at.next_record);
+        slots.checked_add((self.bytes.len() + 2).checked_mul(records)?)
     }
 
     // The import in the slot at `place` of the library that the walk is in, if it is by ordinal or
@@ -453,18 +430,6 @@ impl<'a, 'm> Walk<'a, 'm> {
             return None;
         };
         Some(import_of::<T>(kept, self.dll, library, rva, table_offset))
-    }
-
-    // A copy of the walk.
-    fn again(&self) -> Walk<'a, 'm>
-        ensures { result ≡ self.now }
-    {
-        Walk {
-            bytes: self.bytes,
-            finder: self.finder.again(),
-            dll: self.dll,
-            at: self.at,
-        }
     }
 
     // The next import within a budget of steps. Each step looks at a slot or an import descriptor.
@@ -578,7 +543,7 @@ impl<'a, 'm, 'e, T: Bitfield<'a>> Imports<'a, 'm, 'e, T> {
             if strictly {
                 return Err(Error::Malformed(Cause::Unmapped(rva as usize)));
             }
-            return Ok(Imports::between(bytes, ImportCursor::end(), finder));
+            return Ok(Imports::walk_of(bytes, ImportCursor::end(), finder));
         };
         Ok(Imports::at(bytes, offset, finder))
     }
@@ -596,33 +561,14 @@ impl<'a, 'm, 'e, T: Bitfield<'a>> Imports<'a, 'm, 'e, T> {
             let both = indexed_at (reads_strictly m) T.format m.addressing offset in
             IfSome (both.value bytes.now) (λ x. length x.1 ≡ length x.0) }
     {
-        Imports::between(bytes, ImportCursor::before_record(offset), finder)
-    }
-
-    // The walk at a cursor between two libraries.
-    #[inline(always)]
-    fn between(bytes: &'a [u8], at: ImportCursor, finder: Finder<'m>) -> Imports<'a, 'm, 'e, T>
-        requires { at.place ≡ None }
-        ensures at { IsWalkAt (map_of finder.entry) bytes.now at result }
-        ensures none { result.walk.dll.now ≡ [] }
-        ensures wide { 1 ≤ T.format.width }
-    {
-        let dll = "";
-        Imports {
-            walk: Walk {
-                bytes,
-                finder,
-                dll,
-                at,
-            },
-            items: PhantomData,
-        }
+        Imports::walk_of(bytes, ImportCursor::before_record(offset), finder)
     }
 
     // The walk at a cursor.
     #[inline(always)]
     fn walk_of(bytes: &'a [u8], at: ImportCursor, finder: Finder<'m>) -> Imports<'a, 'm, 'e, T>
-        ensures { IsWalkAt (map_of finder.entry) bytes.now at result }
+        ensures at { IsWalkAt (map_of finder.entry) bytes.now at result }
+        ensures wide { 1 ≤ T.format.width }
     {
         let dll = "";
         let mut walk = Walk {
@@ -678,8 +624,12 @@ impl<'a, 'm, 'e, T: Bitfield<'a>> Imports<'a, 'm, 'e, T> {
         let Some(place) = self.walk.at.place else {
             return None;
         };
+        let walk = Walk {
+            finder: self.finder(),
+            ..self.walk
+        };
         let imports = Imports {
-            walk: self.walk.again(),
+            walk,
             items: PhantomData,
         };
         Some(AsciiImports { imports, place })

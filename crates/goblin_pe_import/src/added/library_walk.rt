@@ -19,7 +19,7 @@ ghost use Rattle.goblin_pe_import.specs.added.Libraries.{libraries_bound, librar
 ghost use Rattle.goblin_pe_import.specs.added.Libraries.{libraries_cursor, libraries_format};
 ghost use Rattle.goblin_pe_import.specs.added.Libraries.{libraries_map, library_at, library_value};
 
-use crate::added::imports::{ImportCursor, record_index};
+use crate::added::imports::{ImportCursor, record_index, slots_bound};
 use crate::added::left_out::leads_to_none;
 use crate::import::directory_entry::{ImportDirectoryEntry, SIZEOF_IMPORT_DIRECTORY_ENTRY};
 use crate::import::library::{address_table_rva, lookup_offset};
@@ -235,11 +235,7 @@ impl<'a, 'm> Iterator for Libraries<'a, 'm> {
         ensures upper { IfSome result.1 (UpTo (at_most (libraries_bound self.now))) }
         ensures value { result ≡ (0, Some (libraries_bound self.now)) }
     {
-        let most = match self.at.next_record {
-            Some(offset) => self.bytes.len().saturating_sub(offset) + 1,
-            None => 0,
-        };
-        (0, Some(most))
+        (0, Some(slots_bound(self.bytes, self.at.next_record)))
     }
 }
 
