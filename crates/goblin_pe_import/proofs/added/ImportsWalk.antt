@@ -35,23 +35,23 @@ two_maps f h None = refl
 two_maps f h (Some x) = refl
 
 -- Which cause is true of a library, by what its walk collects of its entries.
-library-fault : {W A B L R : Type 0} (mode : Bool) (make : (A × B) × R → L) (g : W → B)
-    (name : Option A) (walked : Option W) (listed : Option B) (addresses : Option R)
-    (IsName IsListed IsAddressed IsLater : ErrorOf → Type 0) (e : ErrorOf) → mode ≡ true
-    → listed ≡ option_map g walked
+library-fault : {W A B L R : Type 0} (make : (A × B) × R → L) (g : W → B) (name : Option A)
+    (walked : Option W) (listed : Option B) (addresses : Option R)
+    (IsName IsWalked IsListed IsAddressed IsLater : ErrorOf → Type 0) (e : ErrorOf)
+    → listed ≡ option_map g walked → (IsWalked e → IsListed e)
     → FirstFault name IsName
-    (λ _. FirstFault walked IsListed (λ _. FirstFault addresses IsAddressed (λ _. IsLater))) e
-    → FirstFault (or_left_out mode (option_map make (pair_of (pair_of name listed) addresses)))
+    (λ _. FirstFault walked IsWalked (λ _. FirstFault addresses IsAddressed (λ _. IsLater))) e
+    → FirstFault (or_left_out true (option_map make (pair_of (pair_of name listed) addresses)))
     (FirstFault (pair_of name listed) (FirstFault name IsName (λ _. IsListed)) (λ _. IsAddressed))
     (λ _. IsLater) e
-library-fault mode make g None walked listed addresses IsName IsListed IsAddressed IsLater e
-    strictly same fault = rw strictly fault
-library-fault mode make g (Some text) None listed addresses IsName IsListed IsAddressed IsLater e
-    strictly same fault = rw (strictly, same) fault
-library-fault mode make g (Some text) (Some x) listed None IsName IsListed IsAddressed IsLater e
-    strictly same fault = rw (strictly, same) fault
-library-fault mode make g (Some text) (Some x) listed (Some y) IsName IsListed IsAddressed IsLater e
-    strictly same fault = rw (strictly, same) fault
+library-fault make g None walked listed addresses IsName IsWalked IsListed IsAddressed IsLater e
+    same chain fault = fault
+library-fault make g (Some text) None listed addresses IsName IsWalked IsListed IsAddressed IsLater
+    e same chain fault = rw same (chain fault)
+library-fault make g (Some text) (Some x) listed None IsName IsWalked IsListed IsAddressed IsLater e
+    same chain fault = rw same fault
+library-fault make g (Some text) (Some x) listed (Some y) IsName IsWalked IsListed IsAddressed
+    IsLater e same chain fault = rw same fault
 
 -- kept entries and slots, where there is a table
 abbrev pub in_two_if : Option ℕ → List KeptValue → Option (List LookupEntry) × List ℕ
@@ -99,71 +99,43 @@ module _ (strict : Bool) (format : Format EntryValue) (addressing : Addressing)
         (library_items strict format addressing bytes (record_index first p))
         (imports_from_record strict format addressing bytes first (p + 20)) slots)
 
-    -- a cause that is true of the rest of a directory from its first entry on is true of it
-    pub cause-record : 1 ≤ format.width → strict ≡ true → (e : ErrorOf)
-        → IsRecordCause strict format addressing bytes p slots e
-        → IsRecordsCause strict format addressing bytes p e
-    unfolding library_of lookup_if
-    cause-record wide is e fault =
-        cause-slot import_slots (kept_library strict format addressing) bytes strict import_record_at
-        (lit≤ tt) p slots refl e (in_slot slots fault)
-      where
-        in_table : (at : Option ℕ) {A : Type 0} (o : Option A) (IsLater : ErrorOf → Type 0)
-            → FirstFault o (IsEntriesCause strict format addressing bytes at)
-            (λ _. IsLater) e
-            → FirstFault o ((lookup_if strict format addressing at).IsCause bytes) (λ _. IsLater) e
-        in_table None o IsLater fault = fault
-        in_table (Some place) o IsLater fault = fault
+-- In strict mode, a cause that is true of the rest of a directory from its first entry on is true of
+-- it.
+module _ (format : Format EntryValue) (addressing : Addressing) (bytes : List ℕ) (p : ℕ)
+    (wide : 1 ≤ format.width) (e : ErrorOf) where
+  in_table : (at : Option ℕ) → IsEntriesCause true format addressing bytes at e
+      → (lookup_if true format addressing at).IsCause bytes e
+  unfolding lookup_if
+  in_table None fault = fault
+  in_table (Some place) fault = fault
 
-        in_slot : (entry : Option ImportDirectoryEntry)
-            → IsRecordCause strict format addressing bytes p entry e
-            → IsSlotCause strict is_last_record (λ r. (kept_library strict format addressing r).value bytes)
-            ((import_record_at p).IsCause bytes)
-            (λ r. (kept_library strict format addressing r).IsCause bytes)
-            (IsRecordsCause strict format addressing bytes (p + 20)) entry e
-        in_slot None fault = (is, fault)
-        in_slot (Some r) fault =
-            let at = lookup_offset addressing r in
-            let name = library_name strict addressing r in
-            let table = lookup_if strict format addressing at in
-            let addresses = addresses_of format addressing r in
-            let walked =
-            all_of (entries_from strict format addressing bytes (unwrap_or at 0) at) in (
-              fault.0,
-              library-fault strict _ (in_two_if at) (name.value bytes) walked (table.value bytes)
-                  (addresses.value bytes) (name.IsCause bytes) (table.IsCause bytes)
-                  (addresses.IsCause bytes) (IsRecordsCause strict format addressing bytes (p + 20)) e is
-                  (listed wide at) (after_name (name.value bytes) fault.1),
-            )
-          where
-            after_name : (name : Option (List ℕ))
-                → FirstFault name ((library_name strict addressing r).IsCause bytes)
-                (λ _. IsNamedCause strict format addressing bytes r
-                (IsRecordsCause strict format addressing bytes (p + 20))) e
-                → FirstFault name ((library_name strict addressing r).IsCause bytes)
-                (λ _. FirstFault
-                (all_of
-                (entries_from strict format addressing bytes (unwrap_or (lookup_offset addressing r) 0)
-                (lookup_offset addressing r)))
-                ((lookup_if strict format addressing (lookup_offset addressing r)).IsCause bytes)
-                (λ _. FirstFault ((addresses_of format addressing r).value bytes)
-                ((addresses_of format addressing r).IsCause bytes)
-                (λ _. IsRecordsCause strict format addressing bytes (p + 20)))) e
-            after_name None fault = fault
-            after_name (Some text) fault =
-                let at = lookup_offset addressing r in
-                let walked =
-                all_of (entries_from strict format addressing bytes (unwrap_or at 0) at) in
-                let addresses = addresses_of format addressing r in
-                let IsLater = IsRecordsCause strict format addressing bytes (p + 20) in
-                in_table at walked
-                (FirstFault (addresses.value bytes) (addresses.IsCause bytes) (λ _. IsLater))
-                (subst
-                (λ (mode : Bool).
-                let table = pick mode addresses (given []) in
-                FirstFault walked (IsEntriesCause strict format addressing bytes at)
-                (λ _. FirstFault (table.value bytes) (table.IsCause bytes) (λ _. IsLater)) e)
-                is fault)
+  in_slot : (entry : Option ImportDirectoryEntry)
+      → IsRecordCause true format addressing bytes p entry e
+      → IsSlotCause true is_last_record (λ r. (kept_library true format addressing r).value bytes)
+      ((import_record_at p).IsCause bytes)
+      (λ r. (kept_library true format addressing r).IsCause bytes)
+      (IsRecordsCause true format addressing bytes (p + 20)) entry e
+  unfolding library_of
+  in_slot None fault = (refl, fault)
+  in_slot (Some r) fault =
+      let at = lookup_offset addressing r in
+      let name = library_name true addressing r in
+      let table = lookup_if true format addressing at in
+      let addresses = addresses_of format addressing r in (
+        fault.0,
+        library-fault _ (in_two_if at) (name.value bytes) _ (table.value bytes) (addresses.value bytes)
+            (name.IsCause bytes) (IsEntriesCause true format addressing bytes at) (table.IsCause bytes)
+            (addresses.IsCause bytes) (IsRecordsCause true format addressing bytes (p + 20)) e
+            (listed true format addressing bytes wide at) (in_table at) fault.1,
+      )
+
+  pub cause-record : (strict : Bool) → strict ≡ true
+      → IsRecordCause strict format addressing bytes p ((import_record_at p).value bytes) e
+      → IsRecordsCause strict format addressing bytes p e
+  cause-record true is fault =
+      cause-slot import_slots (kept_library true format addressing) bytes true import_record_at
+      (lit≤ tt) p _ refl e (in_slot _ fault)
+  cause-record false is fault = absurd cc
 
 -- ---- the library of a record
 
@@ -328,7 +300,7 @@ module _ (strict : Bool) (format : Format EntryValue) (addressing : Addressing)
           → IsCause (Some p) e
       by_cause entry r is e fault =
           later-cause (Some p) e
-          (cause-record strict format addressing bytes first p wide is e
+          (cause-record format addressing bytes p wide e strict is
           (subst
           (λ (entry : Option ImportDirectoryEntry).
           IsRecordCause strict format addressing bytes p entry e) (sym r) fault))
