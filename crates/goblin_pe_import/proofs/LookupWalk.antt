@@ -1,5 +1,5 @@
 -- The loop that looks for the next entry that a lookup table keeps.
-use Rattle.std.proofs.Common.{◌≡◌, ◌⊎◌, inl, inr, ◌≤◌, ◌+◌, ◌-◌, ◌/◌, ℕ, Bool, true, false, List, [], ◌∷◌, ◌++◌, map, Option, Some, None, Result, Ok, Err, refl, ap, sym, subst, ◌∙◌, ◌*◌, arith, length, not, ◌&&◌, IfSome, option_map, is_some}
+use Rattle.std.proofs.Common.{◌≡◌, ◌⊎◌, inl, inr, ◌≤◌, ◌+◌, ◌-◌, ◌/◌, ℕ, Bool, true, false, List, [], ◌∷◌, ◌++◌, map, Option, Some, None, Result, Ok, Err, refl, ap, sym, subst, ◌∙◌, ◌*◌, arith, length, not, ◌&&◌, IfSome, IsSome, option_map, is_some}
 use Rattle.std.proofs.lemmas.List.{length-map, map-append}
 use Rattle.std.proofs.Math.Nat.{mul-div_cancel_left}
 use Rattle.goblin_base.specs.declared.error.ErrorOf.{ErrorOf}
@@ -18,7 +18,7 @@ use Rattle.readings.specs.Walks.{GivesNext, IsWalkOf, from_slot, end_items, item
 use Rattle.readings.proofs.Walked.{AtWalk, walk-all, walk-fault, walk-more, walk-start}
 use Rattle.goblin_pe_import.specs.LookupReadings.{kept_entry, lookup_entry_at, lookup_with_slots}
 use Rattle.goblin_pe_import.proofs.ImportBound.{kept_entry-few}
-use Rattle.goblin_pe_import.proofs.PermissiveReads.{entry-never}
+use Rattle.goblin_pe_import.proofs.PermissiveReads.{entry-there}
 use Rattle.readings.proofs.WalkValues.{walk-value}
 use Rattle.readings.proofs.Walks.{IsSlotCause, cause-slot, concat_below-same, slot-end, slot-going, slot-missing, until_refused-later, until_refused-made, walk-slot}
 use Rattle.goblin_pe_sect.specs.Addresses.{Addressing}
@@ -310,4 +310,4 @@ pub refused-strictly : (strict : Bool) (addressing : Addressing) (v : EntryValue
     (bytes : List ℕ) → (kept_entry strict addressing v).value bytes ≡ None → strict ≡ true
 refused-strictly true addressing v bytes none = refl
 refused-strictly false addressing v bytes none =
-    absurd (entry-never false addressing v bytes none refl)
+    let never = subst IsSome none (entry-there addressing v bytes) in absurd cc

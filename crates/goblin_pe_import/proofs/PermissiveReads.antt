@@ -1,9 +1,11 @@
 -- What strict mode reads of imports, permissive mode reads, too; and what it refuses not.
-use Rattle.std.proofs.Common.{◌+◌, ◌≡◌, ℕ, Bool, true, false, cond, List, [], ◌∷◌, Option, None, Some, refl}
-use Rattle.goblin_base.specs.Reading.{Reading, Repeats}
+use Rattle.std.proofs.Common.{◌+◌, ◌≡◌, ℕ, Bool, true, false, cond, List, [], ◌∷◌, Option, None, Some, IsSome, length, option_map, refl}
+use Rattle.goblin_base.specs.Answers.{◌>>=◌}
+use Rattle.goblin_base.specs.Reading.{Repeats}
 use Rattle.goblin_base.specs.Tables as tables
-use Rattle.goblin_base.specs.Tables.{Format}
-use Rattle.readings.specs.Reads.{given, in_its_place, text_within}
+use Rattle.goblin_base.specs.Tables.{Format, SlotFormat, ends_table, made_of, slot_at, slot_table, stop}
+use Rattle.goblin_base.proofs.Below.{each_below-there, least-before}
+use Rattle.readings.specs.Reads.{given, in_its_place, text_within, with_slots}
 use Rattle.readings.proofs.Modes.{repeats-beside, repeats-mapped, repeats-or_else, repeats-or_left_out, repeats-pick, repeats-same, repeats-table, repeats-table_with_slots}
 use Rattle.goblin_pe_import.specs.ImportRecords.{address_table_rva, import_slots, lookup_offset}
 use Rattle.goblin_pe_import.specs.ImportLookup.{EntryValue, entry_slots}
@@ -83,28 +85,60 @@ module _ (addressing : Addressing) where
         (kept_library true format addressing) (kept_library false format addressing) o
         (λ r. repeats-or_left_out _ _ (library_repeats r)))
 
--- ---- permissive mode refuses no entry and no name
+-- ---- what permissive mode does not refuse
 
-left_never : {A : Type 0} (item : Option A) → tables.or_left_out false item ≡ None → ⊥
-left_never None e = cc
-left_never (Some x) e = cc
+pub left-there : {A : Type 0} (item : Option A) → IsSome (tables.or_left_out false item)
+left-there None = refl
+left-there (Some x) = refl
 
-name_never : (longest : Option ℕ) (rva : ℕ) (place : Option ℕ) (bytes : List ℕ)
-    → (kept_name false longest rva place).value bytes ≡ None → ⊥
-name_never longest rva None bytes e = cc
-name_never longest rva (Some p) bytes e = left_never _ e
-
-test_never : {A : Type 0} (test : Bool) (x : A) (other : Reading A) (bytes : List ℕ)
-    → (other.value bytes ≡ None → ⊥) → (cond test (given x) other).value bytes ≡ None → ⊥
-test_never true x other bytes never e = cc
-test_never false x other bytes never e = never e
-
-pub entry-never : (strict : Bool) (addressing : Addressing) (entry : EntryValue)
-    (bytes : List ℕ) → (kept_entry strict addressing entry).value bytes ≡ None → strict ≡ false → ⊥
+-- an entry
+pub entry-there : (addressing : Addressing) (entry : EntryValue) (bytes : List ℕ)
+    → IsSome ((kept_entry false addressing entry).value bytes)
 unfolding kept_entry
-entry-never true addressing entry bytes e permissive = cc
-entry-never false addressing entry bytes e permissive =
-    test_never entry.is_ordinal _ _ bytes (name_never addressing.longest entry.rva (addressing.offset entry.rva) bytes) e
+entry-there addressing entry bytes = by entry.is_ordinal
+  where
+    name : (place : Option ℕ)
+        → IsSome ((kept_name false addressing.longest entry.rva place).value bytes)
+    name None = refl
+    name (Some p) = left-there _
+
+    by : (test : Bool)
+        → IsSome ((cond test (given (ByOrdinal entry.ordinal ∷ []))
+        (kept_name false addressing.longest entry.rva (addressing.offset entry.rva))).value bytes)
+    by true = refl
+    by false = name (addressing.offset entry.rva)
+
+-- a table whose entries it does not refuse
+pub table-there : {V A : Type 0} (slots : SlotFormat V) (piece : V → Option (List A))
+    (bytes : List ℕ) (o : ℕ) → ((v : V) → IsSome (piece v))
+    → IsSome (slot_table slots false piece bytes o)
+unfolding slot_table stop
+table-there {V} slots piece bytes o there =
+    each_below-there (made_of slots piece bytes o) (stop slots bytes o)
+    (λ j below.
+    in_slot (slot_at slots bytes o j)
+    (least-before (λ i. ends_table slots.is_last (slot_at slots bytes o i)) (length bytes) j below))
+  where
+    in_slot : (slot : Option V) → ends_table slots.is_last slot ≡ false → IsSome (slot >>= piece)
+    in_slot None e = absurd cc
+    in_slot (Some v) e = there v
+
+-- the lookup table at an offset, if there is one
+pub lookup-there : (strict : Bool) (format : Format EntryValue) (addressing : Addressing)
+    (bytes : List ℕ) → strict ≡ false → (at : Option ℕ)
+    → IsSome ((lookup_if strict format addressing at).value bytes)
+unfolding lookup_if
+lookup-there true format addressing bytes permissive at = absurd cc
+lookup-there false format addressing bytes permissive None = refl
+lookup-there false format addressing bytes permissive (Some o) =
+    made _ _ _
+    (table-there (entry_slots format) (λ v. (kept_entry false addressing v).value bytes) bytes o
+    (λ v. entry-there addressing v bytes))
+  where
+    made : {A B : Type 0} (kept : List ℕ) (h : A × List ℕ → B) (table : Option A) → IsSome table
+        → IsSome (option_map h (with_slots kept table))
+    made kept h None there = absurd cc
+    made kept h (Some x) there = refl
 
 pub name_strict : (strict : Bool) (name : Option (List ℕ)) → in_its_place strict [] name ≡ None
     → strict ≡ true

@@ -12,7 +12,6 @@ use Rattle.goblin_base.specs.Answers.{◌>>=◌, all_at, all_of}
 use Rattle.goblin_base.specs.Bytes.{IsBytes}
 use Rattle.goblin_base.specs.Reading.{Reading}
 use Rattle.goblin_base.specs.Tables.{Format, concat_below, each_below, ends_table, join, made_of, or_left_out, slot_at, slot_place, slot_table, stop}
-use Rattle.goblin_base.proofs.Below.{each_below-there, least-before}
 use Rattle.goblin_base.proofs.Records.{record_at-some}
 use Rattle.goblin_base.proofs.Footprints.{same-all_at}
 use Rattle.goblin_base.proofs.Steps.{all_at-more, all_at-zero, all_of-map, same_value, step}
@@ -38,7 +37,7 @@ use Rattle.goblin_pe_import.proofs.LibraryIndexes.{few, libraries-value, numbere
 use Rattle.goblin_pe_import.proofs.LibraryIndexes as indexes
 use Rattle.goblin_pe_import.proofs.ListedImports.{address-low}
 use Rattle.goblin_pe_import.proofs.LookupWalk.{by_index, in_slot, in_two}
-use Rattle.goblin_pe_import.proofs.PermissiveReads.{entry-never, name_strict}
+use Rattle.goblin_pe_import.proofs.PermissiveReads.{lookup-there, name_strict}
 
 -- ---- one more import
 
@@ -146,41 +145,6 @@ module _ (strict : Bool) (format : Format EntryValue) (addressing : Addressing)
       strict (slot_at (entry_slots format) bytes o (stop (entry_slots format) bytes o))
       (stop (entry_slots format) bytes o) kept
       (ap all_of (sym (by_index strict format addressing bytes o)) ∙ e)
-
--- ---- permissive mode refuses no lookup table
-
-is_there : {A : Type 0} (o : Option A) → (o ≡ None → ⊥) → IsSome o
-is_there None never = absurd (never refl)
-is_there (Some x) never = refl
-
-still_there : {A B : Type 0} (kept : List ℕ) (h : A × List ℕ → B) (test : Bool) (o : Option A)
-    → test ≡ false → IsSome o → IsSome (option_map h (with_slots kept (cond test None o)))
-still_there kept h true o is there = absurd cc
-still_there kept h false None is there = absurd cc
-still_there kept h false (Some x) is there = refl
-
-module _ (strict : Bool) (format : Format EntryValue) (addressing : Addressing)
-    (bytes : List ℕ) (permissive : strict ≡ false) where
-  slot_there : (slot : Option EntryValue)
-      → ends_table (entry_slots format).is_last slot ≡ false
-      → IsSome (slot >>= λ v. (kept_entry strict addressing v).value bytes)
-  slot_there None e = absurd cc
-  slot_there (Some v) e =
-      is_there ((kept_entry strict addressing v).value bytes)
-      (λ none. entry-never strict addressing v bytes none permissive)
-
-  pub table-there : (at : Option ℕ) → IsSome ((lookup_if strict format addressing at).value bytes)
-  unfolding lookup_if slot_table stop
-  table-there None = refl
-  table-there (Some o) =
-      let slots = entry_slots format in
-      still_there _ _ _ _ (and_left strict _ permissive)
-      (each_below-there (made_of slots (λ v. (kept_entry strict addressing v).value bytes) bytes o)
-      (stop slots bytes o)
-      (λ j below.
-      slot_there (slot_at slots bytes o j)
-      (least-before (λ i. ends_table slots.is_last (slot_at slots bytes o i)) (length bytes) j
-      below)))
 
 -- ---- a library
 
@@ -335,7 +299,7 @@ module _ (strict : Bool) (format : Format EntryValue) (addressing : Addressing)
                   ∙ library-value strict _ (in_two_if at) (map (import_in dll)) imports_here dll
                   (all_of entries) (table.value bytes) kept
                   (λ permissive.
-                  subst IsSome same (table-there strict format addressing bytes permissive at))
+                  subst IsSome same (lookup-there strict format addressing bytes permissive at))
                   (λ ks t here. library-imports dll at ks t here))
             ]
 

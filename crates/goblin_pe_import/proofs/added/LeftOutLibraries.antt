@@ -12,7 +12,7 @@ use Rattle.goblin_pe_import.specs.ImportRecords.{import_slots, lookup_offset}
 use Rattle.goblin_pe_import.specs.added.ImportWalks.{addresses_of}
 use Rattle.goblin_pe_import.specs.added.LeftOut.{is_library_left_out, leads_to_none, libraries_of_directory}
 use Rattle.goblin_pe_import.specs.declared.import.directory_entry.ImportDirectoryEntry.{ImportDirectoryEntry}
-use Rattle.goblin_pe_import.proofs.added.ImportsValue.{table-there}
+use Rattle.goblin_pe_import.proofs.PermissiveReads.{lookup-there}
 use Rattle.goblin_pe_import.proofs.added.SlotSums.{sum-none}
 
 -- three parts whose first two are there lack what the third lacks
@@ -34,7 +34,7 @@ pub library_left_out : (format : Format EntryValue) (addressing : Addressing) (b
 unfolding library_of
 library_left_out format addressing bytes r =
     last_part _ _ _ _ (name_there ((name_at addressing r.name_rva).value bytes))
-    (table-there false format addressing bytes refl (lookup_offset addressing r))
+    (lookup-there false format addressing bytes refl (lookup_offset addressing r))
 
 -- ---- a directory at the front of the file
 
