@@ -13,7 +13,7 @@ use Rattle.goblin_pe_import.specs.ImportReadings.{libraries_at}
 use Rattle.goblin_pe_import.specs.LookupReadings.{lookup_table}
 use Rattle.goblin_pe_import.specs.added.ImportWalks.{AreImportsOver, GivesImport, HasName, IsImportsCause, imports_left, IsLaterCause, IsNextCause, IsWalkCause, IsWalkFault, pending_table, walk_left, walked_value}
 use Rattle.goblin_pe_import.specs.KeptEntries.{IsEntriesCause, entries_from}
-use Rattle.goblin_pe_import.specs.added.StepsAhead.{EndsWithin}
+use Rattle.goblin_pe_import.specs.added.StepsAhead.{GivesImportWithin}
 use Rattle.goblin_pe_import.specs.Steps.{GivesWithin}
 use Rattle.goblin_pe_import.proofs.added.ImportSteps.{ended-left}
 
@@ -68,18 +68,18 @@ within-given format s t None given = given
 within-given format s t (Some (Ok import)) given = given
 within-given format s t (Some (Err e)) given = given
 
--- so does one that gives the next import without a limit
+-- without a limit it gives the next import, or is at the end
 pub import-given : {T : Type 0} (format : Format EntryValue) (s t : Imports T)
-    (result : Option (Result WalkedImport ErrorOf))
-    → GivesWithin walked_value (walk_left format) (IsWalkCause format) s.walk result t.walk
-    → (HasName s → HasName t)
-    → AreImportsOver s.walk.bytes.now (map_of s.walk.finder) t → EndsWithin result t.walk.at ⊥
-    → GivesImport format s result t
-import-given format s t None given named over (inl ended) =
-    let none = ended-left format t.walk ended in
-    ((given.0 ∙ none, none), named, tt, over, ended)
-import-given format s t None given named over (inr out) = absurd out
-import-given format s t (Some (Ok import)) given named over ended =
-    (given, named, tt, over, tt)
-import-given format s t (Some (Err e)) given named over ended =
-    (given, named, walk-fault format s.walk e given.2, over, ended)
+    (result : Option (Result WalkedImport ErrorOf)) (new : Option ℕ)
+    → GivesImportWithin format s None result t new → GivesImport format s result t
+import-given format s t None new given =
+    elim given.ended [
+      | inl ended ↦
+          let none = ended-left format t.walk ended in
+          ((given.steps.0 ∙ none, none), given.named, tt, given.over, ended)
+      | inr out ↦ absurd out
+    ]
+import-given format s t (Some (Ok import)) new given =
+    (given.steps, given.named, given.fault, given.over, tt)
+import-given format s t (Some (Err e)) new given =
+    (given.steps, given.named, given.fault, given.over, given.ended)

@@ -682,7 +682,7 @@ impl<'a, 'm, 'e, T: Bitfield<'a>> Iterator for Imports<'a, 'm, 'e, T> {
 
     #[inline(always)]
     fn next(&mut self) -> Option<ResultOf<'e, WalkedImport<'a>>> {
-        self.walk.next_within::<T>(&mut None)
+        self.next_within(&mut None)
     }
 
     fn size_hint(&self) -> (usize, Option<usize>)
