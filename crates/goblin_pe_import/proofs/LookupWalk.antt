@@ -57,10 +57,6 @@ module _ (strict : Bool) (format : Format EntryValue) (addressing : Addressing)
     pub same : comes start ≡ from place
     pub cause : (e : ErrorOf) → IsCause (Some place) e → IsCause start e
 
-  pub none-left : (place : Option ℕ) → place ≡ None → (comes place ≡ []) × HasEnded
-  unfolding entries_from
-  none-left place is = rw is (refl, refl)
-
   pub rest-start : (start : Option ℕ) (place : ℕ) → start ≡ Some place → AtRest start place
   rest-start start place is = rw is
       (record { past = omega arith; same = refl; cause = λ e fault. fault })

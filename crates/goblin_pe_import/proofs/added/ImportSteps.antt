@@ -55,16 +55,6 @@ imports-start format start = record {
   finder = refl;
 }
 
-first-by : {A : Type 0} (o : Option A) (IsNow IsNext IsLater : ErrorOf → Type 0) (e : ErrorOf)
-    → (IsNow e → IsNext e) → FirstFault o IsNow (λ _. IsLater) e
-    → FirstFault o IsNext (λ _. IsLater) e
-first-by None IsNow IsNext IsLater e chain fault = chain fault
-first-by (Some x) IsNow IsNext IsLater e chain fault = fault
-
--- the walk at another place of its library, or between two
-abbrev pub walk_on : Walk → Option ℕ → Walk
-walk_on w place = record w { at = record w.at { place = place } }
-
 -- a walk that has ended
 pub ended-left : (format : Format EntryValue) (t : Walk) → t.at ≡ no_imports
     → walk_left format t ≡ []
@@ -145,40 +135,21 @@ module _ (format : Format EntryValue) (start s : Walk) (h : AtImports format sta
   steps-after r place given at =
       subst (λ (p : Option ℕ). GivesNext kept_value left IsCause s.at.place (Some r) p) at given
 
-  -- entries were passed over that give nothing
-  pub at-passed : (place : Option ℕ) → GivesWithin kept_value left IsCause s.at.place None place
-      → slots_bound s.bytes.now place ≤ slots_bound s.bytes.now s.at.place
-      → (s.at.place ≡ None → place ≡ None) → AtImports format start (walk_on s place)
-  at-passed place given onward stays = record {
-    same = h.same ∙ rw given.0 refl;
-    cause = λ e fault.
-        h.cause e (
-          fault.0,
-          rw given.0
-              (first-by (all_of (left place)) (IsCause place) (IsCause s.at.place) IsLater e (given.1 e) fault.1),
-        );
-    bound = omega (arith, onward, h.bound);
-    named = λ named. on s.at.place place stays _ _ (h.named named);
-    bytes = h.bytes;
-    finder = h.finder;
-  }
-    where
-      on : (at place : Option ℕ) → (at ≡ None → place ≡ None) → (dll name : List ℕ)
-          → IsNamedAt at dll name → IsNamedAt place dll name
-      on at None stays dll name named = tt
-      on None (Some p) stays dll name named = absurd (cc (stays refl))
-      on (Some q) (Some p) stays dll name named = named
+  -- no entries are left, though some may be passed over that give nothing
+  module _ (place : Option ℕ) (passed : GivesWithin kept_value left IsCause s.at.place None place)
+      (at_end : place ≡ None) where
+    none : left s.at.place ≡ []
+    unfolding entries_from
+    none = passed.0 ∙ rw at_end refl
 
-  -- no entries are left
-  module _ (none : Steps None) where
     abbrev Gives : Option (Result Walk ErrorOf) → Type 0
     Gives = GivesBy format s s.finder
 
     same_later : walk_left format start ≡ until_refused later
-    same_later = h.same ∙ rw (none.0) refl
+    same_later = h.same ∙ rw none refl
 
     cause_later : (e : ErrorOf) → (strict ≡ true) × IsLater e → IsWalkCause format start e
-    cause_later e fault = h.cause e (fault.0, rw (none.0) (fault.1))
+    cause_later e fault = h.cause e (fault.0, rw none (fault.1))
 
     pub next-none : Gives None → (t : Walk) → (t.at ≡ no_imports)
         → (walk_left format start ≡ []) × (walk_left format t ≡ [])

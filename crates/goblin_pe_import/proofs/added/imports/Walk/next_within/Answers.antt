@@ -5,8 +5,7 @@ use Rattle.goblin_pe_import.specs.added.ImportWalks.{walk_answer}
 use Rattle.goblin_pe_import.specs.added.StepsAhead.{later_ahead, walk_ahead}
 use Rattle.goblin_pe_import.specs.Steps.{slots_ahead}
 use Rattle.goblin_pe_import.specs.declared.added.imports.Walk.{Walk}
-use Rattle.goblin_pe_import.proofs.added.ImportSteps.{GivesBy, at-passed, ended-cause, imports-start, next-fault, next-library, next-none, next-refused, steps-after, walk_answer-ok, walk_on}
-use Rattle.goblin_pe_import.proofs.LookupWalk.{none-left}
+use Rattle.goblin_pe_import.proofs.added.ImportSteps.{GivesBy, ended-cause, imports-start, next-fault, next-library, next-none, next-refused, steps-after, walk_answer-ok}
 use Rattle.goblin_pe_import.proofs.SlotSteps.{counted-start, grown_none, grown_spent}
 use Rattle.goblin_pe_import.proofs.added.StepsAhead.{ended-ahead, grown_then, of_ok, place-ended, steps-kept, steps-library}
 use Rattle.goblin_pe_import.proofs.added.imports.Walk.next_within.Goals as goal
@@ -34,9 +33,6 @@ libraries-preserved g c =
     let place = c.next_kept_within.new.place in
     let has = c.are_out.ensures.no c.if-are_out.false in
     let none = place-ended place c.next_kept_within.new.steps (kept.ended refl) has in
-    let t1 = walk_on s place in
-    let passed = at-passed f c.args.self.now s h place kept.steps kept.onward kept.stays in
-    let empty = none-left (reads_strictly m) f m.addressing s.bytes.now s.at.table_offset place none in
     let t = c.next_library.new.self in
     let r = c.in-Some-Ok-next_library.field-0 in
     let library = c.in-Some-Ok-next_library.ensures in
@@ -48,7 +44,7 @@ libraries-preserved g c =
     let steps =
     steps-kept (length c.args.self.now.bytes.now) c.args.steps.now (walk_ahead f c.args.self.now) c.libraries.steps c.next_kept_within.new.steps
     (slots_ahead f s.bytes.now s.at.place) (slots_ahead f s.bytes.now place) rest c.libraries.invariant.1 kept.counted kept.less in (
-      next-library f c.args.self.now t1 passed empty (walk_answer t r) t gives (ap (walk_answer t) c.in-Some-Ok-next_library.field-0-is)
+      next-library f c.args.self.now s h place kept.steps none (walk_answer t r) t gives (ap (walk_answer t) c.in-Some-Ok-next_library.field-0-is)
           (walk_answer-ok (λ (t : Walk). t.bytes.now ≡ s.bytes.now) t r library.bytes)
           (walk_answer-ok (λ (t : Walk). t.finder ≡ s.finder) t r (library.finder ∙ kept.same)) library.bound library.named,
       rw c.spend.ensures
@@ -67,12 +63,10 @@ returns-in-Some-Err-next_library-clause-steps g c =
     let kept = c.in-None.ensures in
     let place = c.next_kept_within.new.place in
     let none = place-ended place c.next_kept_within.new.steps (kept.ended refl) (c.are_out.ensures.no c.if-are_out.false) in
-    let passed = at-passed f c.args.self.now s h place kept.steps kept.onward kept.stays in
-    let empty = none-left (reads_strictly m) f m.addressing s.bytes.now s.at.table_offset place none in
     let t = c.next_library.new.self in
     let r = c.in-Some-Err-next_library.field-0 in
     let gives = subst (λ (m : AddressMap). GivesBy f s m (Some (walk_answer t r))) kept.same c.in-Some-Err-next_library.ensures.gives in
-    next-refused f c.args.self.now (walk_on s place) passed empty (walk_answer t r) c.in-Some-Err-next_library.error gives
+    next-refused f c.args.self.now s h place kept.steps none (walk_answer t r) c.in-Some-Err-next_library.error gives
     (ap (walk_answer t) c.in-Some-Err-next_library.field-0-is) c.end-in-Some-Err-next_library.new.self
     c.end-in-Some-Err-next_library.ensures.at
 
@@ -85,12 +79,10 @@ returns-in-None-next_library-clause-steps g c =
     let kept = c.in-None.ensures in
     let place = c.next_kept_within.new.place in
     let none = place-ended place c.next_kept_within.new.steps (kept.ended refl) (c.are_out.ensures.no c.if-are_out.false) in
-    let passed = at-passed f c.args.self.now s h place kept.steps kept.onward kept.stays in
-    let empty = none-left (reads_strictly m) f m.addressing s.bytes.now s.at.table_offset place none in
     let gives = subst (λ (m : AddressMap). GivesBy f s m None) kept.same c.in-None-next_library.ensures.gives in
     let t = c.end-in-None-next_library.new.self in
     let ended = c.end-in-None-next_library.ensures.at in
-    let both = next-none f c.args.self.now (walk_on s place) passed empty gives t ended in
+    let both = next-none f c.args.self.now s h place kept.steps none gives t ended in
     (both.0 ∙ sym both.1, λ e fault. absurd (ended-cause f t ended e fault))
 
 pub returns-in-None-next_library-clause-looked : goal.returns-in-None-next_library-clause-looked
