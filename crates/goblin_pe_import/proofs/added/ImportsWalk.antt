@@ -8,8 +8,8 @@ use Rattle.goblin_base.specs.Tables.{Format, ends_table, or_left_out}
 use Rattle.goblin_base.proofs.SlotTables.{reads}
 use Rattle.goblin_base.proofs.Steps.{unmapped}
 use Rattle.readings.specs.Reads.{given, pair_of, pick}
-use Rattle.readings.specs.Walks.{from_slot, refusal_of, until_refused}
-use Rattle.readings.proofs.Walks.{IsSlotCause, cause-slot, slot-end, slot-going, slot-missing, slot-once, walk-slot}
+use Rattle.readings.specs.Walks.{from_slot, refusal_of, table_walk, until_refused}
+use Rattle.readings.proofs.Walks.{IsSlotCause, cause-slot, slot-end, slot-going, slot-missing, until_refused-later, walk-slot}
 use Rattle.goblin_pe_import.specs.declared.import.directory_entry.ImportDirectoryEntry.{ImportDirectoryEntry}
 use Rattle.goblin_pe_import.specs.declared.added.imports.Walk.{Walk}
 use Rattle.goblin_pe_import.specs.ImportEntries.{EntryValue, LookupEntry}
@@ -92,12 +92,11 @@ module _ (strict : Bool) (format : Format EntryValue) (addressing : Addressing)
         (λ p r. library_items strict format addressing bytes (record_index first p) r) bytes strict
         (lit≤ tt) p slots refl
 
+    -- at most the last of them is a refusal
     pub imports-once : until_refused (imports_from_record strict format addressing bytes first p)
         ≡ imports_from_record strict format addressing bytes first p
-    imports-once =
-        rw imports-slot (slot-once strict is_last_record
-        (library_items strict format addressing bytes (record_index first p))
-        (imports_from_record strict format addressing bytes first (p + 20)) slots)
+    unfolding imports_from_record table_walk
+    imports-once = until_refused-later [] _
 
 -- In strict mode, a cause that is true of the rest of a directory from its first entry on is true of
 -- it.
@@ -203,31 +202,23 @@ module _ (strict : Bool) (format : Format EntryValue) (addressing : Addressing)
   module _ (dll : List ℕ) (named : name.value bytes ≡ Some dll)
       (kept : is_skipped strict format addressing bytes r ≡ false) where
     -- a library that is walked over
-    pub walk-entered : parts_left (origin index dll) r.import_address_table_rva (unwrap_or at 0) at
-        (Some (address_table_rva r)) ≡ whole
-    unfolding library_items imports_next
-    walk-entered =
-        let imports =
-        imports_of_entries strict format addressing bytes (origin index dll) r.import_address_table_rva (unwrap_or at 0)
-        at in
-        let table = pending_table strict format addressing (Some (address_table_rva r)) in
-        rw (kept, named)
-        (ap until_refused
-        (sym (append_assoc imports (refusal_of (table.value bytes))
-        (imports_from_record strict format addressing bytes first next))))
-
-    -- a cause of the one is one of the other
-    pub cause-entered : (e : ErrorOf)
-        → IsPartsCause (unwrap_or at 0) at (Some (address_table_rva r)) e
-        → (strict ≡ true) × IsWholeCause e
-    cause-entered e fault = (fault.0, rw named fault.1)
-
     pub entered : (parts_left (origin index dll) r.import_address_table_rva (unwrap_or at 0) at
         (Some (address_table_rva r)) ≡ whole)
         × ((e : ErrorOf)
         → IsPartsCause (unwrap_or at 0) at (Some (address_table_rva r)) e
         → (strict ≡ true) × IsWholeCause e)
-    entered = (walk-entered, cause-entered)
+    unfolding library_items imports_next
+    entered =
+        let imports =
+        imports_of_entries strict format addressing bytes (origin index dll) r.import_address_table_rva (unwrap_or at 0)
+        at in
+        let table = pending_table strict format addressing (Some (address_table_rva r)) in (
+          rw (kept, named)
+              (ap until_refused
+              (sym (append_assoc imports (refusal_of (table.value bytes))
+              (imports_from_record strict format addressing bytes first next)))),
+          λ e fault. (fault.0, rw named fault.1),
+        )
 
 -- ---- once the entries of a library have come
 
