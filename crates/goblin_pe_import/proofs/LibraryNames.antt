@@ -21,17 +21,10 @@ missing strict (Some own) e = absurd cc
 missing true None e = refl
 missing false None e = absurd cc
 
--- the name at an address that a reader of names finds, or none
-pub said : (strict : Bool) (text : Option (List ℕ)) (name : Option (List ℕ))
+-- the text that is taken, or the empty one, is that at the address, or the empty one
+pub same_or_empty : (strict : Bool) (text : Option (List ℕ)) (name : Option (List ℕ))
     → in_its_place strict None (option_map (λ own. Some own) text) ≡ Some name
     → unwrap_or name [] ≡ unwrap_or text []
-said strict (Some own) name e = ap (λ (n : Option (List ℕ)). unwrap_or n []) (sym (same_value (Some own) name e))
-said true None name e = absurd cc
-said false None name e = ap (λ (n : Option (List ℕ)). unwrap_or n []) (sym (same_value None name e))
-
--- the name that a library has
-pub named : (strict : Bool) (text : Option (List ℕ)) (name : List ℕ)
-    → in_its_place strict [] text ≡ Some name → name ≡ unwrap_or text []
-named strict (Some own) name e = sym (same_value own name e)
-named true None name e = absurd cc
-named false None name e = sym (same_value [] name e)
+same_or_empty strict (Some own) name e = ap (λ (n : Option (List ℕ)). unwrap_or n []) (sym (same_value (Some own) name e))
+same_or_empty true None name e = absurd cc
+same_or_empty false None name e = ap (λ (n : Option (List ℕ)). unwrap_or n []) (sym (same_value None name e))

@@ -101,7 +101,7 @@ pub(crate) fn library_name<'a, 'e>(
 
 // The name at an address, or the empty one if none can be read.
 #[inline(always)]
-#[tactic(auto, using(crate::proofs::LibraryNames::said))]
+#[tactic(auto, using(crate::proofs::LibraryNames::same_or_empty))]
 pub(crate) fn name_or_empty<'a>(bytes: &'a [u8], rva: u32, finder: &mut Finder<'_>) -> &'a str
     ensures value { let name = name_at (map_of finder.old).addressing rva in
         result.now ≡ unwrap_or (name.value bytes.now) [] }
