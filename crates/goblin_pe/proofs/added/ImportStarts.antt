@@ -1,5 +1,5 @@
 -- Where the imports of a file begin, and a walk from there on.
-use Rattle.std.proofs.Common.{◌≡◌, ℕ, List, Option, None, Some, Result, Ok, Err, Bool, true, ap, subst, sym, ◌∙◌, IfErr, IfSome, IsSomeAnd}
+use Rattle.std.proofs.Common.{◌≡◌, ℕ, List, [], inl, inr, Option, None, Some, Result, Ok, Err, Bool, true, ap, subst, sym, ◌∙◌, IfErr, IfSome, IsSomeAnd}
 use Rattle.goblin_base.specs.declared.error.ErrorOf.{ErrorOf}
 use Rattle.goblin_base.specs.Answers.{IsMemory}
 use Rattle.goblin_base.specs.Reading.{Reading, Reads}
@@ -20,10 +20,11 @@ use Rattle.goblin_pe_import.specs.declared.added.imports.WalkedImport.{WalkedImp
 use Rattle.goblin_pe.specs.declared.whole.Part.TheVariants as part
 use Rattle.goblin_pe.specs.declared.added.file_imports.FileImports.{FileImports}
 use Rattle.goblin_pe.specs.declared.added.file_imports.FileImports.TheVariants.{Narrow, Wide}
-use Rattle.goblin_pe.specs.added.LayoutCursors.{file_ahead, file_cursor_ahead, GivesFileWithin, GivesFileImport, GivesFirst, IsImportWalkAt, PartBegins, StartsAt, begin_in, file_cursor_left, import_begin}
+use Rattle.goblin_pe.specs.added.LayoutCursors.{file_ahead, file_cursor_ahead, GivesFileWithin, GivesFileImport, GivesFirst, IsImportWalkAt, PartBegins, StartsAt, begin_in, file_cursor, file_cursor_left, import_begin}
 use Rattle.goblin_pe.specs.added.Layouts.{IsFileImportsCause, file_imports_left}
 use Rattle.goblin_pe.specs.Whole.{TablePlaces, directory_at, entry_format}
 use Rattle.goblin_pe_import.proofs.added.ImportCursors.{cursor_left_of}
+use Rattle.goblin_pe_import.proofs.added.ImportSteps.{ended-left}
 
 -- ---- where the imports begin
 
@@ -72,112 +73,77 @@ module _ (m : MapOfAddresses) (places : TablePlaces) (bytes : List ℕ) (d : Dat
 
 -- ---- a walk from there on
 
-over-again : {T : Type 0} (bytes : List ℕ) (m : MapOfAddresses) (s t : Imports T)
-    → AreImportsOver bytes m s → AreImportsOver (imports_bytes s) (imports_map s) t → AreImportsOver bytes m t
-over-again bytes m s t over again = (again.0 ∙ over.0, again.1 ∙ over.1)
+-- what is known of a walk is known of it after a call
+kept : {Own : Type 0} (s t : Imports ℕ) → AreImportsOver (imports_bytes s) (imports_map s) t
+    → (HasName s → HasName t) → (m : MapOfAddresses) (bytes : List ℕ)
+    → Own × AreImportsOver bytes m s × HasName s → Own × AreImportsOver bytes m t × HasName t
+kept s t over named m bytes walk =
+    (walk.0, (over.0 ∙ walk.1.0, over.1 ∙ walk.1.1), named walk.2)
 
-narrow-next : (s t : Imports ℕ) (r : Option (Result WalkedImport ErrorOf))
-    → GivesImport entries_32 s r t
-    → GivesNext walked_value file_imports_left IsFileImportsCause (Narrow s) r (Narrow t)
-    × IfSome r (λ r. IfErr r (λ e. ¬ IsMemory e))
-narrow-next s t None given = (given.0, tt)
-narrow-next s t (Some (Ok x)) given = (given.0, tt)
-narrow-next s t (Some (Err e)) given = (given.0, given.2.1)
-
-wide-next : (s t : Imports ℕ) (r : Option (Result WalkedImport ErrorOf))
-    → GivesImport entries_64 s r t
-    → GivesNext walked_value file_imports_left IsFileImportsCause (Wide s) r (Wide t)
-    × IfSome r (λ r. IfErr r (λ e. ¬ IsMemory e))
-wide-next s t None given = (given.0, tt)
-wide-next s t (Some (Ok x)) given = (given.0, tt)
-wide-next s t (Some (Err e)) given = (given.0, given.2.1)
-
--- a call of `next` of the walk over entries of one width is one of the walk over a file's imports
-pub narrow_given : (s t : Imports ℕ) (r : Option (Result WalkedImport ErrorOf))
-    → GivesImport entries_32 s r t → GivesFileImport (Narrow s) r (Narrow t)
-narrow_given s t r given =
-    let next = narrow-next s t r given in (
-      next.0,
-      λ m magic bytes walk. (walk.0, over-again bytes m s t walk.1 given.3, given.1 walk.2),
-      next.1,
-      given.4,
-      given.3.0,
-      given.3.1,
-    )
-
-pub wide_given : (s t : Imports ℕ) (r : Option (Result WalkedImport ErrorOf))
-    → GivesImport entries_64 s r t → GivesFileImport (Wide s) r (Wide t)
-wide_given s t r given =
-    let next = wide-next s t r given in (
-      next.0,
-      λ m magic bytes walk. (walk.0, over-again bytes m s t walk.1 given.3, given.1 walk.2),
-      next.1,
-      given.4,
-      given.3.0,
-      given.3.1,
-    )
-
--- ---- the same within a limit of steps
-
-narrow-steps : (s t : Imports ℕ) (r : Option (Result WalkedImport ErrorOf))
-    → GivesWithin walked_value (imports_left entries_32) (IsImportsCause entries_32) s r t
+-- an error is never Memory, and comes only in strict mode
+faults : (s : Imports ℕ) (r : Option (Result WalkedImport ErrorOf))
     → IfSome r (λ r. IfErr r (IsWalkFault s.walk))
-    → GivesWithin walked_value file_imports_left IsFileImportsCause (Narrow s) r (Narrow t)
-    × IfSome r (λ r. IfErr r (λ e. ¬ IsMemory e))
-narrow-steps s t None given fault = (given, tt)
-narrow-steps s t (Some (Ok x)) given fault = (given, tt)
-narrow-steps s t (Some (Err e)) given fault = (given, fault.1)
+    → IfSome r (λ r. IfErr r (λ e. ¬ IsMemory e))
+    × IfSome r (λ r. IfErr r (λ e. reads_strictly (imports_map s) ≡ true))
+faults s None fault = (tt, tt)
+faults s (Some (Ok x)) fault = (tt, tt)
+faults s (Some (Err e)) fault = (fault.1, fault.0)
 
-wide-steps : (s t : Imports ℕ) (r : Option (Result WalkedImport ErrorOf))
-    → GivesWithin walked_value (imports_left entries_64) (IsImportsCause entries_64) s r t
-    → IfSome r (λ r. IfErr r (IsWalkFault s.walk))
-    → GivesWithin walked_value file_imports_left IsFileImportsCause (Wide s) r (Wide t)
-    × IfSome r (λ r. IfErr r (λ e. ¬ IsMemory e))
-wide-steps s t None given fault = (given, tt)
-wide-steps s t (Some (Ok x)) given fault = (given, tt)
-wide-steps s t (Some (Err e)) given fault = (given, fault.1)
-
--- an error comes only in strict mode
-imports-strictly : (s : Imports ℕ) (r : Option (Result WalkedImport ErrorOf))
-    → IfSome r (λ r. IfErr r (IsWalkFault s.walk))
-    → IfSome r (λ r. IfErr r (λ e. reads_strictly (imports_map s) ≡ true))
-imports-strictly s None fault = tt
-imports-strictly s (Some (Ok x)) fault = tt
-imports-strictly s (Some (Err e)) fault = fault.0
+-- a call on a walk over entries of one width is one on the walk over a file's imports
+within : (wrap : Imports ℕ → FileImports) (s t : Imports ℕ)
+    (r : Option (Result WalkedImport ErrorOf))
+    → GivesWithin walked_value (λ s. file_imports_left (wrap s)) (λ s. IsFileImportsCause (wrap s)) s r t
+    → GivesWithin walked_value file_imports_left IsFileImportsCause (wrap s) r (wrap t)
+within wrap s t None given = given
+within wrap s t (Some (Ok x)) given = given
+within wrap s t (Some (Err e)) given = given
 
 pub narrow_within : (s t : Imports ℕ) (r : Option (Result WalkedImport ErrorOf)) (old new : Option ℕ)
     → GivesImportWithin entries_32 s old r t new → GivesFileWithin (Narrow s) old r (Narrow t) new
-narrow_within s t r old new given =
-    let steps = narrow-steps s t r given.steps given.fault in
-    record {
-      steps = steps.0;
-      walk = λ m magic bytes walk.
-          (walk.0, over-again bytes m s t walk.1 given.over, given.named walk.2);
-      fault = steps.1;
-      over = given.over;
-      spent = given.spent;
-      looked = given.looked;
-      ended = given.ended;
-      fewer = given.fewer;
-      strictly = imports-strictly s r given.fault;
-    }
+narrow_within s t r old new given = record {
+  steps = within Narrow s t r given.steps;
+  walk = λ m magic bytes. kept s t given.over given.named m bytes;
+  fault = (faults s r given.fault).0;
+  over = given.over;
+  spent = given.spent;
+  looked = given.looked;
+  ended = given.ended;
+  fewer = given.fewer;
+  strictly = (faults s r given.fault).1;
+}
 
 pub wide_within : (s t : Imports ℕ) (r : Option (Result WalkedImport ErrorOf)) (old new : Option ℕ)
     → GivesImportWithin entries_64 s old r t new → GivesFileWithin (Wide s) old r (Wide t) new
-wide_within s t r old new given =
-    let steps = wide-steps s t r given.steps given.fault in
-    record {
-      steps = steps.0;
-      walk = λ m magic bytes walk.
-          (walk.0, over-again bytes m s t walk.1 given.over, given.named walk.2);
-      fault = steps.1;
-      over = given.over;
-      spent = given.spent;
-      looked = given.looked;
-      ended = given.ended;
-      fewer = given.fewer;
-      strictly = imports-strictly s r given.fault;
-    }
+wide_within s t r old new given = record {
+  steps = within Wide s t r given.steps;
+  walk = λ m magic bytes. kept s t given.over given.named m bytes;
+  fault = (faults s r given.fault).0;
+  over = given.over;
+  spent = given.spent;
+  looked = given.looked;
+  ended = given.ended;
+  fewer = given.fewer;
+  strictly = (faults s r given.fault).1;
+}
+
+file-ended : (t : FileImports) → file_cursor t ≡ no_imports → file_imports_left t ≡ []
+file-ended (Narrow t) ended = ended-left entries_32 t.walk ended
+file-ended (Wide t) ended = ended-left entries_64 t.walk ended
+
+-- without a limit a call gives the next import, or is at the end
+pub file_given : (s t : FileImports) (r : Option (Result WalkedImport ErrorOf)) (new : Option ℕ)
+    → GivesFileWithin s None r t new → GivesFileImport s r t
+file_given s t None new given =
+    elim given.ended [
+      | inl ended ↦
+          let none = file-ended t ended in
+          ((given.steps.0 ∙ none, none), given.walk, tt, ended, given.over.0, given.over.1)
+      | inr out ↦ absurd out
+    ]
+file_given s t (Some (Ok x)) new given =
+    (given.steps, given.walk, given.fault, tt, given.over.0, given.over.1)
+file_given s t (Some (Err e)) new given =
+    (given.steps, given.walk, given.fault, given.ended, given.over.0, given.over.1)
 
 -- ---- a walk at a cursor
 

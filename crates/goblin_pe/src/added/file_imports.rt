@@ -151,12 +151,9 @@ impl<'a, 'm, 'e> Iterator for FileImports<'a, 'm, 'e> {
     ghost remaining = { λ it. at_most (file_imports_bound it) };
 
     #[inline(always)]
-    #[tactic(auto, using(crate::proofs::added::ImportStarts::narrow_given, crate::proofs::added::ImportStarts::wide_given))]
+    #[tactic(auto, using(crate::proofs::added::ImportStarts::file_given))]
     fn next(&mut self) -> Option<ResultOf<'e, WalkedImport<'a>>> {
-        match self {
-            FileImports::Narrow(imports) => imports.next(),
-            FileImports::Wide(imports) => imports.next(),
-        }
+        self.next_within(&mut None)
     }
 
     fn size_hint(&self) -> (usize, Option<usize>)
