@@ -1,5 +1,5 @@
 -- Where the imports of a file begin, and a walk from there on.
-use Rattle.std.proofs.Common.{◌≡◌, ℕ, List, [], inl, inr, Option, None, Some, Result, Ok, Err, Bool, true, ap, subst, sym, ◌∙◌, IfErr, IfSome, IsSomeAnd}
+use Rattle.std.proofs.Common.{◌≡◌, ℕ, List, [], inl, inr, Option, None, Some, Result, Ok, Err, Bool, true, ap, refl, subst, sym, ◌∙◌, IfErr, IfSome, IsSomeAnd}
 use Rattle.goblin_base.specs.declared.error.ErrorOf.{ErrorOf}
 use Rattle.goblin_base.specs.Answers.{IsMemory}
 use Rattle.goblin_base.specs.Reading.{Reading, Reads}
@@ -147,34 +147,24 @@ file_given s t (Some (Err e)) new given =
 
 -- ---- a walk at a cursor
 
-at-cursor : {T : Type 0} (m : MapOfAddresses) (format own : Format EntryValue) (bytes : List ℕ) (c : ImportCursor)
-    (imports : Imports T) → format ≡ own → AreImportsOver bytes m imports → HasName imports → cursor_of imports ≡ c
-    → imports_left own imports ≡ cursor_left m format bytes c
-at-cursor m format own bytes c imports is over named at =
-    cursor_left_of m own bytes c imports (record { over = over; at = at; named = named })
-    ∙ ap (λ (f : Format EntryValue). cursor_left m f bytes c) (sym is)
+module _ (m : MapOfAddresses) (magic : ℕ) (bytes : List ℕ) (c : ImportCursor) where
+  -- what is still to come follows from where it is
+  pub walk-left : (imports : FileImports) → IsImportWalkAt m magic bytes c imports
+      → file_imports_left imports ≡ file_cursor_left m magic bytes c
+  walk-left (Narrow imports) h =
+      rw h.0.0 (cursor_left_of m entries_32 bytes c imports (record { over = h.0.1; at = h.1; named = h.0.2 }))
+  walk-left (Wide imports) h =
+      rw h.0.0 (cursor_left_of m entries_64 bytes c imports (record { over = h.0.1; at = h.1; named = h.0.2 }))
 
--- what is still to come follows from where it is
-pub walk-left : (m : MapOfAddresses) (magic : ℕ) (bytes : List ℕ) (c : ImportCursor) (imports : FileImports)
-    → IsImportWalkAt m magic bytes c imports → file_imports_left imports ≡ file_cursor_left m magic bytes c
-walk-left m magic bytes c (Narrow imports) h =
-    at-cursor m (entry_format magic) entries_32 bytes c imports h.0.0 h.0.1 h.0.2 h.1
-walk-left m magic bytes c (Wide imports) h =
-    at-cursor m (entry_format magic) entries_64 bytes c imports h.0.0 h.0.1 h.0.2 h.1
+  -- so do the steps that are ahead
+  ahead-at : (format : Format EntryValue) (imports : Imports ℕ) → AreImportsOver bytes m imports
+      → cursor_of imports ≡ c → imports_ahead format imports ≡ cursor_ahead m format bytes c
+  ahead-at format imports over at =
+      ap (λ (m : MapOfAddresses). cursor_ahead m format (imports_bytes imports) (cursor_of imports)) over.1
+      ∙ ap (λ (b : List ℕ). cursor_ahead m format b (cursor_of imports)) over.0
+      ∙ ap (cursor_ahead m format bytes) at
 
--- so do the steps that are ahead
-ahead-at : {T : Type 0} (m : MapOfAddresses) (format own : Format EntryValue) (bytes : List ℕ) (c : ImportCursor)
-    (imports : Imports T) → format ≡ own → AreImportsOver bytes m imports → cursor_of imports ≡ c
-    → imports_ahead own imports ≡ cursor_ahead m format bytes c
-ahead-at m format own bytes c imports is over at =
-    ap (λ (m : MapOfAddresses). cursor_ahead m own (imports_bytes imports) (cursor_of imports)) over.1
-    ∙ ap (λ (b : List ℕ). cursor_ahead m own b (cursor_of imports)) over.0
-    ∙ ap (λ (c : ImportCursor). cursor_ahead m own bytes c) at
-    ∙ ap (λ (f : Format EntryValue). cursor_ahead m f bytes c) (sym is)
-
-pub walk-ahead : (m : MapOfAddresses) (magic : ℕ) (bytes : List ℕ) (c : ImportCursor) (imports : FileImports)
-    → IsImportWalkAt m magic bytes c imports → file_ahead imports ≡ file_cursor_ahead m magic bytes c
-walk-ahead m magic bytes c (Narrow imports) h =
-    ahead-at m (entry_format magic) entries_32 bytes c imports h.0.0 h.0.1 h.1
-walk-ahead m magic bytes c (Wide imports) h =
-    ahead-at m (entry_format magic) entries_64 bytes c imports h.0.0 h.0.1 h.1
+  pub walk-ahead : (imports : FileImports) → IsImportWalkAt m magic bytes c imports
+      → file_ahead imports ≡ file_cursor_ahead m magic bytes c
+  walk-ahead (Narrow imports) h = rw h.0.0 (ahead-at entries_32 imports h.0.1 h.1)
+  walk-ahead (Wide imports) h = rw h.0.0 (ahead-at entries_64 imports h.0.1 h.1)
