@@ -33,45 +33,21 @@ module _ (m : MapOfAddresses) (places : TablePlaces) (bytes : List ℕ) (d : Dat
   abbrev first : Reading ImportCursor
   first = first_import (reads_strictly m) m.addressing d.virtual_address
 
-  abbrev begin_by : Bool → Option DataDirectory → Reading ImportCursor
-  begin_by test directory = pick test (begin_in (reads_strictly m) m.addressing directory) (given no_imports)
-
-  begin-value : (import_begin m.opts m.addressing places).value bytes ≡ first.value bytes
+  pub begin-value : (import_begin m.opts m.addressing places).value bytes ≡ first.value bytes
   unfolding import_begin
-  begin-value =
-      ap (λ (test : Bool). (begin_by test (directory_at places 1)).value bytes) asked
-      ∙ ap (λ (directory : Option DataDirectory). (begin_by true directory).value bytes) there
+  begin-value = rw (asked, there) refl
 
-  begin-cause : (e : ErrorOf) → first.IsCause bytes e
+  pub begin-cause : (e : ErrorOf) → first.IsCause bytes e
       → (import_begin m.opts m.addressing places).IsCause bytes e
   unfolding import_begin
-  begin-cause e cause =
-      subst (λ (test : Bool). (begin_by test (directory_at places 1)).IsCause bytes e) (sym asked)
-      (subst (λ (directory : Option DataDirectory). (begin_by true directory).IsCause bytes e) (sym there) cause)
+  begin-cause e cause = rw (asked, there) cause
 
   pub begin-reads : (r : Result ImportCursor ErrorOf) → Reads (λ c. c) r first bytes
       → Reads (λ c. c) r (import_begin m.opts m.addressing places) bytes
   begin-reads (Ok c) h = begin-value ∙ h
   begin-reads (Err e) h = (begin-value ∙ h.0, begin-cause e h.1)
 
-  module _ (r : Result FileImports ErrorOf) (gives : GivesFirst m places.magic bytes first r) where
-    gives-by : (q : Result FileImports ErrorOf) → r ≡ q → GivesFirst m places.magic bytes first q
-    gives-by q is = subst (λ (q : Result FileImports ErrorOf). GivesFirst m places.magic bytes first q) is gives
-
-    pub start-refused : (e : ErrorOf) → r ≡ Err e
-        → StartsAt m places.magic bytes (import_begin m.opts m.addressing places) (Err e)
-    start-refused e is =
-        let h = gives-by (Err e) is in
-        (begin-value ∙ h.0, begin-cause e h.1)
-
-    pub start-read : (imports : FileImports) → r ≡ Ok imports
-        → StartsAt m places.magic bytes (import_begin m.opts m.addressing places)
-        (Ok (part.Read imports))
-    start-read imports is =
-        subst (λ (v : Option ImportCursor). IsSomeAnd v (λ c. PartBegins m places.magic bytes c (part.Read imports)))
-        (sym begin-value) (gives-by (Ok imports) is)
-
--- ---- a walk from there on
+-- ---- a call of a walk over them
 
 -- what is known of a walk is known of it after a call
 kept : {Own : Type 0} (s t : Imports ℕ) → AreImportsOver (imports_bytes s) (imports_map s) t

@@ -6,8 +6,8 @@ use Rattle.goblin_pe_import.specs.ImportReadings.{numbered_data}
 use Rattle.goblin_pe_import.specs.Imports.{numbered_imports}
 use Rattle.goblin_pe.specs.added.Layouts.{layout_bytes, layout_map, layout_places}
 use Rattle.goblin_pe.specs.Whole.{directory_at, entry_format, import_list, numbered_data_part}
+use Rattle.goblin_pe.proofs.added.ImportStarts.{begin-cause, begin-value}
 use Rattle.goblin_pe.proofs.added.WalkedParts.{unasked_mapped, list-refused, list-walked}
-use Rattle.goblin_pe.proofs.added.ImportStarts.{start-read, start-refused}
 use Rattle.goblin_pe.proofs.added.layout.Layout.imports.Goals as goal
 use Rattle.goblin_pe.proofs.added.layout.Layout.imports.Goals.{in_default-via-in-Some+else-opts, in_default-via-in_default}
 
@@ -41,13 +41,18 @@ returns-in_default-clause-walks c =
 
 pub returns-in_err-imports-in-Some-clause-starts : goal.returns-in_err-imports-in-Some-clause-starts
 returns-in_err-imports-in-Some-clause-starts c =
-    let m = layout_map c.args.self.now in
+    let l = c.args.self.now in
+    let m = layout_map l in
     let asked : m.opts.parse_imports ≡ true = sym (ap (λ (o : ParseOptions). o.parse_imports) c.opts-opts.ensures) ∙ c.if-opts.true in
+    let there = sym c.directory.ensures ∙ c.in-Some.is in
     let e = err_from_is_err_and c.from_residual.result c.from_residual.ensures.1 in
-    rw (e.1, e.2) (start-refused m (layout_places c.args.self.now) (layout_bytes c.args.self.now) c.in-Some.directory asked (sym c.directory.ensures ∙ c.in-Some.is) c.imports_in.result c.imports_in.ensures.first _ c.in_err-imports-in-Some.was)
+    let refused = rw c.in_err-imports-in-Some.was at c.imports_in.ensures.first in
+    rw (e.1, e.2) (begin-value m (layout_places l) (layout_bytes l) _ asked there ∙ refused.0, begin-cause m (layout_places l) (layout_bytes l) _ asked there _ refused.1)
 
 pub returns-in_ok-imports-in-Some-clause-starts : goal.returns-in_ok-imports-in-Some-clause-starts
 returns-in_ok-imports-in-Some-clause-starts c =
-    let m = layout_map c.args.self.now in
+    let l = c.args.self.now in
+    let m = layout_map l in
     let asked : m.opts.parse_imports ≡ true = sym (ap (λ (o : ParseOptions). o.parse_imports) c.opts-opts.ensures) ∙ c.if-opts.true in
-    start-read m (layout_places c.args.self.now) (layout_bytes c.args.self.now) c.in-Some.directory asked (sym c.directory.ensures ∙ c.in-Some.is) c.imports_in.result c.imports_in.ensures.first _ c.in_ok-imports-in-Some.was
+    rw (begin-value m (layout_places l) (layout_bytes l) c.in-Some.directory asked (sym c.directory.ensures ∙ c.in-Some.is))
+    (rw c.in_ok-imports-in-Some.was at c.imports_in.ensures.first)
