@@ -1,5 +1,5 @@
 -- The rows of sections that were read have their names from the string table.
-use Rattle.std.proofs.Common.{◌≡◌, ◌∙◌, ℕ, zero, suc, ◌+◌, ◌*◌, ◌/◌, ◌<◌, ◌≤◌, ◌==◌, Bool, true, false, not, List, [], ◌∷◌, length, map, refl, ap, arith, subst, sym, Option, None, Some, slice_get, slice_range, take, min, IsSomeAnd, ne_eqb, length-take}
+use Rattle.std.proofs.Common.{◌≡◌, ◌∙◌, ℕ, zero, suc, ◌+◌, ◌*◌, ◌/◌, ◌<◌, ◌≤◌, ◌==◌, Bool, true, false, not, List, [], ◌∷◌, length, map, refl, ap, arith, subst, sym, Option, None, Some, slice_get, slice_range, take, min, IsSomeAnd, ne_eqb, length-take, take-take}
 use Rattle.std.specs.List.{prefix_len, range_with_len}
 use Rattle.std.specs.Str.{is_utf8}
 use Rattle.std.proofs.lemmas.List.{take_all}
@@ -52,12 +52,6 @@ front-passed p zero xs = refl
 front-passed p (suc n) [] = refl
 front-passed p (suc n) (x ∷ xs) = front-first p n x xs (p x) refl (front-passed p n xs)
 
-shorter-take : (m k : ℕ) (xs : List ℕ) → m ≤ k → take m (take k xs) ≡ take m xs
-shorter-take zero k xs le = refl
-shorter-take (suc m) zero xs le = absurd (omega (arith, le))
-shorter-take (suc m) (suc k) [] le = refl
-shorter-take (suc m) (suc k) (x ∷ xs) le = ap (λ (ys : List ℕ). x ∷ ys) (shorter-take m k xs (omega (arith, le)))
-
 name-is : (header name : List ℕ) → length header ≡ 40 → text_at header 0 ≡ Some name → name ≡ before_nul header
 name-is header name size is =
     let here : text_at header 0 ≡ text_of (before_nul header) = rw size refl in
@@ -74,7 +68,7 @@ pub name_longer : (header name : List ℕ) → length header ≡ 40 → text_at 
 name_longer header name size is long =
     let k = prefix_len (λ b. not (b == 0)) header in
     let count : length name ≡ min k (length header) = ap (λ (xs : List ℕ). length xs) (name-is header name size is) ∙ length-take k header in
-    sym (shorter-take 8 k header (omega (arith, count, long))) ∙ sym (front-passed (λ b. not (b == 0)) 8 header)
+    sym (take-take 8 k header (omega (arith, count, long))) ∙ sym (front-passed (λ b. not (b == 0)) 8 header)
 
 -- ---- the names of sections that were read
 
