@@ -13,7 +13,7 @@ use Rattle.goblin_base.proofs.Kept.{without_test}
 use Rattle.goblin_pe_head.specs.declared.header.coff.CoffHeader.{CoffHeader}
 use Rattle.goblin_pe_head.specs.CoffHeader.{string_table_offset, symbols_end}
 use Rattle.goblin_pe_head.specs.CoffReadings.{strings_at, strings_of, symbols_of}
-use Rattle.goblin_pe_c_headers.specs.Symbols.{FindsTables, found_tables, symbol_tables, tables_with, texts_at, texts_of}
+use Rattle.goblin_pe_c_headers.specs.Symbols.{FindsTables, found_tables, symbol_tables, texts_at, texts_of}
 
 -- the texts of a string table are the bytes where they lie
 texts_long : (bytes : List ℕ) (p n : ℕ) (s : List ℕ) → string_table bytes p n ≡ Some s → length s ≡ n
@@ -37,53 +37,6 @@ strings_there bytes p s is =
     let size = step (number_at Little 4 bytes p) _ s is in
     texts_there bytes (p + 4) (size.value - 4) s (without_test (nat_lt size.value 4) (string_table bytes (p + 4) (size.value - 4)) s size.then)
 
--- what a header leads to, by how many bytes the texts have
-abbrev Leads : CoffHeader → List ℕ → Option (List ℕ) × Option (List ℕ) → Type 0
-Leads header bytes x = (tables_with header (option_map (λ s. length s) x.1)).value bytes ≡ Some (unwrap_or x.0 [], unwrap_or x.1 [])
-
-without_tables : (header : CoffHeader) (bytes : List ℕ) (x : Option (List ℕ) × Option (List ℕ)) → (header.pointer_to_symbol_table == 0) ≡ true → (symbol_tables header).value bytes ≡ Some x → Leads header bytes x
-unfolding symbols_of strings_of string_table_offset
-without_tables header bytes x none is =
-    let made : (symbol_tables header).value bytes ≡ Some (None, None) = rw none refl in
-    let same = same_value _ _ (sym made ∙ is) in
-    subst (Leads header bytes) same refl
-
--- by the tables that are there
-both_lead : (header : CoffHeader) (bytes records strings : List ℕ) → slice_at bytes header.pointer_to_symbol_table (18 * header.number_of_symbol_table) ≡ Some records
-    → (strings_at (symbols_end header)).value bytes ≡ Some strings → Leads header bytes (Some records, Some strings)
-both_lead header bytes records strings placed ended =
-    let texts = strings_there bytes (symbols_end header) strings ended in
-    rw (placed, texts) refl
-
-symbols_placed : (header : CoffHeader) (bytes : List ℕ) → (header.pointer_to_symbol_table == 0) ≡ false → (symbols_of header).value bytes ≡ option_map (λ (t : List ℕ). Some t) (slice_at bytes header.pointer_to_symbol_table (18 * header.number_of_symbol_table))
-unfolding symbols_of
-symbols_placed header bytes some = rw some refl
-
-strings_placed : (header : CoffHeader) (bytes : List ℕ) → (header.pointer_to_symbol_table == 0) ≡ false → (strings_of header).value bytes ≡ option_map (λ (t : List ℕ). Some t) ((strings_at (symbols_end header)).value bytes)
-unfolding strings_of string_table_offset
-strings_placed header bytes some = rw some refl
-
-with_tables : (header : CoffHeader) (bytes : List ℕ) (x : Option (List ℕ) × Option (List ℕ)) → (header.pointer_to_symbol_table == 0) ≡ false → (symbol_tables header).value bytes ≡ Some x → Leads header bytes x
-with_tables header bytes x some is =
-    let read = step ((symbols_of header).value bytes) _ x is in
-    let both = mapped ((strings_of header).value bytes) (λ (strings : Option (List ℕ)). (read.value, strings)) x read.then in
-    let records = mapped (slice_at bytes header.pointer_to_symbol_table (18 * header.number_of_symbol_table)) (λ (t : List ℕ). Some t) read.value (sym (symbols_placed header bytes some) ∙ read.is) in
-    let strings = mapped ((strings_at (symbols_end header)).value bytes) (λ (t : List ℕ). Some t) both.value (sym (strings_placed header bytes some) ∙ both.is) in
-    let holds = both_lead header bytes records.value strings.value records.is strings.is in
-    subst (Leads header bytes) both.made
-    (subst (λ (symbols : Option (List ℕ)). Leads header bytes (symbols, both.value)) records.made
-    (subst (λ (texts : Option (List ℕ)). Leads header bytes (Some records.value, texts)) strings.made holds))
-
--- tables that were read are led to
-leads : (header : CoffHeader) (bytes : List ℕ) (x : Option (List ℕ) × Option (List ℕ)) → (symbol_tables header).value bytes ≡ Some x → Leads header bytes x
-leads header bytes x is =
-    elim (cases_Bool (header.pointer_to_symbol_table == 0)) [
-      | inl none ↦ without_tables header bytes x none is
-      | inr some ↦ with_tables header bytes x some is
-    ]
-
--- ---- tables that are found
-
 not_few : (few : Bool) (table : Option (List ℕ)) (s : List ℕ) → cond few None table ≡ Some s → few ≡ false
 not_few true table s is = absurd (cc is)
 not_few false table s is = refl
@@ -97,37 +50,48 @@ texts_length bytes p s is =
     let long = texts_long bytes (p + 4) (size.value - 4) s (without_test (nat_lt size.value 4) table s size.then) in
     rw (size.is, few, long) refl
 
-texts_placed : (header : CoffHeader) (bytes : List ℕ) → (header.pointer_to_symbol_table == 0) ≡ false → (texts_of header).value bytes ≡ (texts_at (symbols_end header)).value bytes
-unfolding texts_of string_table_offset
-texts_placed header bytes some = rw some refl
+-- ---- tables that are found
 
--- how many bytes the texts have is what a header leads to
-abbrev HasTexts : CoffHeader → List ℕ → Option (List ℕ) → Type 0
-HasTexts header bytes strings = (texts_of header).value bytes ≡ Some (option_map (λ s. length s) strings)
+module _ (header : CoffHeader) (bytes : List ℕ) where
+  -- those that are read are found
+  abbrev Found : Option (List ℕ) × Option (List ℕ) → Type 0
+  Found x = (found_tables header).value bytes ≡ Some (unwrap_or x.0 [], unwrap_or x.1 [])
 
-no_texts : (header : CoffHeader) (bytes : List ℕ) (strings : Option (List ℕ)) → (header.pointer_to_symbol_table == 0) ≡ true → (strings_of header).value bytes ≡ Some strings → HasTexts header bytes strings
-unfolding strings_of string_table_offset texts_of
-no_texts header bytes strings none is =
-    let made : (strings_of header).value bytes ≡ Some None = rw none refl in
-    subst (HasTexts header bytes) (same_value _ _ (sym made ∙ is)) (rw none refl)
+  -- where there are none
+  none_found : (x : Option (List ℕ) × Option (List ℕ)) → (header.pointer_to_symbol_table == 0) ≡ true → (symbol_tables header).value bytes ≡ Some x → Found x
+  unfolding found_tables texts_of symbols_of strings_of string_table_offset
+  none_found x none is =
+      let made : (symbol_tables header).value bytes ≡ Some (None, None) = rw none refl in
+      subst Found (same_value _ _ (sym made ∙ is)) (rw none refl)
 
-some_texts : (header : CoffHeader) (bytes : List ℕ) (strings : Option (List ℕ)) → (header.pointer_to_symbol_table == 0) ≡ false → (strings_of header).value bytes ≡ Some strings → HasTexts header bytes strings
-some_texts header bytes strings some is =
-    let there = mapped ((strings_at (symbols_end header)).value bytes) (λ (t : List ℕ). Some t) strings (sym (strings_placed header bytes some) ∙ is) in
-    subst (HasTexts header bytes) there.made (texts_placed header bytes some ∙ texts_length bytes (symbols_end header) there.value there.is)
+  -- where there are some
+  both_found : (records strings : List ℕ) → (header.pointer_to_symbol_table == 0) ≡ false → slice_at bytes header.pointer_to_symbol_table (18 * header.number_of_symbol_table) ≡ Some records
+      → (strings_at (symbols_end header)).value bytes ≡ Some strings → Found (Some records, Some strings)
+  unfolding found_tables texts_of string_table_offset
+  both_found records strings some placed ended =
+      rw (some, texts_length bytes (symbols_end header) strings ended, placed, strings_there bytes (symbols_end header) strings ended) refl
 
-has_texts : (header : CoffHeader) (bytes : List ℕ) (strings : Option (List ℕ)) → (strings_of header).value bytes ≡ Some strings → HasTexts header bytes strings
-has_texts header bytes strings is =
-    elim (cases_Bool (header.pointer_to_symbol_table == 0)) [
-      | inl none ↦ no_texts header bytes strings none is
-      | inr some ↦ some_texts header bytes strings some is
-    ]
+  symbols_placed : (header.pointer_to_symbol_table == 0) ≡ false → (symbols_of header).value bytes ≡ option_map (λ (t : List ℕ). Some t) (slice_at bytes header.pointer_to_symbol_table (18 * header.number_of_symbol_table))
+  unfolding symbols_of
+  symbols_placed some = rw some refl
 
--- tables that are read are found
+  strings_placed : (header.pointer_to_symbol_table == 0) ≡ false → (strings_of header).value bytes ≡ option_map (λ (t : List ℕ). Some t) ((strings_at (symbols_end header)).value bytes)
+  unfolding strings_of string_table_offset
+  strings_placed some = rw some refl
+
+  some_found : (x : Option (List ℕ) × Option (List ℕ)) → (header.pointer_to_symbol_table == 0) ≡ false → (symbol_tables header).value bytes ≡ Some x → Found x
+  some_found x some is =
+      let read = step ((symbols_of header).value bytes) _ x is in
+      let both = mapped ((strings_of header).value bytes) (λ (strings : Option (List ℕ)). (read.value, strings)) x read.then in
+      let records = mapped (slice_at bytes header.pointer_to_symbol_table (18 * header.number_of_symbol_table)) (λ (t : List ℕ). Some t) read.value (sym (symbols_placed some) ∙ read.is) in
+      let strings = mapped ((strings_at (symbols_end header)).value bytes) (λ (t : List ℕ). Some t) both.value (sym (strings_placed some) ∙ both.is) in
+      subst Found both.made
+      (subst (λ (symbols : Option (List ℕ)). Found (symbols, both.value)) records.made
+      (subst (λ (texts : Option (List ℕ)). Found (Some records.value, texts)) strings.made (both_found records.value strings.value some records.is strings.is)))
+
 pub finds_tables : FindsTables
-unfolding found_tables
 finds_tables header bytes x is =
-    let read = step ((symbols_of header).value bytes) _ x is in
-    let both = mapped ((strings_of header).value bytes) (λ (strings : Option (List ℕ)). (read.value, strings)) x read.then in
-    let texts : HasTexts header bytes x.1 = subst (λ (y : Option (List ℕ) × Option (List ℕ)). HasTexts header bytes y.1) both.made (has_texts header bytes both.value both.is) in
-    rw (texts, leads header bytes x is) refl
+    elim (cases_Bool (header.pointer_to_symbol_table == 0)) [
+      | inl none ↦ none_found header bytes x none is
+      | inr some ↦ some_found header bytes x some is
+    ]
