@@ -1,6 +1,6 @@
 -- A loop that fills records with what comes next of a table.
-use Rattle.std.proofs.Common.{◌≡◌, ◌≢◌, ◌⊎◌, ◌==◌, ◌&&◌, not, eqb-true, ℕ, ◌+◌, ◌<◌, ◌≤◌, List, [], ◌∷◌, ◌++◌, length, map, take, drop, set, ap, subst, sym, refl, arith, ◌∙◌, inl, inr, Option, None, Some, IsSomeAnd, MatchResult, Result, Ok, Err, min, append-nil, Bool, true, false}
-use Rattle.std.proofs.Math.Nat.{min-eq_left, min-eq_right}
+use Rattle.std.proofs.Common.{◌≡◌, ◌≢◌, ◌⊎◌, ◌==◌, ◌&&◌, not, ℕ, ◌+◌, ◌<◌, ◌≤◌, List, [], ◌∷◌, ◌++◌, length, map, take, drop, set, ap, subst, sym, refl, arith, ◌∙◌, inl, inr, Option, None, Some, IsSomeAnd, MatchResult, Result, Ok, Err, append-nil, Bool, true, false}
+use Rattle.std.proofs.lemmas.Bool.Decides.{nat_tests}
 use Rattle.std.proofs.Math.Seq.{drop-append_seam, take-append_seam}
 use Rattle.std.proofs.lemmas.List.{append_assoc, length-append, length-map, length-set, map-append, take_all}
 use Rattle.goblin_base.specs.declared.error.ErrorOf.{ErrorOf}
@@ -11,7 +11,7 @@ use Rattle.goblin_pe_c_headers.proofs.Items.{room}
 
 -- ---- the values before a refusal
 
-before-all : {A : Type 0} (xs : List A) (items : List (Option A)) → values_before (unrefused xs ++ items) ≡ xs ++ values_before items
+pub before-all : {A : Type 0} (xs : List A) (items : List (Option A)) → values_before (unrefused xs ++ items) ≡ xs ++ values_before items
 unfolding values_before
 before-all [] items = refl
 before-all {A} (x ∷ xs) items = ap (λ (ys : List A). x ∷ ys) (before-all xs items)
@@ -55,22 +55,14 @@ module _ {R A B : Type 0} (view : R → B) (value_of : A → B) (old : List R) w
       let front : take count next ≡ values =
       ap (λ (xs : List A). take count xs) is ∙ ap (λ (n : ℕ). take n (values ++ more)) (sym h.counted) ∙ take-append_seam values more in
       record {
-        counted = least count (length old) (length next) h.fits (omega (arith, all)) (elim end [
-          | inl full ↦ inl full
-          | inr none ↦ inr (let few = all ∙ ap (λ (xs : List A). count + length xs) none in omega (arith, few))
-        ]);
+        counted = elim end [
+          | inl full ↦ omega (arith, all, full, h.fits)
+          | inr none ↦ (let few = all ∙ ap (λ (xs : List A). count + length xs) none in omega (arith, few, h.fits))
+        ];
         filled = subst (λ (made : List A). Filled view (map value_of made) old records) (sym front) h.filled;
       }
-    where
-      least : (n a b : ℕ) → n ≤ a → n ≤ b → (a ≤ n) ⊎ (b ≤ n) → n ≡ min a b
-      least n a b below_a below_b (inl h) = let is : a ≡ n = omega (arith, below_a, h) in sym (min-eq_left (omega (arith, is, below_b)) ∙ is)
-      least n a b below_a below_b (inr h) = let is : b ≡ n = omega (arith, below_b, h) in sym (min-eq_right (omega (arith, is, below_a)) ∙ is)
 
 -- ---- the end
-
-yes-of_not : (b : Bool) → not b ≡ false → b ≡ true
-yes-of_not true is = refl
-yes-of_not false is = absurd (cc is)
 
 -- without room it is not told
 pub done-at_room : {A IsCut : Type 0} {rest : List (Option A)} (room count : ℕ) (is_done : Bool) → (is_done ≡ true → rest ≡ [])
@@ -78,7 +70,7 @@ pub done-at_room : {A IsCut : Type 0} {rest : List (Option A)} (room count : ℕ
 done-at_room room count true ended goes_on = record {
   ended = λ _. ended refl;
   without_room = λ none. rw none refl;
-  goes_on = λ is. inl (let none = eqb-true room 0 (yes-of_not (room == 0) is) in omega (arith, none));
+  goes_on = λ is. inl (grind (arith, nat_tests, is));
 }
 done-at_room room count false ended goes_on = record { ended = λ is. absurd (cc is); without_room = λ _. refl; goes_on = goes_on }
 
@@ -225,26 +217,17 @@ module _ {P R A B S : Type 0} {table : Table P R A B} {left : S → List (Option
   done-none none = done-at_room (length old) count true (λ _. items-left ∙ none) (λ is. absurd (cc is))
 
   -- or not, as there is no more room, or it was cut, or a refusal comes
+  done-not : {IsCut : Type 0} → (length old ≤ count) ⊎ IsCut ⊎ IsRefusedNext (drop count (left start)) → TellsDone IsCut false
+  done-not why = done-at_room (length old) count false (λ is. absurd (cc is)) (λ _. why)
+
   pub done-full : {IsCut : Type 0} → length records ≤ count → TellsDone IsCut false
-  done-full full = record {
-    ended = λ is. absurd (cc is);
-    without_room = λ _. refl;
-    goes_on = λ is. inl (let same = h.held.same in omega (arith, full, same));
-  }
+  done-full full = let same = h.held.same in done-not (inl (omega (arith, full, same)))
 
   pub done-cut : {IsCut : Type 0} → IsCut → TellsDone IsCut false
-  done-cut cut = record {
-    ended = λ is. absurd (cc is);
-    without_room = λ _. refl;
-    goes_on = λ is. inr (inl cut);
-  }
+  done-cut cut = done-not (inr (inl cut))
 
   pub done-refused : {IsCut : Type 0} → left now ≡ None ∷ [] → TellsDone IsCut false
-  done-refused is = record {
-    ended = λ is. absurd (cc is);
-    without_room = λ _. refl;
-    goes_on = λ _. inr (inr (subst (λ (items : List (Option A)). IsRefusedNext items) (sym (items-left ∙ is)) tt));
-  }
+  done-refused is = done-not (inr (inr (subst (λ (items : List (Option A)). IsRefusedNext items) (sym (items-left ∙ is)) tt)))
 
   -- what a batch has given of its table
   pub items-gives : {IsCut : Type 0} (Holds : List (Option A) → Type 0) (q : P) → Given IsCut q → Holds (left start)

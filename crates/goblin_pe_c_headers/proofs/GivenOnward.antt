@@ -9,6 +9,18 @@ use Rattle.goblin_base.proofs.RecordItems.{length-records_in}
 use Rattle.goblin_pe_c_headers.specs.Onward.{GivesRows, row_table, unrefused}
 use Rattle.goblin_pe_c_headers.proofs.Batches.{AtItems, items-end, items-full, items-more, items-start, items-stay, done-end, done-full}
 
+-- ---- the items of a list from an index on
+
+pub from-item : {B : Type 0} (items : List B) (i : ℕ) (x : B) → slice_get items i ≡ Some x → drop i items ≡ x ∷ drop (i + 1) items
+from-item {B} items i x there =
+    drop_more items i x (slice_get_within items i x there) ∙ ap (λ (y : B). y ∷ drop (i + 1) items) (get_or_from_slice_get items i x x there)
+
+pub past-end : {B : Type 0} (items : List B) (i : ℕ) → slice_get items i ≡ None → length items ≤ i
+past-end items i none = elim (slice_get_cases items i).1 [
+  | inl there ↦ absurd (cc (there.2, none))
+  | inr past ↦ past.0
+]
+
 -- ---- a loop that fills records
 
 -- the items at an index, and those that come next
@@ -27,11 +39,8 @@ module _ {W B : Type 0} {view : W → B} {items : List B} {from : ℕ} {old : Li
   pub onward-more : (next : ℕ) (r : W) → slice_get items index ≡ Some (view r) → next ≡ index + 1
       → count < length records → AtIndex view items from old next (set records count r) (count + 1)
   onward-more next r there after room =
-      let within = slice_get_within items index (view r) there in
-      let here : drop index items ≡ view r ∷ drop (index + 1) items =
-      drop_more items index (view r) within ∙ ap (λ (x : B). x ∷ drop (index + 1) items) (get_or_from_slice_get items index (view r) (view r) there) in
       let moved = h.moved in
-      rw after (record { at = items-more h.at (view r) (index + 1) (index + 1) r (ap unrefused here) room refl refl; moved = omega (arith, moved) })
+      rw after (record { at = items-more h.at (view r) (index + 1) (index + 1) r (ap unrefused (from-item items index (view r) there)) room refl refl; moved = omega (arith, moved) })
 
   -- the index after that of an item is one in 64 bits
   pub onward-next : (next : ℕ) (r : W) → length items < 2 ^ 64 → slice_get items index ≡ Some (view r) → next ≡ (index + 1) % 2 ^ 64
@@ -44,10 +53,7 @@ module _ {W B : Type 0} {view : W → B} {items : List B} {from : ℕ} {old : Li
   pub onward-all : slice_get items index ≡ None → count < length records
       → GivesRows view items (record { position = from; records = old }) (record { position = index; records = records }) (record { count = count; is_done = true })
   onward-all none within =
-      let no : drop index items ≡ [] = elim (slice_get_cases items index).1 [
-        | inl there ↦ absurd (cc (there.2, none))
-        | inr past ↦ drop_of_length-le items past.0
-      ] in
+      let no = drop_of_length-le items (past-end items index none) in
       (items-end h.at index (ap unrefused no) (ap (λ (xs : List B). Some (unrefused xs)) no) (items-stay h.at), (done-end h.at (ap unrefused no) within, h.moved))
 
   -- and where no room is

@@ -1,6 +1,6 @@
 -- The base relocations of a block from a cursor on.
-use Rattle.std.proofs.Common.{◌≡◌, ◌∙◌, ◌≤◌, ℕ, zero, suc, ◌+◌, ◌*◌, ◌/◌, List, [], ◌∷◌, drop, length, min, take, refl, ap, arith, subst, sym, None, Option, Some, length-drop, length-take}
-use Rattle.std.proofs.lemmas.List.{drop-drop, length-map}
+use Rattle.std.proofs.Common.{append-nil, ◌≡◌, ◌∙◌, ◌≤◌, ℕ, zero, suc, ◌+◌, ◌*◌, ◌/◌, List, [], ◌∷◌, drop, length, min, take, refl, ap, arith, subst, sym, Option, Some, length-drop, length-take}
+use Rattle.std.proofs.lemmas.List.{drop-drop}
 use Rattle.goblin_base.specs.declared.endian.Endian.TheVariants.{Little}
 use Rattle.goblin_base.specs.Tables.{records_in}
 use Rattle.goblin_base.proofs.RecordItems.{records_in-more, records_in-none}
@@ -10,7 +10,7 @@ use Rattle.goblin_pe_c_headers.specs.declared.cursor.PeBaseRelocationCursor.{PeB
 use Rattle.goblin_pe_c_headers.specs.declared.word.PeBaseRelocation.{PeBaseRelocation}
 use Rattle.goblin_pe_c_headers.specs.Onward.{GivesOnward, unrefused, values_before}
 use Rattle.goblin_pe_c_headers.specs.Words.{GivesWords, block_words, word_for_c, word_table, words_for_c}
-use Rattle.goblin_pe_c_headers.proofs.Batches.{fills-by}
+use Rattle.goblin_pe_c_headers.proofs.Batches.{before-all, fills-by}
 
 -- the records after some of them
 records-dropped-by : {V : Type 0} (value : List ℕ → V) (n : ℕ) (xs : List ℕ) (k : ℕ) → length xs / 2 ≡ k
@@ -31,20 +31,14 @@ records-dropped value zero xs = refl
 records-dropped value (suc n) xs = records-dropped-by value n xs (length xs / 2) refl (records-dropped value n (drop 2 xs))
 
 -- no more are given than there are
-before-few : {A : Type 0} (items : List (Option A)) → length (values_before items) ≤ length items
-unfolding values_before
-before-few [] = omega arith
-before-few (Some x ∷ items) = let rest = before-few items in omega (arith, rest)
-before-few (None ∷ items) = omega arith
-
 pub given-few : {W : Type 0} (items : List W) (old new : List W) (n : ℕ) (batch : PeBatch)
     → GivesOnward items (record { position = 0; records = old }) (record { position = n; records = new }) batch → n ≤ length items
+unfolding values_before
 given-few {W} items old new n batch onward =
-    let few = before-few (unrefused items) in
-    let all = length-map items (λ (w : W). Some w) in
+    let all = ap (λ (xs : List (Option W)). length (values_before xs)) (sym (append-nil (unrefused items))) ∙ ap (λ (xs : List W). length xs) (before-all items [] ∙ append-nil items) in
     let counted = onward.0.batch.counted in
     let front = length-take batch.count (values_before (unrefused items)) in
-    omega (arith, few, all, counted, front, onward.1.1)
+    omega (arith, all, counted, front, onward.1.1)
 
 -- what is given of the words from a cursor on is given of the block
 pub words_given : (bytes : List ℕ) (c : PeBaseRelocationCursor) (old new : List PeBaseRelocation) (n : ℕ) (batch : PeBatch) (words : List ℕ) → words ≡ block_words bytes c
