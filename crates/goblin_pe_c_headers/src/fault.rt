@@ -289,10 +289,10 @@ fn fault(status: Status, cause: u32, first: u64, second: u64) -> PeFault
 }
 
 // A fault with this cause.
-fn malformed(cause: u32, first: u64, second: u64) -> PeFault
+fn malformed(cause: u32, first: usize, second: usize) -> PeFault
     ensures { result ≡ fault 1 cause first second }
 {
-    fault(Status::Malformed, cause, first, second)
+    fault(Status::Malformed, cause, first as u64, second as u64)
 }
 
 // The number of what a file is too short for.
@@ -379,89 +379,61 @@ fn cause_for_c(cause: &Cause) -> PeFault
     match cause {
         Cause::Message(_) => malformed(CauseNumber::Message as u32, 0, 0),
         Cause::NoDosSignature => malformed(CauseNumber::NoDosSignature as u32, 0, 0),
-        Cause::DosMagic(magic) => malformed(CauseNumber::DosMagic as u32, u64::from(*magic), 0),
+        Cause::DosMagic(magic) => malformed(CauseNumber::DosMagic as u32, usize::from(*magic), 0),
         Cause::NoPePointer => malformed(CauseNumber::NoPePointer as u32, 0, 0),
-        Cause::NoPeSignature(offset) => malformed(
-            CauseNumber::NoPeSignature as u32,
-            *offset as u64,
-            0,
-        ),
-        Cause::PeMagic(magic) => malformed(CauseNumber::PeMagic as u32, u64::from(*magic), 0),
+        Cause::NoPeSignature(offset) => malformed(CauseNumber::NoPeSignature as u32, *offset, 0),
+        Cause::PeMagic(magic) => malformed(CauseNumber::PeMagic as u32, *magic as usize, 0),
         Cause::StubBeforeStart(offset) => malformed(
             CauseNumber::StubBeforeStart as u32,
-            u64::from(*offset),
+            *offset as usize,
             0,
         ),
         Cause::StubPastEnd(length, end) => malformed(
             CauseNumber::StubPastEnd as u32,
-            *length as u64,
-            *end as u64,
+            *length,
+            *end,
         ),
         Cause::NoDans => malformed(CauseNumber::NoDans as u32, 0, 0),
-        Cause::RichBounds(begin, end) => malformed(
-            CauseNumber::RichBounds as u32,
-            *begin as u64,
-            *end as u64,
-        ),
-        Cause::StrippedSize(size) => malformed(
-            CauseNumber::StrippedSize as u32,
-            u64::from(*size),
-            0,
-        ),
+        Cause::RichBounds(begin, end) => malformed(CauseNumber::RichBounds as u32, *begin, *end),
+        Cause::StrippedSize(size) => malformed(CauseNumber::StrippedSize as u32, *size as usize, 0),
         Cause::CoffLength => malformed(CauseNumber::CoffLength as u32, 0, 0),
-        Cause::DirectoryIndex(index) => malformed(
-            CauseNumber::DirectoryIndex as u32,
-            *index as u64,
-            0,
-        ),
-        Cause::DirectoryCount(count) => malformed(
-            CauseNumber::DirectoryCount as u32,
-            *count as u64,
-            0,
-        ),
+        Cause::DirectoryIndex(index) => malformed(CauseNumber::DirectoryIndex as u32, *index, 0),
+        Cause::DirectoryCount(count) => malformed(CauseNumber::DirectoryCount as u32, *count, 0),
         Cause::NameText => malformed(CauseNumber::NameText as u32, 0, 0),
         Cause::NameBase64 => malformed(CauseNumber::NameBase64 as u32, 0, 0),
         Cause::NameDecimal => malformed(CauseNumber::NameDecimal as u32, 0, 0),
-        Cause::NameOffset(offset) => malformed(CauseNumber::NameOffset as u32, *offset as u64, 0),
-        Cause::SymbolName(offset) => malformed(
-            CauseNumber::SymbolName as u32,
-            u64::from(*offset),
-            0,
-        ),
+        Cause::NameOffset(offset) => malformed(CauseNumber::NameOffset as u32, *offset, 0),
+        Cause::SymbolName(offset) => malformed(CauseNumber::SymbolName as u32, *offset as usize, 0),
         Cause::StringTable(offset, length) => malformed(
             CauseNumber::StringTable as u32,
-            *offset as u64,
-            *length as u64,
+            *offset,
+            *length,
         ),
         Cause::FieldTooWide => malformed(CauseNumber::FieldTooWide as u32, 0, 0),
-        Cause::Unmapped(rva) => malformed(CauseNumber::Unmapped as u32, *rva as u64, 0),
-        Cause::NameRead(offset) => malformed(CauseNumber::NameRead as u32, *offset as u64, 0),
-        Cause::HintEntry(offset) => malformed(CauseNumber::HintEntry as u32, *offset as u64, 0),
-        Cause::LookupEnd(offset) => malformed(CauseNumber::LookupEnd as u32, *offset as u64, 0),
+        Cause::Unmapped(rva) => malformed(CauseNumber::Unmapped as u32, *rva, 0),
+        Cause::NameRead(offset) => malformed(CauseNumber::NameRead as u32, *offset, 0),
+        Cause::HintEntry(offset) => malformed(CauseNumber::HintEntry as u32, *offset, 0),
+        Cause::LookupEnd(offset) => malformed(CauseNumber::LookupEnd as u32, *offset, 0),
         Cause::ImportRecordEnd(offset) => malformed(
             CauseNumber::ImportRecordEnd as u32,
-            *offset as u64,
+            *offset,
             0,
         ),
-        Cause::ExportTable(offset) => malformed(CauseNumber::ExportTable as u32, *offset as u64, 0),
+        Cause::ExportTable(offset) => malformed(CauseNumber::ExportTable as u32, *offset, 0),
         Cause::Forwarder => malformed(CauseNumber::Forwarder as u32, 0, 0),
         Cause::ForwarderOrdinal => malformed(CauseNumber::ForwarderOrdinal as u32, 0, 0),
         Cause::RelocRange(offset, size) => malformed(
             CauseNumber::RelocRange as u32,
-            *offset as u64,
-            u64::from(*size),
+            *offset,
+            *size as usize,
         ),
-        Cause::BlockSize(size) => malformed(CauseNumber::BlockSize as u32, u64::from(*size), 0),
-        Cause::BlockRange(begin, size) => malformed(
-            CauseNumber::BlockRange as u32,
-            *begin as u64,
-            *size as u64,
-        ),
+        Cause::BlockSize(size) => malformed(CauseNumber::BlockSize as u32, *size as usize, 0),
+        Cause::BlockRange(begin, size) => malformed(CauseNumber::BlockRange as u32, *begin, *size),
         Cause::Overflow => malformed(CauseNumber::Overflow as u32, 0, 0),
         Cause::SlotCount(entries, slots) => malformed(
             CauseNumber::SlotCount as u32,
-            *entries as u64,
-            *slots as u64,
+            *entries,
+            *slots,
         ),
     }
 }

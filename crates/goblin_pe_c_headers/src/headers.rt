@@ -7,7 +7,7 @@ use goblin_pe_head::optional_header::{OptionalHeader, StandardFields, WindowsFie
 
 /// The optional header without its data directories; zeros where there is none.
 #[repr(C)]
-#[derive(Copy, Clone)]
+#[derive(Copy, Clone, Default)]
 pub struct PeOptionalHeader {
     /// The standard fields, whose magic is 0 where there is no optional header.
     pub standard_fields: StandardFields,
@@ -25,9 +25,6 @@ pub fn fill_optional(fields: &mut PeOptionalHeader, header: &Option<OptionalHead
             fields.standard_fields = header.standard_fields;
             fields.windows_fields = header.windows_fields;
         }
-        None => {
-            fields.standard_fields = StandardFields::default();
-            fields.windows_fields = WindowsFields::default();
-        }
+        None => *fields = PeOptionalHeader::default(),
     }
 }

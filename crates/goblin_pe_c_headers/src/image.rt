@@ -9,7 +9,6 @@ use crate::headers::PeOptionalHeader;
 use crate::options::PeOptions;
 use crate::places::PePlaces;
 use goblin_pe_head::header::{CoffHeader, DosHeader};
-use goblin_pe_head::optional_header::{StandardFields, WindowsFields};
 use goblin_pe_sect::data_directories::DataDirectory;
 
 /// Bytes of the file. A slice without bytes has the length 0, and a pointer that is not null but
@@ -34,7 +33,7 @@ pub fn slice_record<'a>(text: Option<&'a str>) -> Option<PeSlice<'a>>
 /// Where the Rich header is; zeros if there is none. Its entries lie between the padding and the
 /// marker Rich.
 #[repr(C)]
-#[derive(Copy, Clone)]
+#[derive(Copy, Clone, Default)]
 pub struct PeRichHeader {
     /// The key, under which each word is stored: as its exclusive or with the key.
     pub key: u32,
@@ -108,20 +107,10 @@ pub fn zero_image<'a>(bytes: &'a [u8], options: &PeOptions, kind: u32) -> PeImag
         has_optional_header: false,
         is_dos_stub_replaced: false,
         moved_by: 0,
-        optional_header: PeOptionalHeader {
-            standard_fields: StandardFields::default(),
-            windows_fields: WindowsFields::default(),
-        },
+        optional_header: PeOptionalHeader::default(),
         directories: [DataDirectory::default(); 16],
         dos_stub_size: 0,
-        rich_header: PeRichHeader {
-            key: 0,
-            start_offset: 0,
-            end_offset: 0,
-            padding_size: 0,
-            is_present: false,
-            reserved: [0; 3],
-        },
+        rich_header: PeRichHeader::default(),
         reserved: 0,
     }
 }

@@ -303,18 +303,6 @@ pub fn next_sections<'a>(
     Ok(())
 }
 
-// Writes a section header, and says how many bytes it takes.
-fn write_record(section: &SectionTable, out: &mut [u8], written: &mut usize) -> Result<()>
-    ensures written { let old : Output = record { out = out.old; written = written.old } in
-        let new : Output = record { out = out.new; written = written.new } in
-        WritesOut (overwritten out.old 0 (encoding Little (section_fields section.now)))
-        (λ size. size ≡ 40) (IsSliceFault out.old 0 40) old new result }
-    ensures back { SectionWritesBack }
-{
-    *written = section.try_into_ctx(out, Endian::Little)?;
-    Ok(())
-}
-
 /// Writes the 40 bytes of a section header. Writes `stored_name`, and not `name`. Sets `written` to
 /// 40.
 ///
@@ -328,7 +316,8 @@ pub fn write_section(section: &PeSection, out: &mut [u8], written: &mut usize) -
         (λ size. size ≡ 40) (IsSliceFault out.old 0 40) old new result }
     ensures back { SectionWritesBack }
 {
-    write_record(&section_of(section), out, written)
+    *written = section_of(section).try_into_ctx(out, Endian::Little)?;
+    Ok(())
 }
 
 /// Sets `stored_name` to a slash and a string table offset. The field `name` stays as it is.
