@@ -1471,7 +1471,8 @@ enum goblin_pe_auxiliary_kind {
 
 /* The first auxiliary record of a symbol: the fields of its kind; all others are zeros. */
 struct goblin_pe_auxiliary {
-    /* `FunctionDefinition`, and `WeakExternal`: the index of the symbol that replaces it. */
+    /* `FunctionDefinition`: the index of the symbol at the function's beginning. `WeakExternal`:
+       the index of the symbol that replaces it. */
     uint32_t tag_index;
     /* `FunctionDefinition`. */
     uint32_t total_size;
@@ -1506,9 +1507,9 @@ struct goblin_pe_auxiliary {
     uint32_t reserved2;
 };
 
-/* Reads the auxiliary records of a symbol, and returns their kind, an `goblin_pe_auxiliary_kind`.
-   The kind is NONE if the symbol has none, or they are cut, or its class and type name no kind. The
-   raw bytes are in `symbol.auxiliary`. */
+/* Reads the auxiliary records of a symbol, and returns their kind, one of
+   `goblin_pe_auxiliary_kind`. The kind is NONE if the symbol has none, or they are cut, or its
+   class and type name no kind. The raw bytes are in `symbol.auxiliary`. */
 uint32_t goblin_pe_read_auxiliary(
     const struct goblin_pe_symbol *symbol, struct goblin_pe_auxiliary *auxiliary);
 

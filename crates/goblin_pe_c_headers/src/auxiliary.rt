@@ -45,7 +45,8 @@ const _: () = prove!(
 #[repr(C)]
 #[derive(Copy, Clone)]
 pub struct PeAuxiliary<'a> {
-    /// `FunctionDefinition`, and `WeakExternal`: the index of the symbol that replaces it.
+    /// `FunctionDefinition`: the index of the symbol at the function's beginning. `WeakExternal`:
+    /// the index of the symbol that replaces it.
     pub tag_index: u32,
     /// `FunctionDefinition`.
     pub total_size: u32,

@@ -27,7 +27,7 @@ pub extern "C" fn goblin_pe_raw_string_at<'a>(
     put_found(text, slice_record(string_at(image, offset)))
 }
 
-/// Reads the auxiliary records of a symbol, and returns their kind, an
+/// Reads the auxiliary records of a symbol, and returns their kind, one of
 /// [`AuxiliaryKind`](goblin_pe_c_headers::auxiliary::AuxiliaryKind). The kind is NONE if the symbol
 /// has none, or they are cut, or its class and type name no kind. The raw bytes are in
 /// `symbol.auxiliary`.
