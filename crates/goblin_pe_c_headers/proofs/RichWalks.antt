@@ -1,15 +1,13 @@
 -- The walk over the entries of a Rich header that was read gives its own.
-use Rattle.std.proofs.Common.{◌≡◌, ◌∙◌, ℕ, ◌+◌, ◌-◌, ◌*◌, ◌/◌, ◌%◌, ◌^◌, ◌<◌, ◌≤◌, ◌==◌, ◌&&◌, Bool, true, false, cond, List, [], drop, take, length, refl, ap, sym, subst, arith, Option, Some, None, IfSome, nat_le, nat_lt, slice_range, length-take, length-drop, take-take, length-take-le, leb-true, drop_of_length-le}
+use Rattle.std.proofs.Common.{◌≡◌, ◌∙◌, ℕ, ◌+◌, ◌-◌, ◌*◌, ◌/◌, ◌%◌, ◌^◌, ◌<◌, ◌≤◌, ◌==◌, ◌&&◌, Bool, true, false, cond, List, [], drop, take, length, refl, ap, sym, subst, arith, Option, Some, None, IfSome, nat_le, nat_lt, slice_range, length-take, length-drop, leb-true, drop_of_length-le}
 use Rattle.std.proofs.lemmas.Bool.{and_parts, ltb-true}
 use Rattle.std.proofs.lemmas.Bool.Decides.{nat_tests}
-use Rattle.std.proofs.lemmas.List.{drop-drop, drop-take}
 use Rattle.std.proofs.lemmas.Option.{cond_some}
 use Rattle.goblin_base.specs.declared.endian.Endian.TheVariants.{Little}
 use Rattle.goblin_base.specs.Bytes.{IsBytes, number, slice_at}
-use Rattle.goblin_base.proofs.Fronts.{HaveFront, slice-front}
-use Rattle.goblin_base.proofs.Numbers.{slice_at-inside}
+use Rattle.goblin_base.proofs.Numbers.{rest_is_drop, slice-of_slice, slice_at-inside}
 use Rattle.goblin_base.proofs.Parts.{find_is}
-use Rattle.goblin_base.proofs.RecordRoundTrip.{IsBytes-slice, number-lt}
+use Rattle.goblin_base.proofs.RecordRoundTrip.{IsBytes-slice, length-slice, number-lt}
 use Rattle.goblin_base.proofs.Records.{record_at-some}
 use Rattle.goblin_base.proofs.Steps.{same_value, step}
 use Rattle.goblin_pe_head.specs.declared.header.dos.DosHeader.{DosHeader}
@@ -39,27 +37,20 @@ module _ (bytes : List ℕ) (p : ℕ) where
 
   range_of_file : (i q m : ℕ) → i + 8 ≤ length stretch → q + m ≤ i → slice_range (stored stretch i) q (q + m) ≡ slice_range bytes (64 + q) (64 + q + m)
   range_of_file i q m high inside =
-      let file = drop 64 bytes in
-      let long : length (stored stretch i) ≡ i + 8 = length-take-le (i + 8) stretch high in
-      let cut : take (i + 8) (take (p - 64) file) ≡ take (i + 8) file = take-take (i + 8) (p - 64) file (omega (arith, high, length-take (p - 64) file)) in
-      let front : HaveFront (i + 8) (stored stretch i) file = record {
-        in_a = omega (arith, long);
-        in_b = omega (arith, high, length-take (p - 64) file);
-        same = take-take (i + 8) (i + 8) stretch (omega arith) ∙ cut;
-      } in
-      let width : q + m - q ≡ m = omega arith in
-      let wide : 64 + q + m - (64 + q) ≡ m = omega arith in
-      slice-front (i + 8) q m (stored stretch i) file front (omega (arith, inside))
-      ∙ ap (λ (n : ℕ). take n (drop q file)) width ∙ ap (λ (xs : List ℕ). take m xs) (drop-drop q 64 bytes)
-      ∙ sym (ap (λ (n : ℕ). take n (drop (64 + q) bytes)) wide)
+      let long = length-take (p - 64) (drop 64 bytes) in
+      let front : 0 + (i + 8) - 0 ≡ i + 8 = omega arith in
+      let end : 64 + (p - 64) ≡ p = omega (arith, high, long) in
+      ap (λ (n : ℕ). slice_range (take n stretch) q (q + m)) (sym front) ∙ slice-of_slice stretch 0 (i + 8) q m (omega (arith, inside))
+      ∙ ap (λ (k : ℕ). slice_range stretch k (k + m)) (let same : 0 + q ≡ q = omega arith in same)
+      ∙ ap (λ (k : ℕ). slice_range (slice_range bytes 64 k) q (q + m)) (sym end)
+      ∙ slice-of_slice bytes 64 (p - 64) q m (omega (arith, high, inside, long))
 
 -- what is left of bytes of the file after some of them
-rest_of_range : (bytes : List ℕ) (q m n : ℕ) → n ≤ m → drop n (slice_range bytes q (q + m)) ≡ slice_range bytes (q + n) (q + n + (m - n))
-rest_of_range bytes q m n le =
-    let width : q + m - q ≡ n + (m - n) = omega (arith, le) in
-    let wide : q + n + (m - n) - (q + n) ≡ m - n = omega arith in
-    ap (λ (k : ℕ). drop n (take k (drop q bytes))) width ∙ drop-take n (m - n) (drop q bytes)
-    ∙ ap (λ (xs : List ℕ). take (m - n) xs) (drop-drop n q bytes) ∙ sym (ap (λ (k : ℕ). take k (drop (q + n) bytes)) wide)
+rest_of_range : (bytes : List ℕ) (q m n : ℕ) → n ≤ m → q + m ≤ length bytes → drop n (slice_range bytes q (q + m)) ≡ slice_range bytes (q + n) (q + n + (m - n))
+rest_of_range bytes q m n le inside =
+    let own = slice_range bytes q (q + m) in
+    let long : length own ≡ n + (m - n) = omega (arith, length-slice bytes q m inside, le) in
+    sym (rest_is_drop own n) ∙ ap (λ (k : ℕ). slice_range own n k) long ∙ slice-of_slice bytes q m n (m - n) (omega (arith, le))
 
 -- ---- the entries
 
@@ -78,7 +69,7 @@ between_markers bytes q m n inside = by (nat_le (q + m) (q + n)) refl
         let left : q + m - (q + n) ≡ m - n = omega arith in
         ap (λ (k : ℕ). slice_at bytes (q + n) k) left
         ∙ slice_at-inside bytes (q + n) (m - n) (omega (arith, lt, inside)) (omega (arith, lt, inside))
-        ∙ ap (λ (xs : List ℕ). Some xs) (sym (rest_of_range bytes q m n (omega (arith, lt))))
+        ∙ ap (λ (xs : List ℕ). Some xs) (sym (rest_of_range bytes q m n (omega (arith, lt)) inside))
 
 record_leads : (bytes own : List ℕ) (q m n begin end : ℕ) → q + m ≤ length bytes → own ≡ slice_range bytes q (q + m) → begin ≡ q + n → end ≡ q + m
     → cond (nat_le end begin) (Some []) (slice_at bytes begin (end - begin)) ≡ Some (drop n own)

@@ -1,5 +1,6 @@
 -- What is in memory where an address has an offset inside the file.
 use Rattle.std.proofs.Common.{◌≡◌, ℕ, IsSomeAnd, IsTrue, ◌+◌, ◌-◌, ◌<◌, ◌^◌, Bool, true, false, cond, List, Option, Some, None, find, length, max, min, nat_lt, refl, arith, rules, tests, option_and_then, option_map, slice_range}
+use Rattle.std.proofs.lemmas.Bool.{false_from_ne_true}
 use Rattle.std.specs.Int.{is_power_of_two}
 use Rattle.std.specs.Option.{unwrap_or}
 use Rattle.goblin_base.proofs.RecordRoundTrip.{length-slice}
@@ -88,10 +89,6 @@ module _ (file : List ℕ) (p : ℕ) (inside : p < length file) where
       by true at = by_map m outside rva m.mapping.resolve_rva (is_power_of_two m.alignment) refl refl at stored
       by false at = absurd cc
 
-stored-there : (s : Section) (b : Bool) → is_unstored s ≡ b → ¬ (IsTrue (is_unstored s)) → is_unstored s ≡ false
-stored-there s true is stored = absurd (stored (search (rules, tests, is)))
-stored-there s false is stored = is
-
 pub sees_file : (o : PeOptions) (p : PePlaces) (bytes : List ℕ) → SeesFile o p bytes
 unfolding memory_at
 sees_file o p bytes = λ rva offset at inside stored. by rva offset (mapped_image o p bytes) at inside stored
@@ -101,4 +98,4 @@ sees_file o p bytes = λ rva offset at inside stored. by rva offset (mapped_imag
         → ((memory_mapped bytes p.number_of_sections rva 1 m).bytes ≡ slice_range bytes offset (offset + 1)) × ((memory_mapped bytes p.number_of_sections rva 1 m).missing ≡ 0)
     by rva offset None at inside stored = absurd cc
     by rva offset (Some m) at inside stored =
-        mapped_by bytes offset inside m p.number_of_sections rva at (λ s held. stored-there s (is_unstored s) refl (λ yes. stored (rw held yes)))
+        mapped_by bytes offset inside m p.number_of_sections rva at (λ s held. false_from_ne_true (is_unstored s) (λ yes. stored (rw held (search (rules, tests, yes)))))
