@@ -10,19 +10,7 @@ use Rattle.goblin_base.specs.declared.error.ErrorOf.{ErrorOf}
 use Rattle.goblin_base.specs.declared.error.ErrorOf.TheVariants.{Malformed, BadMagic}
 use Rattle.goblin_base.specs.declared.error.ErrorOf.TheVariants.{BufferTooShort, Read, Memory}
 use Rattle.goblin_base.specs.declared.error.ReadFault.TheVariants.{BadOffset, TooBig, BadInput}
-use Rattle.goblin_base.specs.declared.error.CauseOf.TheVariants.{Message, NoDosSignature, DosMagic}
-use Rattle.goblin_base.specs.declared.error.CauseOf.TheVariants.{NoPePointer, NoPeSignature, NoDans}
-use Rattle.goblin_base.specs.declared.error.CauseOf.TheVariants.{PeMagic, StubBeforeStart, NameText}
-use Rattle.goblin_base.specs.declared.error.CauseOf.TheVariants.{StubPastEnd, RichBounds, Unmapped}
-use Rattle.goblin_base.specs.declared.error.CauseOf.TheVariants.{StrippedSize, CoffLength, NameRead}
-use Rattle.goblin_base.specs.declared.error.CauseOf.TheVariants.{DirectoryIndex, DirectoryCount}
-use Rattle.goblin_base.specs.declared.error.CauseOf.TheVariants.{NameBase64, NameDecimal, HintEntry}
-use Rattle.goblin_base.specs.declared.error.CauseOf.TheVariants.{NameOffset, SymbolName, LookupEnd}
-use Rattle.goblin_base.specs.declared.error.CauseOf.TheVariants.{StringTable, FieldTooWide}
-use Rattle.goblin_base.specs.declared.error.CauseOf.TheVariants.{ImportRecordEnd, ExportTable}
-use Rattle.goblin_base.specs.declared.error.CauseOf.TheVariants.{Forwarder, ForwarderOrdinal}
-use Rattle.goblin_base.specs.declared.error.CauseOf.TheVariants.{RelocRange, BlockSize, BlockRange}
-use Rattle.goblin_base.specs.declared.error.CauseOf.TheVariants.{Overflow, SlotCount}
+use Rattle.goblin_base.specs.declared.error.CauseOf.TheVariants as cause
 use Rattle.goblin_pe_c_headers.specs.declared.fault.PeFault.{PeFault}
 use Rattle.goblin_pe_c_headers.specs.declared.options.PeOptions.{PeOptions}
 use Rattle.goblin_pe_c_headers.specs.Options.{are_known}
@@ -77,40 +65,40 @@ no_fault = fault 0 0 0 0
 
 -- the numbers of a refusal
 abbrev pub fault_of : ErrorOf → PeFault
-fault_of (Malformed (Message text)) = fault 1 1 0 0
-fault_of (Malformed NoDosSignature) = fault 1 2 0 0
-fault_of (Malformed (DosMagic magic)) = fault 1 3 magic 0
-fault_of (Malformed NoPePointer) = fault 1 4 0 0
-fault_of (Malformed (NoPeSignature offset)) = fault 1 5 offset 0
-fault_of (Malformed (PeMagic magic)) = fault 1 6 magic 0
-fault_of (Malformed (StubBeforeStart offset)) = fault 1 7 offset 0
-fault_of (Malformed (StubPastEnd length end)) = fault 1 8 length end
-fault_of (Malformed NoDans) = fault 1 9 0 0
-fault_of (Malformed (RichBounds begin end)) = fault 1 10 begin end
-fault_of (Malformed (StrippedSize size)) = fault 1 11 size 0
-fault_of (Malformed CoffLength) = fault 1 12 0 0
-fault_of (Malformed (DirectoryIndex index)) = fault 1 13 index 0
-fault_of (Malformed (DirectoryCount count)) = fault 1 14 count 0
-fault_of (Malformed NameText) = fault 1 15 0 0
-fault_of (Malformed NameBase64) = fault 1 16 0 0
-fault_of (Malformed NameDecimal) = fault 1 17 0 0
-fault_of (Malformed (NameOffset offset)) = fault 1 18 offset 0
-fault_of (Malformed (SymbolName offset)) = fault 1 19 offset 0
-fault_of (Malformed (StringTable offset length)) = fault 1 20 offset length
-fault_of (Malformed FieldTooWide) = fault 1 21 0 0
-fault_of (Malformed (Unmapped rva)) = fault 1 22 rva 0
-fault_of (Malformed (NameRead offset)) = fault 1 23 offset 0
-fault_of (Malformed (HintEntry offset)) = fault 1 24 offset 0
-fault_of (Malformed (LookupEnd offset)) = fault 1 25 offset 0
-fault_of (Malformed (ImportRecordEnd offset)) = fault 1 26 offset 0
-fault_of (Malformed (ExportTable offset)) = fault 1 27 offset 0
-fault_of (Malformed Forwarder) = fault 1 28 0 0
-fault_of (Malformed ForwarderOrdinal) = fault 1 29 0 0
-fault_of (Malformed (RelocRange offset size)) = fault 1 30 offset size
-fault_of (Malformed (BlockSize size)) = fault 1 31 size 0
-fault_of (Malformed (BlockRange begin size)) = fault 1 32 begin size
-fault_of (Malformed Overflow) = fault 1 33 0 0
-fault_of (Malformed (SlotCount entries slots)) = fault 1 34 entries slots
+fault_of (Malformed (cause.Message text)) = fault 1 1 0 0
+fault_of (Malformed cause.NoDosSignature) = fault 1 2 0 0
+fault_of (Malformed (cause.DosMagic magic)) = fault 1 3 magic 0
+fault_of (Malformed cause.NoPePointer) = fault 1 4 0 0
+fault_of (Malformed (cause.NoPeSignature offset)) = fault 1 5 offset 0
+fault_of (Malformed (cause.PeMagic magic)) = fault 1 6 magic 0
+fault_of (Malformed (cause.StubBeforeStart offset)) = fault 1 7 offset 0
+fault_of (Malformed (cause.StubPastEnd length end)) = fault 1 8 length end
+fault_of (Malformed cause.NoDans) = fault 1 9 0 0
+fault_of (Malformed (cause.RichBounds begin end)) = fault 1 10 begin end
+fault_of (Malformed (cause.StrippedSize size)) = fault 1 11 size 0
+fault_of (Malformed cause.CoffLength) = fault 1 12 0 0
+fault_of (Malformed (cause.DirectoryIndex index)) = fault 1 13 index 0
+fault_of (Malformed (cause.DirectoryCount count)) = fault 1 14 count 0
+fault_of (Malformed cause.NameText) = fault 1 15 0 0
+fault_of (Malformed cause.NameBase64) = fault 1 16 0 0
+fault_of (Malformed cause.NameDecimal) = fault 1 17 0 0
+fault_of (Malformed (cause.NameOffset offset)) = fault 1 18 offset 0
+fault_of (Malformed (cause.SymbolName offset)) = fault 1 19 offset 0
+fault_of (Malformed (cause.StringTable offset length)) = fault 1 20 offset length
+fault_of (Malformed cause.FieldTooWide) = fault 1 21 0 0
+fault_of (Malformed (cause.Unmapped rva)) = fault 1 22 rva 0
+fault_of (Malformed (cause.NameRead offset)) = fault 1 23 offset 0
+fault_of (Malformed (cause.HintEntry offset)) = fault 1 24 offset 0
+fault_of (Malformed (cause.LookupEnd offset)) = fault 1 25 offset 0
+fault_of (Malformed (cause.ImportRecordEnd offset)) = fault 1 26 offset 0
+fault_of (Malformed (cause.ExportTable offset)) = fault 1 27 offset 0
+fault_of (Malformed cause.Forwarder) = fault 1 28 0 0
+fault_of (Malformed cause.ForwarderOrdinal) = fault 1 29 0 0
+fault_of (Malformed (cause.RelocRange offset size)) = fault 1 30 offset size
+fault_of (Malformed (cause.BlockSize size)) = fault 1 31 size 0
+fault_of (Malformed (cause.BlockRange begin size)) = fault 1 32 begin size
+fault_of (Malformed cause.Overflow) = fault 1 33 0 0
+fault_of (Malformed (cause.SlotCount entries slots)) = fault 1 34 entries slots
 fault_of (BadMagic magic) = fault 2 0 magic 0
 fault_of (BufferTooShort count what) = fault 3 (word_number what.now) count 0
 fault_of (Read BadOffset) = fault 4 1 0 0
@@ -139,39 +127,39 @@ image_fault kind o = if kind == 1 then options_fault o else kind_fault kind
 -- Number 1 is a message of the caller's, which has no numbers.
 abbrev pub causes : ℕ → ℕ → List CauseOf
 causes first second =
-    NoDosSignature
-    ∷ DosMagic (first % 2 ^ 16)
-    ∷ NoPePointer
-    ∷ NoPeSignature first
-    ∷ PeMagic (first % 2 ^ 32)
-    ∷ StubBeforeStart (first % 2 ^ 32)
-    ∷ StubPastEnd first second
-    ∷ NoDans
-    ∷ RichBounds first second
-    ∷ StrippedSize (first % 2 ^ 32)
-    ∷ CoffLength
-    ∷ DirectoryIndex first
-    ∷ DirectoryCount first
-    ∷ NameText
-    ∷ NameBase64
-    ∷ NameDecimal
-    ∷ NameOffset first
-    ∷ SymbolName (first % 2 ^ 32)
-    ∷ StringTable first second
-    ∷ FieldTooWide
-    ∷ Unmapped first
-    ∷ NameRead first
-    ∷ HintEntry first
-    ∷ LookupEnd first
-    ∷ ImportRecordEnd first
-    ∷ ExportTable first
-    ∷ Forwarder
-    ∷ ForwarderOrdinal
-    ∷ RelocRange first (second % 2 ^ 32)
-    ∷ BlockSize (first % 2 ^ 32)
-    ∷ BlockRange first second
-    ∷ Overflow
-    ∷ SlotCount first second
+    cause.NoDosSignature
+    ∷ cause.DosMagic (first % 2 ^ 16)
+    ∷ cause.NoPePointer
+    ∷ cause.NoPeSignature first
+    ∷ cause.PeMagic (first % 2 ^ 32)
+    ∷ cause.StubBeforeStart (first % 2 ^ 32)
+    ∷ cause.StubPastEnd first second
+    ∷ cause.NoDans
+    ∷ cause.RichBounds first second
+    ∷ cause.StrippedSize (first % 2 ^ 32)
+    ∷ cause.CoffLength
+    ∷ cause.DirectoryIndex first
+    ∷ cause.DirectoryCount first
+    ∷ cause.NameText
+    ∷ cause.NameBase64
+    ∷ cause.NameDecimal
+    ∷ cause.NameOffset first
+    ∷ cause.SymbolName (first % 2 ^ 32)
+    ∷ cause.StringTable first second
+    ∷ cause.FieldTooWide
+    ∷ cause.Unmapped first
+    ∷ cause.NameRead first
+    ∷ cause.HintEntry first
+    ∷ cause.LookupEnd first
+    ∷ cause.ImportRecordEnd first
+    ∷ cause.ExportTable first
+    ∷ cause.Forwarder
+    ∷ cause.ForwarderOrdinal
+    ∷ cause.RelocRange first (second % 2 ^ 32)
+    ∷ cause.BlockSize (first % 2 ^ 32)
+    ∷ cause.BlockRange first second
+    ∷ cause.Overflow
+    ∷ cause.SlotCount first second
     ∷ []
 
 -- the cause with these numbers
@@ -225,7 +213,7 @@ refusal_text f = option_or (call_text f.status) (file_text f)
 -- a refusal that its numbers describe fully: it has no message of the caller's, and no text without
 -- a number
 abbrev pub IsNumbered : ErrorOf → Type 0
-IsNumbered (Malformed (Message text)) = ⊥
+IsNumbered (Malformed (cause.Message text)) = ⊥
 IsNumbered (BufferTooShort count what) = word_of (word_number what.now) ≡ Some what.now
 IsNumbered e = ⊤
 
