@@ -1,7 +1,9 @@
 -- The rows of sections, as definitions.
 use Rattle.std.specs.Prelude.{◌≡◌, IsSomeAnd, ℕ, Bool, if◌then◌else◌, List, Option, Some, None}
-use Rattle.std.specs.Prelude.{◌+◌, ◌*◌, ◌/◌, ◌==◌, map, length, option_and_then, slice_range, take}
+use Rattle.std.specs.Prelude.{Result, ◌+◌, ◌*◌, ◌/◌, ◌==◌, map, length, option_and_then}
+use Rattle.std.specs.Prelude.{slice_range, take}
 use Rattle.std.specs.List.{range_with_len}
+use Rattle.goblin_base.specs.declared.error.ErrorOf.{ErrorOf}
 use Rattle.goblin_base.specs.declared.endian.Endian.TheVariants.{Little}
 use Rattle.goblin_base.specs.Bytes.{before_nul}
 use Rattle.readings.specs.Reads.{◌>>=◌, taken, text_within}
@@ -10,11 +12,13 @@ use Rattle.goblin_pe_sect.specs.SectionName.{name_value}
 use Rattle.goblin_pe_sect.specs.SectionTable.{Section, section_record, unnamed}
 use Rattle.goblin_pe_head.specs.CoffHeader.{symbols_end}
 use Rattle.goblin_pe_head.specs.TeHeader.{section_moved}
+use Rattle.goblin_pe_c_headers.specs.declared.batch.PeBatch.{PeBatch}
 use Rattle.goblin_pe_c_headers.specs.declared.cursor.PeCoffRelocationCursor.{PeCoffRelocationCursor}
 use Rattle.goblin_pe_c_headers.specs.declared.image.PeImage.{PeImage}
 use Rattle.goblin_pe_c_headers.specs.declared.section.Naming.{Naming}
 use Rattle.goblin_pe_c_headers.specs.declared.section.PeSection.{PeSection}
-use Rattle.goblin_pe_c_headers.specs.Onward.{Batch}
+use Rattle.goblin_pe_c_headers.specs.Calls.{ReadsWithout}
+use Rattle.goblin_pe_c_headers.specs.Onward.{Batch, GivesRows, no_batch}
 use Rattle.goblin_pe_c_headers.specs.Options.{header_options, longest_of}
 use Rattle.goblin_pe_c_headers.specs.Places.{headers_there}
 use Rattle.goblin_pe_c_headers.specs.Relocations.{relocations_begin}
@@ -121,6 +125,15 @@ section_rows n headers =
 
 abbrev pub SectionBatch : Type 0
 SectionBatch = Batch ℕ PeSection
+
+-- A call has given the rows of an image's sections that come next; or its section headers are not
+-- there.
+abbrev pub ReadsSections : PeImage → SectionBatch → SectionBatch → PeBatch → Result Unit ErrorOf
+    → Type 0
+ReadsSections image old new batch result =
+    ReadsWithout (headers_there image.section_count image.section_table) image.bytes.now
+    (λ headers. GivesRows row_model (section_rows (naming_of image) headers) old new batch)
+    ((new ≡ old) × (batch ≡ no_batch)) result
 
 -- The rows of an image hold these sections: its section headers are there.
 abbrev pub RowsHold : PeImage → List Section → Type 0

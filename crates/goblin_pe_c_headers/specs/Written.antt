@@ -6,14 +6,17 @@ use Rattle.goblin_base.specs.declared.error.ErrorOf.{ErrorOf}
 use Rattle.goblin_base.specs.Answers.{FirstFault, IsSliceFault}
 use Rattle.goblin_base.specs.Bytes.{overwritten}
 use Rattle.goblin_base.specs.Reading.{Reading}
+use Rattle.goblin_base.specs.Record.{encoding}
 use Rattle.readings.specs.Reads.{given, pick, slice_at}
 use Rattle.goblin_pe_head.specs.DosStub.{default_stub}
 use Rattle.goblin_pe_sect.specs.declared.data_directories.DataDirectory.{DataDirectory}
 use Rattle.goblin_pe_sect.specs.SectionName.{IsNameOffsetFault, indirect_name, name_value}
+use Rattle.goblin_pe_sect.specs.SectionTable.{section_fields}
 use Rattle.goblin_pe_head.specs.declared.optional_header.OptionalHeader.{OptionalHeader}
 use Rattle.goblin_pe_head.specs.PeHeader.{IsUnwrittenPart, PeHeader, header_bytes}
 use Rattle.goblin_pe_c_headers.specs.declared.image.PeImage.{PeImage}
 use Rattle.goblin_pe_c_headers.specs.declared.section.PeSection.{PeSection}
+use Rattle.goblin_pe_c_headers.specs.Sections.{section_model}
 
 -- ---- what records say
 
@@ -76,6 +79,12 @@ WritesHeader image old new =
     FirstFault made (IsUnwrittenPart (optional_from_c image))
     (λ header. IsSliceFault old.out 0 (length header))))
     old new
+
+-- A call has written the header of a section to the front of bytes.
+abbrev pub WritesSection : PeSection → Output → Output → Result Unit ErrorOf → Type 0
+WritesSection section old new =
+    WritesOut (overwritten old.out 0 (encoding Little (section_fields (section_model section))))
+    (λ size. size ≡ 40) (IsSliceFault old.out 0 40) old new
 
 -- A call has set the eight bytes of a section's name to those that hold a number, which readers
 -- find there; or none hold it, the cause is true, and everything is unchanged.

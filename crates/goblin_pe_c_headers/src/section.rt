@@ -2,21 +2,18 @@
 
 ghost use Rattle.std.specs.Prelude.{◌≡◌, ◌+◌, ◌*◌, ◌<◌, ◌/◌, length, option_map, slice_range, take};
 ghost use Rattle.goblin_base.specs.declared.endian.Endian.TheVariants.{Little};
-ghost use Rattle.goblin_base.specs.Answers.{IsSliceFault};
-ghost use Rattle.goblin_base.specs.Bytes.{before_nul, overwritten};
-ghost use Rattle.goblin_base.specs.Record.{encoding};
+ghost use Rattle.goblin_base.specs.Bytes.{before_nul};
 ghost use Rattle.goblin_pe_sect.specs.Options.{is_strict};
 ghost use Rattle.goblin_pe_sect.specs.SectionReadings.{SectionWritesBack};
-ghost use Rattle.goblin_pe_sect.specs.SectionTable.{section_fields, section_record, unnamed};
+ghost use Rattle.goblin_pe_sect.specs.SectionTable.{section_record, unnamed};
 ghost use Rattle.goblin_pe_head.specs.TeHeader.{section_moved};
-ghost use Rattle.goblin_pe_c_headers.specs.Calls.{ReadsWithout};
-ghost use Rattle.goblin_pe_c_headers.specs.Onward.{GivesRows, no_batch};
-ghost use Rattle.goblin_pe_c_headers.specs.Places.{headers_there};
+ghost use Rattle.goblin_pe_c_headers.specs.Onward.{GivesRows};
 ghost use Rattle.goblin_pe_c_headers.specs.Relocations.{relocations_begin};
-ghost use Rattle.goblin_pe_c_headers.specs.Sections.{SectionBatch, naming_of, naming_for_c};
+ghost use Rattle.goblin_pe_c_headers.specs.Sections.{ReadsSections, SectionBatch, naming_of};
+ghost use Rattle.goblin_pe_c_headers.specs.Sections.{naming_for_c};
 ghost use Rattle.goblin_pe_c_headers.specs.Sections.{real_name_in, row_of, row_model, section_rows};
 ghost use Rattle.goblin_pe_c_headers.specs.Sections.{section_model, unnamed_row, with_name};
-ghost use Rattle.goblin_pe_c_headers.specs.Written.{Output, SetsName, WritesOut};
+ghost use Rattle.goblin_pe_c_headers.specs.Written.{Output, SetsName, WritesSection};
 
 use crate::batch::{PeBatch, ended, goes_on};
 use crate::cursor::PeCoffRelocationCursor;
@@ -290,11 +287,7 @@ pub fn next_sections<'a>(
 ) -> Result<()>
     ensures { let old : SectionBatch = record { position = position.old; records = records.old } in
         let new : SectionBatch = record { position = position.new; records = records.new } in
-        ReadsWithout (headers_there image.now.section_count image.now.section_table)
-        image.now.bytes.now
-        (λ headers.
-        GivesRows row_model (section_rows (naming_of image.now) headers) old new batch.new)
-        ((new ≡ old) × (batch.new ≡ no_batch)) result }
+        ReadsSections image.now old new batch.new result }
 {
     *batch = ended(0);
     let headers = section_headers(image.bytes, image.section_table, image.section_count)?;
@@ -311,9 +304,7 @@ pub fn next_sections<'a>(
 pub fn write_section(section: &PeSection, out: &mut [u8], written: &mut usize) -> Result<()>
     ensures written { let old : Output = record { out = out.old; written = written.old } in
         let new : Output = record { out = out.new; written = written.new } in
-        WritesOut
-        (overwritten out.old 0 (encoding Little (section_fields (section_model section.now))))
-        (λ size. size ≡ 40) (IsSliceFault out.old 0 40) old new result }
+        WritesSection section.now old new result }
     ensures back { SectionWritesBack }
 {
     *written = section_of(section).try_into_ctx(out, Endian::Little)?;

@@ -4,14 +4,12 @@
 ghost use Rattle.std.specs.Prelude.{◌≡◌};
 ghost use Rattle.goblin_pe_c_headers.specs.Calls.{ReadsWithout, Reported};
 ghost use Rattle.goblin_pe_c_headers.specs.Faults.{no_fault};
-ghost use Rattle.goblin_pe_c_headers.specs.Onward.{GivesOnward, GivesRows, no_batch};
+ghost use Rattle.goblin_pe_c_headers.specs.Onward.{GivesOnward, no_batch};
 ghost use Rattle.goblin_pe_c_headers.specs.Options.{longest_of};
-ghost use Rattle.goblin_pe_c_headers.specs.Places.{headers_there};
 ghost use Rattle.goblin_pe_c_headers.specs.Relocations.{RelocationBatch, all_relocations};
 ghost use Rattle.goblin_pe_c_headers.specs.RichHeaders.{GivesEntries, HeaderIsWalked, RichBatch};
 ghost use Rattle.goblin_pe_c_headers.specs.RichHeaders.{RichIsWalked};
-ghost use Rattle.goblin_pe_c_headers.specs.Sections.{SectionBatch, naming_of, row_model};
-ghost use Rattle.goblin_pe_c_headers.specs.Sections.{section_rows};
+ghost use Rattle.goblin_pe_c_headers.specs.Sections.{ReadsSections, SectionBatch};
 ghost use Rattle.goblin_pe_c_headers.specs.Symbols.{FindsTables, GivesSymbols, NamesOfText};
 ghost use Rattle.goblin_pe_c_headers.specs.Symbols.{SymbolBatch, found_tables, name_in_piece};
 ghost use Rattle.goblin_pe_c_headers.specs.Words.{GivesWords, WordBatch};
@@ -45,12 +43,7 @@ pub extern "C" fn goblin_pe_raw_next_sections<'a>(
         record { position = cursor.old.index; records = sections.old } in
         let new : SectionBatch =
         record { position = cursor.new.index; records = sections.new } in
-        Reported result
-        (ReadsWithout (headers_there image.now.section_count image.now.section_table)
-        image.now.bytes.now
-        (λ headers.
-        GivesRows row_model (section_rows (naming_of image.now) headers) old new batch.new)
-        ((new ≡ old) × (batch.new ≡ no_batch))) }
+        Reported result (ReadsSections image.now old new batch.new) }
 {
     status_of(next_sections(image, &mut cursor.index, sections, batch))
 }

@@ -1,16 +1,10 @@
 //! The calls that write a header and section headers. Numbers are little-endian.
 
 ghost use Rattle.std.specs.Prelude.{◌≡◌};
-ghost use Rattle.goblin_base.specs.declared.endian.Endian.TheVariants.{Little};
-ghost use Rattle.goblin_base.specs.Answers.{IsSliceFault};
-ghost use Rattle.goblin_base.specs.Bytes.{overwritten};
-ghost use Rattle.goblin_base.specs.Record.{encoding};
 ghost use Rattle.goblin_pe_sect.specs.SectionReadings.{SectionWritesBack};
-ghost use Rattle.goblin_pe_sect.specs.SectionTable.{section_fields};
 ghost use Rattle.goblin_pe_c_headers.specs.Calls.{Reported, ReportedAfter};
 ghost use Rattle.goblin_pe_c_headers.specs.Faults.{kind_fault};
-ghost use Rattle.goblin_pe_c_headers.specs.Sections.{section_model};
-ghost use Rattle.goblin_pe_c_headers.specs.Written.{Output, SetsName, WritesHeader, WritesOut};
+ghost use Rattle.goblin_pe_c_headers.specs.Written.{Output, SetsName, WritesHeader, WritesSection};
 ghost use Rattle.goblin_pe_c_tables.specs.Written.{ImageWritesBack};
 
 use goblin_pe_c_headers::fault::{PeFault, refused_kind, status_of};
@@ -61,10 +55,7 @@ pub extern "C" fn goblin_pe_raw_write_section(
 ) -> PeFault
     ensures written { let old : Output = record { out = out.old; written = written.old } in
         let new : Output = record { out = out.new; written = written.new } in
-        Reported result
-        (WritesOut
-        (overwritten out.old 0 (encoding Little (section_fields (section_model section.now))))
-        (λ size. size ≡ 40) (IsSliceFault out.old 0 40) old new) }
+        Reported result (WritesSection section.now old new) }
     ensures back { SectionWritesBack }
 {
     status_of(write_section(section, out, written))
