@@ -6,7 +6,7 @@ use Rattle.std.proofs.lemmas.List.{append_assoc, length-append, length-map, leng
 use Rattle.goblin_base.specs.declared.error.ErrorOf.{ErrorOf}
 use Rattle.goblin_base.specs.Reading.{Reading}
 use Rattle.goblin_pe_c_headers.specs.Filled.{Filled}
-use Rattle.goblin_pe_c_headers.specs.Onward.{AtBatch, Batch, FillsFrom, GivesFrom, IsBatch, IsNextFault, IsRefusedNext, Table, TellsEnd, unrefused, values_before}
+use Rattle.goblin_pe_c_headers.specs.Onward.{AtBatch, Batch, FillsFrom, FillsNext, GivesFrom, IsBatch, IsNextFault, IsRefusedNext, Table, TellsEnd, unrefused, values_before}
 use Rattle.goblin_pe_c_headers.proofs.Items.{room}
 
 -- ---- the values before a refusal
@@ -238,6 +238,13 @@ module _ {P R A B S : Type 0} {table : Table P R A B} {left : S → List (Option
       (sym h.begins) (fills, holds)
 
 -- ---- a batch
+
+-- where nothing comes
+pub none-given : {P R A B : Type 0} (table : Table P R A B) (IsCut : Type 0) (Holds : List (Option A) → Type 0) (at : P) (old : List R) → table.from at ≡ Some [] → Holds []
+    → FillsNext table IsCut Holds (record { position = at; records = old }) (record { position = at; records = old }) (record { count = 0; is_done = not (length old == 0) })
+none-given {P} {R} {A} table IsCut Holds at old none holds =
+    let start = items-start table (λ (items : List (Option A)). items) [] at old none in
+    items-gives start (λ left. TellsEnd IsCut (drop 0 left) (length old) 0 (not (length old == 0)) × Holds left) at (items-end start at refl none (λ _. refl)) (done-none start refl, holds)
 
 -- what is answered of a loop that began there
 pub answered : {P R S A X : Type 0} (read : Reading S) (bytes : List ℕ) (left : S → List (Option A)) (IsCause : S → ErrorOf → Type 0) (old new : Batch P R) (Gives : X → Type 0)
