@@ -3,18 +3,18 @@ use Rattle.std.proofs.Common.{◌≡◌, ◌<◌, ◌≤◌, ℕ, ◌+◌, ◌-�
 use Rattle.std.specs.List.{position_or_len}
 use Rattle.std.proofs.lemmas.Bool.{cases_lt, le-ltb, lt-ltb, ltb-false, ltb-true}
 use Rattle.std.proofs.lemmas.Option.{cond_some}
-use Rattle.goblin_base.specs.Bytes.{before_nul, begins_character, cut_text, cut_window, stretch, stretch_at, text_at, text_of, text_within}
+use Rattle.goblin_base.specs.Bytes.{IsTextTo, before_nul, begins_character, cut_text, cut_window, stretch, stretch_at, text_at, text_of, text_within}
 use Rattle.goblin_base.specs.Footprints.{positions, stretch_footprint, Agree}
 use Rattle.goblin_base.specs.Parts.{moved_by, text_footprint}
 use Rattle.goblin_base.proofs.Numbers.{rest_is_drop}
 use Rattle.goblin_base.proofs.Texts.{test_fails}
 use Rattle.std.proofs.Common.{Bool, true, false, cond, not, ◌==◌, Option, option_and_then, take-take, get_or-take, slice_index}
 use Rattle.std.specs.Str.{is_utf8}
-use Rattle.std.proofs.lemmas.List.Sums.{fails_before_first, passes_at_first, position_or_len_is, prefix_len-le-length}
+use Rattle.goblin_base.proofs.TextEnds.{stretch_ends}
 use Rattle.std.proofs.lemmas.List.{nil_from_length}
 use Rattle.goblin_base.specs.declared.error.ErrorOf.{ErrorOf}
 use Rattle.goblin_base.specs.Answers.{FirstFault, IsMemory, IsNoText, IsOffsetFault, IsTextFaultWithin}
-use Rattle.goblin_base.proofs.Footprints.{same-stretch_at, same-text_at}
+use Rattle.goblin_base.proofs.Footprints.{same-stretch_at, same-text_at, same_text}
 use Rattle.goblin_base.proofs.Inside.{AreInside, stretch-in}
 use Rattle.goblin_base.proofs.Parts.{agree-moved_slice, slice-moved-in}
 use Rattle.goblin_base.proofs.Readings.{no_text-not_memory, offset-not_memory, text-not_memory}
@@ -137,28 +137,25 @@ front-same : (m : ℕ) (bytes : List ℕ) → length (before_nul (take m bytes))
     → before_nul (take m bytes) ≡ before_nul bytes
 front-same m bytes few =
     let front = take m bytes in
-    let i = position_or_len (λ b. b == 0) front in
-    let within : i ≤ length front = prefix_len-le-length (λ b. not (b == 0)) front in
-    let size : length (take i front) ≡ i = omega (arith, length-take i front, within) in
-    let at : (k : ℕ) → k < m → slice_index front k ≡ slice_index bytes k =
-    λ k lt. get_or-take m bytes k 0 lt in
-    elim (cases_lt i (length front)) [
-      | inl lt ↦
-          let below : i < m = omega (arith, few, size) in
-          let place : position_or_len (λ b. b == 0) bytes ≡ i =
-          position_or_len_is (λ b. b == 0) bytes i 0 (omega (arith, lt, length-take m bytes))
-          (λ k less.
-          ap (λ (b : ℕ). b == 0) (sym (at k (omega (arith, less, below))))
-          ∙ fails_before_first (λ b. b == 0) front k 0 less)
-          (λ _.
-          ap (λ (b : ℕ). b == 0) (sym (at i below)) ∙ passes_at_first (λ b. b == 0) front 0 lt) in
-          take-take i m bytes (omega (arith, below))
-          ∙ sym (ap (λ (j : ℕ). take j bytes) place)
-      | inr past ↦
-          let all : take m bytes ≡ bytes =
-          take_all m bytes (omega (arith, few, size, past, length-take m bytes)) in
-          ap before_nul all
-    ]
+    let t = before_nul front in
+    let long = length-take m bytes in
+    let h = stretch_ends front 0 (omega arith) in
+    let all : 0 + length t - 0 ≡ length t = omega arith in
+    let own : IsTextTo bytes 0 (length bytes) t = record {
+      is = h.is ∙ rw all (take-take (length t) m bytes (omega (arith, few)));
+      inside = omega (arith, h.inside, long);
+      free = h.free;
+      ends = elim h.ends [
+        | inl end ↦ inl (omega (arith, end, long, few))
+        | inr nul ↦
+            inr (
+              omega (arith, nul.0, long),
+              sym (get_or-take m bytes (0 + length t) 0 (omega (arith, few))) ∙ nul.1,
+            )
+      ];
+    } in
+    same_text bytes bytes 0 (length bytes) t (before_nul bytes) own
+    (stretch_ends bytes 0 (omega arith)) refl (omega arith) (λ i le below. refl)
 
 pub short_is_whole : (n : ℕ) (bytes : List ℕ) (p : ℕ) (s : List ℕ)
     → text_within (Some n) bytes p ≡ Some s → length s ≤ n → text_at bytes p ≡ Some s

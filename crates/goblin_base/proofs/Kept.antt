@@ -15,11 +15,6 @@ then-kept first second f g kept rest y e =
     let s = step first f y e in
     rw (kept s.value s.is) (rest s.value y s.then)
 
-pub map-kept : {A B : Type 0} (f : A → B) (first second : Option A) → Keeps first second → Keeps (option_map f first) (option_map f second)
-map-kept f first second kept y e =
-    let m = mapped first f y e in
-    rw (kept m.value m.is) (ap (λ z. Some z) m.made)
-
 range-kept : {A : Type 0} (f g : ℕ → Option A) (start n : ℕ) → ((i : ℕ) → Keeps (f i) (g i)) → Keeps (all_of (map f (range_with_len start n))) (all_of (map g (range_with_len start n)))
 range-kept f g start zero kept = λ xs e. e
 range-kept {A} f g start (suc n) kept =

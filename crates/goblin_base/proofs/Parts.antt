@@ -2,7 +2,10 @@
 -- the file.
 use Rattle.std.proofs.Common.{◌≡◌, ◌<◌, ◌≤◌, ◌⊎◌, ◌+◌, ◌-◌, ℕ, zero, suc, Bool, true, false, cond, ◌&&◌, nat_le, List, [], ◌∷◌, length, drop, take, Option, Some, None, refl, sym, ap, subst, ◌∙◌, inl, inr, arith}
 use Rattle.std.specs.Prelude.{option_map, slice_index, slice_range}
-use Rattle.std.specs.List.{find, range_with_len}
+use Rattle.std.specs.List.{find, position_or_len, range_with_len, slice_get}
+use Rattle.std.proofs.lemmas.List.FromFn.{get_or-range_with_len, length-range_with_len}
+use Rattle.std.proofs.lemmas.Option.{get_or_from_slice_get, slice_get_read, slice_get_within}
+use Rattle.goblin_base.proofs.First.{fails_before, found_at_first, found_passes, none_passes}
 use Rattle.std.proofs.lemmas.Bool.{and_parts, cases_Bool, cases_eq, cases_lt, cond-false, leb-true}
 use Rattle.std.proofs.lemmas.Grind.{same_number_lists}
 use Rattle.std.proofs.lemmas.List.{get_or-drop, get_or-take, get_or_past, length-drop, length-take}
@@ -144,54 +147,58 @@ pub record IsFound (test : ℕ → Bool) (a n i : ℕ) : Type 0 where
   pub passes : test i ≡ true
   pub least : (k : ℕ) → a ≤ k → k < i → test k ≡ false
 
-first_or_later : (passes : Bool) (a i : ℕ) (later : Option ℕ)
-    → cond passes (Some a) later ≡ Some i
-    → ((passes ≡ true) × (a ≡ i)) ⊎ ((passes ≡ false) × (later ≡ Some i))
-first_or_later true a i later e = inl (refl, cc)
-first_or_later false a i later e = inr (refl, e)
+-- a number is at its place among n from a on
+in_range : (a n k : ℕ) → a ≤ k → k < a + n → slice_get (range_with_len a n) (k - a) ≡ Some k
+in_range a n k low high =
+    let place : a + (k - a) ≡ k = omega (arith, low) in
+    slice_get_read (range_with_len a n) n (k - a) k (sym (length-range_with_len a n))
+    (omega (arith, low, high))
+    (sym (get_or-range_with_len a n (k - a) k (omega (arith, low, high)) ∙ place))
 
 -- what is found, with the numbers before it
 pub find_is : (test : ℕ → Bool) (n a i : ℕ) → find test (range_with_len a n) ≡ Some i
     → IsFound test a n i
-find_is test zero a i e = absurd cc
-find_is test (suc n) a i e =
-    elim (first_or_later (test a) a i (find test (range_with_len (a + 1) n)) e) [
-      | inl here ↦ record {
-        low = omega (arith, here.1);
-        high = omega (arith, here.1);
-        passes = ap test (sym here.1) ∙ here.0;
-        least = λ k low lt. absurd (omega (arith, low, lt, here.1));
-      }
-      | inr later ↦
-          let rest = find_is test n (a + 1) i later.1 in
-          record {
-            low = omega (arith, rest.low);
-            high = omega (arith, rest.high);
-            passes = rest.passes;
-            least = λ k low lt. elim (cases_eq k a) [
-              | inl at ↦ ap test at ∙ later.0
-              | inr other ↦ rest.least k (omega (arith, low, other)) lt
-            ];
-          }
-    ]
+find_is test n a i e =
+    let xs = range_with_len a n in
+    let j = position_or_len test xs in
+    let at = found_at_first test xs i e in
+    let within : j < n = omega (arith, slice_get_within xs j i at, length-range_with_len a n) in
+    let is : a + j ≡ i =
+    sym (get_or-range_with_len a n j i within) ∙ get_or_from_slice_get xs j i i at in
+    record {
+      low = omega (arith, is);
+      high = omega (arith, is, within);
+      passes = found_passes test xs i e;
+      least = λ k low lt.
+          fails_before test xs (k - a) k (omega (arith, low, lt, is))
+          (in_range a n k low (omega (arith, lt, is, within)));
+    }
 
-by_first : (first other : Bool) (a i : ℕ) (later again : Option ℕ) → first ≡ other
-    → (later ≡ Some i → again ≡ Some i) → cond first (Some a) later ≡ Some i
-    → cond other (Some a) again ≡ Some i
-by_first true true a i later again is more e = e
-by_first true false a i later again is more e = absurd cc
-by_first false true a i later again is more e = absurd cc
-by_first false false a i later again is more e = more e
+pub find_none : (test : ℕ → Bool) (n a k : ℕ) → find test (range_with_len a n) ≡ None → a ≤ k
+    → k < a + n → test k ≡ false
+find_none test n a k e low high =
+    none_passes test (range_with_len a n) e (k - a) k (in_range a n k low high)
+
+pub found_none : (test : ℕ → Bool) (n a : ℕ) → ((k : ℕ) → a ≤ k → k < a + n → test k ≡ false) → find test (range_with_len a n) ≡ None
+found_none test zero a none = refl
+found_none test (suc n) a none =
+    rw (none a (omega arith) (omega arith)) (found_none test n (a + 1) (λ k low high. none k (omega (arith, low)) (omega (arith, high))))
+
+pub found_at : (test : ℕ → Bool) (n a i : ℕ) → a ≤ i → i < a + n → test i ≡ true → ((k : ℕ) → a ≤ k → k < i → test k ≡ false) → find test (range_with_len a n) ≡ Some i
+found_at test zero a i low high passes least = absurd (omega (arith, low, high))
+found_at test (suc n) a i low high passes least = elim (cases_eq i a) [
+  | inl at ↦ rw at (rw (ap test (sym at) ∙ passes) refl)
+  | inr other ↦ rw (least a (omega arith) (omega (arith, low, other)))
+      (found_at test n (a + 1) i (omega (arith, low, other)) (omega (arith, high)) passes (λ k from to. least k (omega (arith, from)) to))
+]
 
 -- tests that agree up to the first number that passes find the same
 pub find_alike : (test again : ℕ → Bool) (n a i : ℕ) → find test (range_with_len a n) ≡ Some i
     → ((k : ℕ) → k ≤ i → test k ≡ again k) → find again (range_with_len a n) ≡ Some i
-find_alike test again zero a i e same = absurd cc
-find_alike test again (suc n) a i e same =
-    let is = find_is test (suc n) a i e in
-    by_first (test a) (again a) a i (find test (range_with_len (a + 1) n))
-    (find again (range_with_len (a + 1) n)) (same a is.low)
-    (λ later. find_alike test again n (a + 1) i later same) e
+find_alike test again n a i e same =
+    let is = find_is test n a i e in
+    found_at again n a i is.low is.high (sym (same i (omega arith)) ∙ is.passes)
+    (λ k low lt. sym (same k (omega (arith, lt))) ∙ is.least k low lt)
 
 -- ---- the least place of a number that passes a test
 

@@ -1,30 +1,50 @@
 -- The items of a base relocation directory, one after the other.
-use Rattle.std.proofs.Common.{◌≡◌, ℕ, zero, suc, ◌+◌, ◌-◌, ◌/◌, ◌<◌, ◌≤◌, Bool, true, false, cond, List, [], ◌∷◌, length, nat_lt, Option, Some, None, Result, Ok, Err, refl, ap, sym, ◌∙◌, inl, inr, arith, tests, rules}
+use Rattle.std.proofs.Common.{◌≡◌, ℕ, zero, suc, ◌+◌, ◌-◌, ◌/◌, ◌<◌, ◌≤◌, Bool, true, false, cond, List, [], ◌∷◌, length, nat_lt, Option, Some, None, Result, Ok, Err, refl, ap, sym, ◌∙◌, inl, inr, arith, tests, rules, slice_range}
 use Rattle.std.proofs.lemmas.Bool.{cases_lt}
 use Rattle.goblin_base.specs.declared.endian.Endian.TheVariants.{Little}
 use Rattle.goblin_base.specs.declared.error.ErrorOf.{ErrorOf}
 use Rattle.goblin_base.specs.Bytes.{number, slice_at}
+use Rattle.goblin_base.proofs.Numbers.{number-of_slice, slice_at-some}
 use Rattle.goblin_pe_sect.specs.declared.relocation.base.RelocationBlock.{RelocationBlock}
-use Rattle.goblin_pe_sect.specs.BaseRelocations.{Block, block_at, block_items, block_value, first_items, then_items, with_head, with_words}
+use Rattle.goblin_pe_sect.specs.BaseRelocations.{Block, IsBlockAt, block_at, block_items, block_value, first_items, then_items, with_head, with_words}
 
-size_by_words : (head : List ℕ) (p : ℕ) (words : Option (List ℕ)) (b : Block) → with_words head p words ≡ Ok b → b.size ≡ number Little 4 head 4
-size_by_words head p None b e = absurd cc
-size_by_words head p (Some words) b e = cc
+words_by : (head : List ℕ) (q : ℕ) (words : Option (List ℕ)) (b : Block) → with_words head q words ≡ Ok b → (own : List ℕ) × (words ≡ Some own) × (b ≡ record { rva = number Little 4 head 0; size = number Little 4 head 4; words = own })
+words_by head q None b e = absurd cc
+words_by head q (Some own) b e = (own, refl, cc)
 
-size_by_test : (t : Bool) (head : List ℕ) (p : ℕ) (words : Option (List ℕ)) (b : Block) (e : ErrorOf) → nat_lt (number Little 4 head 4) 8 ≡ t → cond t (Err e) (with_words head p words) ≡ Ok b → 8 ≤ b.size
-size_by_test true head p words b e is h = absurd cc
-size_by_test false head p words b e is h =
-    let large : 8 ≤ number Little 4 head 4 = search (rules, tests) in
-    omega (arith, large, size_by_words head p words b h)
+head_by : (t : Bool) (size : ℕ) (e : ErrorOf) (r : Result Block ErrorOf) (b : Block) → nat_lt size 8 ≡ t → cond t (Err e) r ≡ Ok b → (8 ≤ size) × (r ≡ Ok b)
+head_by true size e r b is h = absurd cc
+head_by false size e r b is h = (search (rules, tests), h)
 
-size_by_head : (directory : List ℕ) (p : ℕ) (head : Option (List ℕ)) (b : Block) → with_head directory p head ≡ Ok b → 8 ≤ b.size
-size_by_head directory p None b e = absurd cc
-size_by_head directory p (Some head) b e = size_by_test (nat_lt (number Little 4 head 4) 8) head p _ b _ refl e
+at_by : (directory : List ℕ) (p : ℕ) (head : Option (List ℕ)) (b : Block) → slice_at directory p 8 ≡ head → with_head directory (p + 8) head ≡ Ok b → IsBlockAt directory p b
+at_by directory p None b first e = absurd cc
+at_by directory p (Some head) b first e =
+    let n = number Little 4 head 4 in
+    let h = slice_at-some directory p 8 head first in
+    let t = head_by (nat_lt n 8) n _ _ b refl e in
+    let w = words_by head (p + 8) (slice_at directory (p + 8) (n - 8)) b t.1 in
+    let s = slice_at-some directory (p + 8) (n - 8) w.0 w.1 in
+    let size_is : b.size ≡ n = ap (λ (x : Block). x.size) w.2 in
+    let here : p + 0 ≡ p = omega arith in
+    let to : p + 8 + (n - 8) ≡ p + b.size = omega (arith, t.0, size_is) in
+    let rva_at : number Little 4 head 0 ≡ number Little 4 directory p = ap (λ (xs : List ℕ). number Little 4 xs 0) h.value ∙ number-of_slice Little 4 directory p 8 0 (omega arith) ∙ ap (number Little 4 directory) here in
+    let size_at : n ≡ number Little 4 directory (p + 4) = ap (λ (xs : List ℕ). number Little 4 xs 4) h.value ∙ number-of_slice Little 4 directory p 8 4 (omega arith) in
+    record {
+      large = omega (arith, t.0, size_is);
+      within = omega (arith, s.end, t.0, size_is);
+      after = λ _. s.start;
+      rva = sym (ap (λ (x : Block). x.rva) w.2 ∙ rva_at);
+      size = sym (size_is ∙ size_at);
+      words = sym (ap (λ (x : Block). x.words) w.2 ∙ s.value ∙ ap (slice_range directory (p + 8)) to);
+    }
+
+pub at_from_read : (directory : List ℕ) (p : ℕ) (b : Block) → block_at directory p ≡ Ok b → IsBlockAt directory p b
+unfolding block_at
+at_from_read directory p b e = at_by directory p (slice_at directory p 8) b refl e
 
 -- a block has its head at least
 pub size-block_at : (directory : List ℕ) (p : ℕ) (b : Block) → block_at directory p ≡ Ok b → 8 ≤ b.size
-unfolding block_at
-size-block_at directory p b e = size_by_head directory (p + 8) (slice_at directory p 8) b e
+size-block_at directory p b e = (at_from_read directory p b e).large
 
 pub inside : (directory : List ℕ) (n p : ℕ) → p < length directory → first_items (suc n) directory p ≡ then_items (first_items n directory) p (block_at directory p)
 unfolding first_items

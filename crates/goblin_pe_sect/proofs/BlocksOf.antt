@@ -8,57 +8,9 @@ use Rattle.goblin_base.specs.Bytes.{IsBytes, number, slice_at}
 use Rattle.goblin_base.specs.Record.{encoding}
 use Rattle.goblin_base.proofs.RecordRoundTrip.{Slot, encoding-fields_from, fields_from, slots_width, slice_then}
 use Rattle.goblin_base.proofs.RecordRoundTrip.Slot.{octets_slot, uint_slot}
-use Rattle.goblin_base.proofs.Numbers.{number-slice, read_number, slice_at-inside, slice_at-some}
+use Rattle.goblin_base.proofs.Numbers.{number-of_slice, slice_at-inside, slice_at-some}
 use Rattle.goblin_pe_sect.specs.BaseRelocations.{AreBlocks, AreBlocksOf, Block, IsBlockAt, block_at, block_fields, first_items, then_items, with_head, with_words}
-use Rattle.goblin_pe_sect.proofs.BlockItems.{inside, first_items-past}
-
--- a number within a slice
-number_within : (n m k : ℕ) (bytes : List ℕ) (p : ℕ) → k + n ≤ m → number Little n (slice_range bytes p (p + m)) k ≡ number Little n bytes (p + k)
-number_within n m k bytes p le =
-    let e1 : k + n - k ≡ n = omega arith in
-    let e2 : p + m - p ≡ m = omega arith in
-    let e3 : p + k + n - (p + k) ≡ n = omega arith in
-    let split : m ≡ k + (m - k) = omega (arith, le) in
-    let inner : drop k (take m (drop p bytes)) ≡ take (m - k) (drop (p + k) bytes) = ap (λ (j : ℕ). drop k (take j (drop p bytes))) split ∙ drop-take k (m - k) (drop p bytes) ∙ ap (take (m - k)) (drop-drop k p bytes) in
-    let own : take n (take (m - k) (drop (p + k) bytes)) ≡ take n (drop (p + k) bytes) = take-take n (m - k) (drop (p + k) bytes) (omega (arith, le)) in
-    let same : slice_range (slice_range bytes p (p + m)) k (k + n) ≡ slice_range bytes (p + k) (p + k + n) = rw (e1, e2, e3, inner) own in
-    number-slice Little n (slice_range bytes p (p + m)) k ∙ ap (read_number Little n) same ∙ sym (number-slice Little n bytes (p + k))
-
--- ---- from what was read
-
-words_by : (head : List ℕ) (q : ℕ) (words : Option (List ℕ)) (b : Block) → with_words head q words ≡ Ok b → (own : List ℕ) × (words ≡ Some own) × (b ≡ record { rva = number Little 4 head 0; size = number Little 4 head 4; words = own })
-words_by head q None b e = absurd cc
-words_by head q (Some own) b e = (own, refl, cc)
-
-head_by : (t : Bool) (size : ℕ) (e : ErrorOf) (r : Result Block ErrorOf) (b : Block) → nat_lt size 8 ≡ t → cond t (Err e) r ≡ Ok b → (8 ≤ size) × (r ≡ Ok b)
-head_by true size e r b is h = absurd cc
-head_by false size e r b is h = (search (rules, tests), h)
-
-at_by : (directory : List ℕ) (p : ℕ) (head : Option (List ℕ)) (b : Block) → slice_at directory p 8 ≡ head → with_head directory (p + 8) head ≡ Ok b → IsBlockAt directory p b
-at_by directory p None b first e = absurd cc
-at_by directory p (Some head) b first e =
-    let n = number Little 4 head 4 in
-    let h = slice_at-some directory p 8 head first in
-    let t = head_by (nat_lt n 8) n _ _ b refl e in
-    let w = words_by head (p + 8) (slice_at directory (p + 8) (n - 8)) b t.1 in
-    let s = slice_at-some directory (p + 8) (n - 8) w.0 w.1 in
-    let size_is : b.size ≡ n = ap (λ (x : Block). x.size) w.2 in
-    let here : p + 0 ≡ p = omega arith in
-    let to : p + 8 + (n - 8) ≡ p + b.size = omega (arith, t.0, size_is) in
-    let rva_at : number Little 4 head 0 ≡ number Little 4 directory p = ap (λ (xs : List ℕ). number Little 4 xs 0) h.value ∙ number_within 4 8 0 directory p (omega arith) ∙ ap (number Little 4 directory) here in
-    let size_at : n ≡ number Little 4 directory (p + 4) = ap (λ (xs : List ℕ). number Little 4 xs 4) h.value ∙ number_within 4 8 4 directory p (omega arith) in
-    record {
-      large = omega (arith, t.0, size_is);
-      within = omega (arith, s.end, t.0, size_is);
-      after = λ _. s.start;
-      rva = sym (ap (λ (x : Block). x.rva) w.2 ∙ rva_at);
-      size = sym (size_is ∙ size_at);
-      words = sym (ap (λ (x : Block). x.words) w.2 ∙ s.value ∙ ap (slice_range directory (p + 8)) to);
-    }
-
-at_from_read : (directory : List ℕ) (p : ℕ) (b : Block) → block_at directory p ≡ Ok b → IsBlockAt directory p b
-unfolding block_at
-at_from_read directory p b e = at_by directory p (slice_at directory p 8) b refl e
+use Rattle.goblin_pe_sect.proofs.BlockItems.{at_from_read, inside, first_items-past}
 
 -- ---- to what is read
 
@@ -75,8 +27,8 @@ read_from_at directory p b h =
     let here : p + 0 ≡ p = omega arith in
     let to : p + 8 + (b.size - 8) ≡ p + b.size = omega (arith, h.large) in
     let first : slice_at directory p 8 ≡ Some head = slice_at-inside directory p 8 (omega (arith, room)) (omega (arith, room)) in
-    let rva : number Little 4 head 0 ≡ b.rva = number_within 4 8 0 directory p (omega arith) ∙ ap (number Little 4 directory) here ∙ h.rva in
-    let size : number Little 4 head 4 ≡ b.size = number_within 4 8 4 directory p (omega arith) ∙ h.size in
+    let rva : number Little 4 head 0 ≡ b.rva = number-of_slice Little 4 directory p 8 0 (omega arith) ∙ ap (number Little 4 directory) here ∙ h.rva in
+    let size : number Little 4 head 4 ≡ b.size = number-of_slice Little 4 directory p 8 4 (omega arith) ∙ h.size in
     let own : slice_range directory (p + 8) (p + 8 + (b.size - 8)) ≡ b.words = ap (slice_range directory (p + 8)) to ∙ h.words in
     let words : slice_at directory (p + 8) (b.size - 8) ≡ Some b.words = slice_at-inside directory (p + 8) (b.size - 8) room (omega (arith, h.within, h.large)) ∙ ap (λ (xs : List ℕ). Some xs) own in
     ap (with_head directory (p + 8)) first ∙ head_with_words directory head (p + 8) b.size b.rva b.words size rva h.large words

@@ -1,5 +1,5 @@
 -- Cutting the line of addresses at the begins and ends of windows.
-use Rattle.std.proofs.Common.{◌≡◌, ℕ, ◌+◌, ◌*◌, ◌^◌, ◌<◌, ◌≤◌, List, [], ◌∷◌, ◌++◌, length, slice_get, Some, sym, subst, inl, inr, arith, length-append, eqb, IsPermutation, IsSorted, nat_cmp}
+use Rattle.std.proofs.Common.{◌≡◌, ℕ, ◌+◌, ◌*◌, ◌^◌, ◌<◌, ◌≤◌, List, [], ◌∷◌, ◌++◌, length, slice_get, Some, refl, sym, subst, inl, inr, arith, length-append, eqb, IsPermutation, IsSorted, nat_cmp}
 use Rattle.std.specs.List.{Contains, dedup}
 use Rattle.std.proofs.lemmas.List.Elements.{Contains-append_left, Contains-push, Contains-push_cases}
 use Rattle.std.proofs.lemmas.List.Sorted.{Contains-permutation, IsPermutation-sym, length_permutation}
@@ -33,60 +33,49 @@ all_more P xs n x here below this k y lt is =
           subst P one this
     ]
 
-pub cuts_empty : (mapping : Mapping) (sections : List Section) (alignment : ℕ) (points : List ℕ) (n : ℕ) (s : Section) → HasCuts mapping sections alignment points n → slice_get sections n ≡ Some s → read_size mapping.view s alignment ≡ 0 → HasCuts mapping sections alignment points (n + 1)
-cuts_empty mapping sections alignment points n s h here empty = record {
-  start = h.start;
-  begins = all_more (λ s. 0 < read_size mapping.view s alignment → Contains points s.virtual_address) sections n s here h.begins (λ some. absurd (omega arith));
-  ends = all_more (λ s. 0 < read_size mapping.view s alignment → Contains points (window_end mapping s alignment)) sections n s here h.ends (λ some. absurd (omega arith));
-  only = h.only;
-  near = all_more (λ s. read_size mapping.view s alignment ≤ 2 ^ 33) sections n s here h.near (omega arith);
-  few = omega (arith, h.few);
-}
-
-only_more : (mapping : Mapping) (sections : List Section) (alignment : ℕ) (points : List ℕ) (n : ℕ) (s : Section) → ((x : ℕ) → Contains points x → IsBorder mapping sections alignment x) → slice_get sections n ≡ Some s → 0 < read_size mapping.view s alignment → (x : ℕ) → Contains ((points ++ s.virtual_address ∷ []) ++ window_end mapping s alignment ∷ []) x → IsBorder mapping sections alignment x
-only_more mapping sections alignment points n s only here some x has =
-    elim (Contains-push_cases (points ++ s.virtual_address ∷ []) (window_end mapping s alignment) x has) [
-      | inl before ↦
-          elim (Contains-push_cases points s.virtual_address x before) [
-            | inl old ↦ only x old
-            | inr begin ↦ inr (n, s, here, some, inl (sym begin))
-          ]
-      | inr end ↦ inr (n, s, here, some, inr (sym end))
-    ]
-
-pub cuts_more : (mapping : Mapping) (sections : List Section) (alignment : ℕ) (points : List ℕ) (n : ℕ) (s : Section) → HasCuts mapping sections alignment points n → slice_get sections n ≡ Some s → 0 < read_size mapping.view s alignment → read_size mapping.view s alignment ≤ 2 ^ 33 → HasCuts mapping sections alignment ((points ++ s.virtual_address ∷ []) ++ window_end mapping s alignment ∷ []) (n + 1)
-cuts_more mapping sections alignment points n s h here some small =
-    let all : List ℕ = (points ++ s.virtual_address ∷ []) ++ window_end mapping s alignment ∷ [] in
-    let kept : (x : ℕ) → Contains points x → Contains all x = λ x has. Contains-append_left _ _ x (Contains-append_left points _ x has) in
-    record {
-      start = kept 0 h.start;
-      begins = all_more (λ s. 0 < read_size mapping.view s alignment → Contains all s.virtual_address) sections n s here (λ k t lt is some. kept _ (h.begins k t lt is some)) (λ some. Contains-append_left _ _ _ (Contains-push points s.virtual_address));
-      ends = all_more (λ s. 0 < read_size mapping.view s alignment → Contains all (window_end mapping s alignment)) sections n s here (λ k t lt is some. kept _ (h.ends k t lt is some)) (λ some. Contains-push _ (window_end mapping s alignment));
-      only = only_more mapping sections alignment points n s h.only here some;
-      near = all_more (λ s. read_size mapping.view s alignment ≤ 2 ^ 33) sections n s here h.near small;
-      few = omega (arith, h.few, length-append {A = ℕ});
-    }
-
-only_touching : (mapping : Mapping) (sections : List Section) (alignment : ℕ) (points : List ℕ) (n : ℕ) (s : Section) → ((x : ℕ) → Contains points x → IsBorder mapping sections alignment x) → slice_get sections n ≡ Some s → 0 < read_size mapping.view s alignment → (x : ℕ) → Contains (points ++ window_end mapping s alignment ∷ []) x → IsBorder mapping sections alignment x
-only_touching mapping sections alignment points n s only here some x has =
-    elim (Contains-push_cases points (window_end mapping s alignment) x has) [
+-- what holds of numbers and of one more
+only_pushed : (P : ℕ → Type 0) (points : List ℕ) (y : ℕ) → ((x : ℕ) → Contains points x → P x) → P y → (x : ℕ) → Contains (points ++ y ∷ []) x → P x
+only_pushed P points y only this x has =
+    elim (Contains-push_cases points y x has) [
       | inl old ↦ only x old
-      | inr end ↦ inr (n, s, here, some, inr (sym end))
+      | inr same ↦ subst P same this
     ]
 
--- where a window begins at one of the points, only its end is new
-pub cuts_touching : (mapping : Mapping) (sections : List Section) (alignment : ℕ) (points : List ℕ) (n : ℕ) (s : Section) → HasCuts mapping sections alignment points n → slice_get sections n ≡ Some s → 0 < read_size mapping.view s alignment → read_size mapping.view s alignment ≤ 2 ^ 33 → Contains points s.virtual_address → HasCuts mapping sections alignment (points ++ window_end mapping s alignment ∷ []) (n + 1)
-cuts_touching mapping sections alignment points n s h here some small begun =
-    let all : List ℕ = points ++ window_end mapping s alignment ∷ [] in
-    let kept : (x : ℕ) → Contains points x → Contains all x = λ x has. Contains-append_left points _ x has in
-    record {
-      start = kept 0 h.start;
-      begins = all_more (λ s. 0 < read_size mapping.view s alignment → Contains all s.virtual_address) sections n s here (λ k t lt is some. kept _ (h.begins k t lt is some)) (λ some. kept _ begun);
-      ends = all_more (λ s. 0 < read_size mapping.view s alignment → Contains all (window_end mapping s alignment)) sections n s here (λ k t lt is some. kept _ (h.ends k t lt is some)) (λ some. Contains-push points (window_end mapping s alignment));
-      only = only_touching mapping sections alignment points n s h.only here some;
-      near = all_more (λ s. read_size mapping.view s alignment ≤ 2 ^ 33) sections n s here h.near small;
-      few = omega (arith, h.few, length-append {A = ℕ});
-    }
+module _ (mapping : Mapping) (sections : List Section) (alignment : ℕ) (points : List ℕ) (n : ℕ) (s : Section) (h : HasCuts mapping sections alignment points n) (here : slice_get sections n ≡ Some s) where
+  -- the points with those of the next window
+  grown : (all : List ℕ) → read_size mapping.view s alignment ≤ 2 ^ 33 → ((x : ℕ) → Contains points x → Contains all x)
+      → (0 < read_size mapping.view s alignment → Contains all s.virtual_address × Contains all (window_end mapping s alignment))
+      → ((x : ℕ) → Contains all x → IsBorder mapping sections alignment x) → length all ≤ length points + 2 → HasCuts mapping sections alignment all (n + 1)
+  grown all small kept new only few = record {
+    start = kept 0 h.start;
+    begins = all_more (λ s. 0 < read_size mapping.view s alignment → Contains all s.virtual_address) sections n s here (λ k t lt is some. kept _ (h.begins k t lt is some)) (λ some. (new some).0);
+    ends = all_more (λ s. 0 < read_size mapping.view s alignment → Contains all (window_end mapping s alignment)) sections n s here (λ k t lt is some. kept _ (h.ends k t lt is some)) (λ some. (new some).1);
+    only = only;
+    near = all_more (λ s. read_size mapping.view s alignment ≤ 2 ^ 33) sections n s here h.near small;
+    few = omega (arith, h.few, few);
+  }
+
+  pub cuts_empty : read_size mapping.view s alignment ≡ 0 → HasCuts mapping sections alignment points (n + 1)
+  cuts_empty empty = grown points (omega (arith, empty)) (λ x has. has) (λ some. absurd (omega (arith, empty, some))) h.only (omega arith)
+
+  module _ (some : 0 < read_size mapping.view s alignment) (small : read_size mapping.view s alignment ≤ 2 ^ 33) where
+    end_too : (begun : List ℕ) → ((x : ℕ) → Contains begun x → IsBorder mapping sections alignment x) → (x : ℕ) → Contains (begun ++ window_end mapping s alignment ∷ []) x → IsBorder mapping sections alignment x
+    end_too begun only = only_pushed (IsBorder mapping sections alignment) begun (window_end mapping s alignment) only (inr (n, s, here, some, inr refl))
+
+    pub cuts_more : HasCuts mapping sections alignment ((points ++ s.virtual_address ∷ []) ++ window_end mapping s alignment ∷ []) (n + 1)
+    cuts_more =
+        let begun : List ℕ = points ++ s.virtual_address ∷ [] in
+        grown (begun ++ window_end mapping s alignment ∷ []) small (λ x has. Contains-append_left begun _ x (Contains-append_left points _ x has))
+        (λ _. (Contains-append_left begun _ _ (Contains-push points s.virtual_address), Contains-push begun (window_end mapping s alignment)))
+        (end_too begun (only_pushed (IsBorder mapping sections alignment) points s.virtual_address h.only (inr (n, s, here, some, inl refl))))
+        (omega (arith, length-append {A = ℕ}))
+
+    -- where a window begins at one of the points, only its end is new
+    pub cuts_touching : Contains points s.virtual_address → HasCuts mapping sections alignment (points ++ window_end mapping s alignment ∷ []) (n + 1)
+    cuts_touching begun =
+        grown (points ++ window_end mapping s alignment ∷ []) small (λ x has. Contains-append_left points _ x has)
+        (λ _. (Contains-append_left points _ _ begun, Contains-push points (window_end mapping s alignment))) (end_too points h.only)
+        (omega (arith, length-append {A = ℕ}))
 
 pub all_borders : (mapping : Mapping) (sections : List Section) (alignment : ℕ) (points : List ℕ) → HasCuts mapping sections alignment points (length sections) → (x : ℕ) → IsBorder mapping sections alignment x → Contains points x
 all_borders mapping sections alignment points h x (inl is) = subst (λ (y : ℕ). Contains points y) (sym is) h.start

@@ -1,5 +1,5 @@
 -- Directories that were read are written as they stood, with zeros after the last, and one that was written is read again.
-use Rattle.std.proofs.Common.{◌≡◌, ℕ, zero, suc, ◌+◌, ◌-◌, ◌*◌, ◌≤◌, true, false, nat_le, List, ◌∷◌, ◌++◌, length, drop, map, Option, Some, None, refl, sym, ap, ◌∙◌, inl, inr, arith, Bool, cond, take, replicate, ◌==◌, ◌&&◌, ◌||◌, slice_range, flat_map, option_map, take-add}
+use Rattle.std.proofs.Common.{◌≡◌, ℕ, zero, suc, ◌+◌, ◌-◌, ◌*◌, ◌<◌, ◌≤◌, true, false, nat_le, List, ◌∷◌, ◌++◌, length, drop, map, Option, Some, None, refl, sym, ap, ◌∙◌, inl, inr, arith, Bool, cond, take, replicate, ◌==◌, ◌&&◌, ◌||◌, slice_range, flat_map, option_map, take-add}
 use Rattle.std.specs.List.{range_with_len}
 use Rattle.std.proofs.lemmas.Bool.{and_parts, eqb-true, leb-true, or_cases}
 use Rattle.std.proofs.lemmas.Option.{cond_some}
@@ -8,13 +8,13 @@ use Rattle.std.proofs.lemmas.List.Concat.{flat_map-append}
 use Rattle.goblin_base.specs.declared.endian.Endian.TheVariants.{Little}
 use Rattle.goblin_base.specs.Bytes.{IsBytes, number_bytes, slice_at}
 use Rattle.goblin_base.specs.Record.{FieldValue, WritesBack, encoding, FieldsFit, ReadsBack}
-use Rattle.goblin_base.proofs.RecordRoundTrip.{writes_back, reads_back}
+use Rattle.goblin_base.proofs.RecordRoundTrip.{front_more, writes_back, reads_back}
 use Rattle.goblin_base.proofs.Numbers.{slice_at-inside}
 use Rattle.goblin_base.proofs.Writing.{encoding_append}
 use Rattle.goblin_pe_sect.specs.declared.data_directories.DataDirectory.{DataDirectory}
 use Rattle.goblin_pe_sect.specs.DataDirectories.{directory_fields, directory_or_zeros, directory_record, entries_fields, entry_ending, no_directory}
 use Rattle.goblin_pe_sect.specs.DirectoryReadings.{EntriesWriteBack}
-use Rattle.goblin_pe_sect.proofs.DirectoryReadings.{value-directories_at}
+use Rattle.goblin_pe_sect.proofs.DirectoryReadings.{directories_read}
 use Rattle.goblin_pe_sect.proofs.Entries.{directory_entry_at, directory_entry_at-below, directory_entry_at-past, entries_in_room}
 
 -- a directory that was read is written as it stood
@@ -58,23 +58,6 @@ bytes_of-more : (count : ℕ) (bytes : List ℕ) (p a n : ℕ) → bytes_of coun
 bytes_of-more count bytes p a n =
     encoding_append Little (directory_fields (directory_or_zeros (directory_entry_at count bytes p a))) (entries_fields (map (directory_entry_at count bytes p) (range_with_len (a + 1) n)))
 
--- those below the count are written as their bytes
-bytes_of-below : (count : ℕ) (bytes : List ℕ) (p a n : ℕ) → IsBytes bytes → a + n ≤ count → p + 8 * (a + n) ≤ length bytes → bytes_of count bytes p a n ≡ take (8 * n) (drop (p + 8 * a) bytes)
-bytes_of-below count bytes p a zero h most room = refl
-bytes_of-below count bytes p a (suc n) h most room =
-    let at = p + 8 * a in
-    let width : at + 8 - at ≡ 8 = omega arith in
-    let first : encoding Little (directory_fields (directory_or_zeros (directory_entry_at count bytes p a))) ≡ take 8 (drop at bytes) =
-    ap (λ e. encoding Little (directory_fields (directory_or_zeros e))) (directory_entry_at-below count bytes p a (omega arith))
-    ∙ ap (λ d. encoding Little (directory_fields d)) (directory_or_zeros-entry_ending (at + 8) (directory_record Little (slice_range bytes at (at + 8))))
-    ∙ own_bytes bytes at h (omega arith) ∙ ap (λ (k : ℕ). take k (drop at bytes)) width in
-    let rest = bytes_of-below count bytes p (a + 1) n h (omega arith) (omega arith) in
-    let next : p + 8 * (a + 1) ≡ at + 8 = omega arith in
-    let long : 8 * suc n ≡ 8 + 8 * n = omega arith in
-    bytes_of-more count bytes p a n ∙ ap (λ (xs : List ℕ). xs ++ bytes_of count bytes p (a + 1) n) first
-    ∙ ap (λ (xs : List ℕ). take 8 (drop at bytes) ++ xs) (rest ∙ ap (λ (k : ℕ). take (8 * n) (drop k bytes)) next ∙ ap (take (8 * n)) (sym (drop-drop 8 at bytes)))
-    ∙ sym (take-add 8 (8 * n) (drop at bytes)) ∙ ap (λ (k : ℕ). take k (drop at bytes)) (sym long)
-
 -- the others are zeros
 bytes_of-past : (count : ℕ) (bytes : List ℕ) (p a n : ℕ) → count ≤ a → bytes_of count bytes p a n ≡ replicate (8 * n) 0
 bytes_of-past count bytes p a zero most = refl
@@ -86,47 +69,36 @@ bytes_of-past count bytes p a (suc n) most =
     bytes_of-more count bytes p a n ∙ ap (λ (xs : List ℕ). xs ++ bytes_of count bytes p (a + 1) n) first ∙ ap (λ (xs : List ℕ). replicate 8 0 ++ xs) rest
     ∙ replicate-append-replicate 8 (8 * n) 0 ∙ ap (λ (k : ℕ). replicate k 0) (sym long)
 
-zero_plus : (n : ℕ) → zero + n ≡ n
-zero_plus n = omega arith
-
-plus_zero : (n : ℕ) → n + zero ≡ n
-plus_zero n = omega arith
-
-range_with_len-split : (a n m : ℕ) → range_with_len a (n + m) ≡ range_with_len a n ++ range_with_len (a + n) m
-range_with_len-split a zero m = rw (zero_plus m, plus_zero a) refl
-range_with_len-split a (suc n) m =
-    let e : suc n + m ≡ suc (n + m) = omega arith in
-    let f : a + suc n ≡ a + 1 + n = omega arith in
-    rw (e, f) (ap (λ (xs : List ℕ). a ∷ xs) (range_with_len-split (a + 1) n m))
-
-split : (count : ℕ) (bytes : List ℕ) (p n m : ℕ) → bytes_of count bytes p 0 (n + m) ≡ bytes_of count bytes p 0 n ++ bytes_of count bytes p n m
-split count bytes p n m =
-    let f = directory_entry_at count bytes p in
-    let g : Option (ℕ × DataDirectory) → List FieldValue = λ e. directory_fields (directory_or_zeros e) in
-    ap (λ (r : List ℕ). encoding Little (flat_map g (map f r))) (range_with_len-split 0 n m ∙ ap (λ (k : ℕ). range_with_len 0 n ++ range_with_len k m) (zero_plus n))
-    ∙ ap (λ (es : List (Option (ℕ × DataDirectory))). encoding Little (flat_map g es)) (map-append f (range_with_len 0 n) (range_with_len n m))
-    ∙ ap (encoding Little) (flat_map-append g (map f (range_with_len 0 n)) (map f (range_with_len n m)))
-    ∙ encoding_append Little (flat_map g (map f (range_with_len 0 n))) (flat_map g (map f (range_with_len n m)))
-
-none_read : (count n : ℕ) (bytes : List ℕ) (p : ℕ) → n ≡ 0 → bytes_of count bytes p 0 n ≡ take (8 * n) (drop p bytes)
-none_read count n bytes p none = rw none refl
+-- those below the count are written as their bytes, and then come the zeros
+bytes_of-all : (count : ℕ) (bytes : List ℕ) (p a n k : ℕ) → IsBytes bytes → a + k ≡ count → k ≤ n → (0 < k → p + 8 * count ≤ length bytes)
+    → bytes_of count bytes p a n ≡ take (8 * k) (drop (p + 8 * a) bytes) ++ replicate (8 * (n - k)) 0
+bytes_of-all count bytes p a n zero h all le room =
+    let none : n ≡ n - 0 = omega arith in
+    bytes_of-past count bytes p a n (omega (arith, all)) ∙ ap (λ (m : ℕ). replicate (8 * m) 0) none
+bytes_of-all count bytes p a zero (suc k) h all le room = absurd (omega (arith, le))
+bytes_of-all count bytes p a (suc n) (suc k) h all le room =
+    let at = p + 8 * a in
+    let zeros = replicate (8 * (suc n - suc k)) 0 in
+    let left : n - k ≡ suc n - suc k = omega arith in
+    let whole : p + 8 * count ≤ length bytes = room (omega arith) in
+    let width : at + 8 - at ≡ 8 = omega arith in
+    let first : encoding Little (directory_fields (directory_or_zeros (directory_entry_at count bytes p a))) ≡ take 8 (drop at bytes) =
+    ap (λ e. encoding Little (directory_fields (directory_or_zeros e))) (directory_entry_at-below count bytes p a (omega (arith, all)))
+    ∙ ap (λ d. encoding Little (directory_fields d)) (directory_or_zeros-entry_ending (at + 8) (directory_record Little (slice_range bytes at (at + 8))))
+    ∙ own_bytes bytes at h (omega (arith, all, whole)) ∙ ap (λ (k : ℕ). take k (drop at bytes)) width in
+    let rest = bytes_of-all count bytes p (a + 1) n k h (omega (arith, all)) (omega (arith, le)) (λ _. whole) in
+    let next : p + 8 * (a + 1) ≡ at + 8 = omega arith in
+    let long : 8 + 8 * k ≡ 8 * suc k = omega arith in
+    bytes_of-more count bytes p a n ∙ ap (λ (xs : List ℕ). xs ++ bytes_of count bytes p (a + 1) n) first ∙ ap (λ (xs : List ℕ). take 8 (drop at bytes) ++ xs) (rest ∙ ap (λ (m : ℕ). take (8 * k) (drop (p + 8 * (a + 1)) bytes) ++ replicate (8 * m) 0) left)
+    ∙ front_more (drop at bytes) 8 (8 * k) (take (8 * k) (drop (p + 8 * (a + 1)) bytes)) zeros (ap (λ (q : ℕ). take (8 * k) (drop q bytes)) next ∙ ap (take (8 * k)) (sym (drop-drop 8 at bytes)))
+    ∙ ap (λ (w : ℕ). take w (drop at bytes) ++ zeros) long
 
 pub entries_back : EntriesWriteBack
-unfolding entries_in_room
 entries_back count bytes p entries h read =
-    let e = sym (value-directories_at count bytes p) ∙ read in
-    let found = cond_some (nat_le count 16 && (count == 0 || nat_le (p + 8 * count) (length bytes))) (map (directory_entry_at count bytes p) (range_with_len 0 16)) entries e in
-    let tests = and_parts (nat_le count 16) (count == 0 || nat_le (p + 8 * count) (length bytes)) found.0 in
-    let most : count ≤ 16 = leb-true count 16 tests.0 in
-    let all : 16 ≡ count + (16 - count) = omega (arith, most) in
+    let are = directories_read count bytes p entries read in
     let start : p + 8 * 0 ≡ p = omega arith in
-    let width : p + 8 * count - p ≡ 8 * count = omega arith in
-    let front : bytes_of count bytes p 0 count ≡ slice_range bytes p (p + 8 * count) =
-    elim (or_cases (count == 0) (nat_le (p + 8 * count) (length bytes)) tests.1) [
-      | inl none ↦ none_read count count bytes p (eqb-true count 0 none) ∙ ap (λ (k : ℕ). take k (drop p bytes)) (sym width)
-      | inr room ↦
-          let fits = leb-true (p + 8 * count) (length bytes) room in
-          bytes_of-below count bytes p 0 count h (omega arith) (omega arith) ∙ ap (λ (k : ℕ). take (8 * count) (drop k bytes)) start ∙ ap (λ (k : ℕ). take k (drop p bytes)) (sym width)
-    ] in
-    ap (λ (es : List (Option (ℕ × DataDirectory))). encoding Little (entries_fields es)) (sym found.1) ∙ ap (bytes_of count bytes p 0) all ∙ split count bytes p count (16 - count)
-    ∙ ap (λ (xs : List ℕ). xs ++ bytes_of count bytes p count (16 - count)) front ∙ ap (λ (xs : List ℕ). slice_range bytes p (p + 8 * count) ++ xs) (bytes_of-past count bytes p count (16 - count) (omega arith))
+    let width : 8 * count ≡ p + 8 * count - p = omega arith in
+    ap (λ (es : List (Option (ℕ × DataDirectory))). encoding Little (entries_fields es)) (sym are.are)
+    ∙ bytes_of-all count bytes p 0 16 count h (omega arith) are.few are.room
+    ∙ ap (λ (q : ℕ). take (8 * count) (drop q bytes) ++ replicate (8 * (16 - count)) 0) start
+    ∙ ap (λ (w : ℕ). take w (drop p bytes) ++ replicate (8 * (16 - count)) 0) width

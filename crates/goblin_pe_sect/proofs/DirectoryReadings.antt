@@ -1,7 +1,7 @@
 -- The data directories by the room in the file: what they are, and which cause is true of them.
 use Rattle.std.proofs.Common.{◌≡◌, ◌≢◌, ◌/◌, ◌%◌, ◌+◌, ◌-◌, ◌*◌, ◌<◌, ◌≤◌, ◌&&◌, ◌||◌, ℕ, zero, suc, Bool, true, false, cond, get_or, nat_eq, nat_le, List, length, map, Option, Some, None, refl, replicate, set, subst, sym, ap, ◌∙◌, inl, inr, arith, option_and_then, option_map, slice_range}
 use Rattle.std.specs.List.{range_with_len, slice_get}
-use Rattle.std.proofs.lemmas.Bool.{cases_eq, cases_lt, eq-eqb, eqb-false, le-leb, leb-false, leb-true, lt-leb, ne_eqb, or_parts}
+use Rattle.std.proofs.lemmas.Bool.{cases_eq, cases_lt, eqb-false, eqb-true, le-leb, leb-false, leb-true, lt-leb, or_cases, or_parts}
 use Rattle.std.proofs.lemmas.List.FromFn.{get_or-map-range_with_len, length-map-range_with_len}
 use Rattle.std.proofs.lemmas.Option.{slice_get_past, slice_get_read}
 use Rattle.goblin_base.specs.declared.endian.Endian.TheVariants.{Little}
@@ -16,21 +16,13 @@ use Rattle.goblin_base.specs.Record.{record_at}
 use Rattle.goblin_base.proofs.Footprints.{same-all_at, same_map}
 use Rattle.goblin_base.proofs.Numbers.{slice-of_slice, slice_at-inside, slice_at-past}
 use Rattle.goblin_base.proofs.Steps.{all_at-none, unmapped}
+use Rattle.readings.proofs.WalkValues.{all_of-made}
 use Rattle.goblin_pe_sect.specs.declared.data_directories.DataDirectory.{DataDirectory}
 use Rattle.goblin_pe_sect.specs.DataDirectories.{directory_record, entry_ending}
 use Rattle.goblin_pe_sect.specs.DirectoryReadings.{directories_at, sixteen}
-use Rattle.goblin_pe_sect.proofs.Entries.{directory_entry_at, directory_entry_at-below, directory_entry_at-past, entries_in_room, entries_more, entry_unread, one_missing}
+use Rattle.goblin_pe_sect.proofs.Entries.{directory_entry_at, directory_entry_at-below, directory_entry_at-past, AreEntries, entries_in_room, entries_more, entries_read, entries_there, one_missing}
 
 -- ---- the value
-
-all_some : {A : Type 0} (g : ℕ → A) (n a : ℕ)
-    → all_of (map (λ i. Some (g i)) (range_with_len a n)) ≡ Some (map g (range_with_len a n))
-all_some g zero a = refl
-all_some g (suc n) a = rw (all_some g n (a + 1)) refl
-
-room_for : (none room : Bool) → (none || room) ≡ true → none ≡ false → room ≡ true
-room_for true room e h = absurd cc
-room_for false room e h = e
 
 by_room : {X : Type 0} (few room : Bool) (made : Option X) (all : X)
     → (room ≡ true → made ≡ Some all) → (room ≡ false → made ≡ None)
@@ -59,7 +51,7 @@ module _ (count : ℕ) (bytes : List ℕ) (p : ℕ) where
   all_there room =
       same-all_at directory (λ i. Some (own i)) count
       (λ j lt. directory_there j (omega (arith, lt, room (omega (arith, lt)))))
-      ∙ all_some own count 0
+      ∙ all_of-made own (range_with_len 0 count)
 
   entry_is : (i : ℕ)
       → option_and_then (entry_ending (p + 8 * i + 8))
@@ -92,10 +84,10 @@ module _ (count : ℕ) (bytes : List ℕ) (p : ℕ) where
       ≡ Some (map (directory_entry_at count bytes p) (range_with_len 0 16))
   made_there room =
       ap (option_map (sixteen p))
-      (all_there (λ some.
-      leb-true (p + 8 * count) (length bytes)
-      (room_for (nat_eq count 0) (nat_le (p + 8 * count) (length bytes)) room
-      (ne_eqb count 0 (λ e. omega (arith, some, e))))))
+      (all_there (λ some. elim (or_cases (nat_eq count 0) (nat_le (p + 8 * count) (length bytes)) room) [
+        | inl none ↦ absurd (omega (arith, some, eqb-true count 0 none))
+        | inr there ↦ leb-true (p + 8 * count) (length bytes) there
+      ]))
       ∙ ap (λ entries. Some entries) entries_are
 
   made_none : (nat_eq count 0 || nat_le (p + 8 * count) (length bytes)) ≡ false
@@ -119,6 +111,11 @@ module _ (count : ℕ) (bytes : List ℕ) (p : ℕ) where
       (option_map (sixteen p) (all_at directory count))
       (map (directory_entry_at count bytes p) (range_with_len 0 16)) made_there made_none
 
+pub directories_read : (count : ℕ) (bytes : List ℕ) (p : ℕ) (entries : List (Option (ℕ × DataDirectory)))
+    → (directories_at count p).value bytes ≡ Some entries → AreEntries count bytes p entries
+directories_read count bytes p entries e =
+    entries_read count bytes p entries (sym (value-directories_at count bytes p) ∙ e)
+
 -- ---- the cause
 
 from_records : (count : ℕ) (bytes : List ℕ) (p : ℕ) (e : ErrorOf)
@@ -132,40 +129,20 @@ from_records count bytes p e (i, below, earlier, none, cause) = (
   cause,
 )
 
--- the first entry that is not there refuses them all
-pub missing_refused : (count i : ℕ) (bytes : List ℕ) (p at : ℕ)
-    (entries : List (Option (ℕ × DataDirectory))) (e : ErrorOf) → i < count → count ≤ 16
-    → at ≡ p + 8 * i → (directories_at i p).value bytes ≡ Some entries → IsSliceFault bytes at 8 e
-    → IsRefused (directories_at count p) bytes e
-unfolding directories_at
-missing_refused count i bytes p at entries e lt most is so_far h =
-    let before = sym (value-directories_at i bytes p) ∙ so_far in
-    let none = one_missing count i bytes p at entries e lt most is before h in
-    let few : nat_le count 16 ≡ true = le-leb count 16 most in
-    (value-directories_at count bytes p ∙ none.0, rw few (from_records count bytes p e none.1))
-
--- the entries before the end are there
-there_so_far : (i : ℕ) (bytes : List ℕ) (p : ℕ) → i ≤ 16 → (0 < i → p + 8 * i ≤ length bytes)
-    → entries_in_room i bytes p ≡ Some (map (directory_entry_at i bytes p) (range_with_len 0 16))
-unfolding entries_in_room
-there_so_far i bytes p most room =
-    let few : nat_le i 16 ≡ true = le-leb i 16 most in
-    elim (cases_eq i 0) [
-      | inl none ↦ rw (few, eq-eqb i 0 none) refl
-      | inr some ↦ rw (few, ne_eqb i 0 some, le-leb (p + 8 * i) (length bytes) (room (omega (arith, some)))) refl
-    ]
-
 -- entries that run past the end are refused as the first of them is
 cut_refused : (count : ℕ) (bytes : List ℕ) (p : ℕ) (e : ErrorOf) → count ≤ 16
     → length bytes - p < 8 * count
     → IsSliceFault bytes (p + 8 * ((length bytes - p) / 8)) 8 e
     → IsRefused (directories_at count p) bytes e
+unfolding directories_at
 cut_refused count bytes p e most short fault =
     let i = (length bytes - p) / 8 in
-    missing_refused count i bytes p (p + 8 * i)
-    (map (directory_entry_at i bytes p) (range_with_len 0 16)) e (omega (arith, short)) most refl
-    (value-directories_at i bytes p
-    ∙ there_so_far i bytes p (omega (arith, short, most)) (λ some. omega (arith, some))) fault
+    let few : nat_le count 16 ≡ true = le-leb count 16 most in
+    let none =
+    one_missing count i bytes p (map (directory_entry_at i bytes p) (range_with_len 0 16)) e
+    (omega (arith, short)) most
+    (entries_there i bytes p (omega (arith, short, most)) (λ some. omega (arith, some))) fault in
+    (value-directories_at count bytes p ∙ none.0, rw few (from_records count bytes p e none.1))
 
 pub cut_none : (count : ℕ) (bytes : List ℕ) (p : ℕ) → count ≤ 16 → length bytes - p < 8 * count
     → (directories_at count p).value bytes ≡ None
@@ -218,7 +195,7 @@ record_there bytes p k d room is =
 pub none_so_far : (i : ℕ) (bytes : List ℕ) (p : ℕ) (entries : List (Option (ℕ × DataDirectory)))
     → i < 16 → (directories_at i p).value bytes ≡ Some entries → get_or entries i None ≡ None
 none_so_far i bytes p entries lt so_far =
-    entry_unread i bytes p entries lt (sym (value-directories_at i bytes p) ∙ so_far)
+    (directories_read i bytes p entries so_far).each i lt ∙ directory_entry_at-past i bytes p i (omega arith)
 
 -- one more entry
 pub one_more : (i : ℕ) (bytes : List ℕ) (p at end : ℕ) (entries : List (Option (ℕ × DataDirectory)))

@@ -1,13 +1,12 @@
 -- The entries of the data directories: read and written one after the other, and walked by their kinds.
 use Rattle.std.proofs.Common.{◌≡◌, ◌≢◌, ℕ, zero, suc, ◌+◌, ◌-◌, ◌*◌, ◌<◌, ◌≤◌, true, false, nat_le, nat_lt, List, [], ◌∷◌, ◌++◌, length, drop, get_or, set, map, Option, Some, None, refl, sym, ap, ◌∙◌, inl, inr, add-one, arith, ◌==◌, ◌&&◌, ◌||◌, if◌then◌else◌, slice_range, zip, filter_map}
 use Rattle.std.specs.List.{cons_option, range_with_len}
-use Rattle.std.proofs.lemmas.Bool.{and_parts, eqb-true, leb-true, or_cases, le-leb, lt-leb, lt-ltb, le-ltb, ne_eqb, cases_lt}
+use Rattle.std.proofs.lemmas.Bool.{and_parts, eqb-true, leb-true, or_cases, le-leb, lt-leb, lt-ltb, le-ltb, ne_eqb, eq-eqb, cases_eq, cases_lt}
 use Rattle.std.proofs.lemmas.Option.{cond_some}
 use Rattle.std.proofs.lemmas.Slice.Zip.{length-zip}
 use Rattle.std.proofs.lemmas.List.{append-nil, at_drop_more, drop_all, length-drop, take_all, get_or-set_same, get_or-set_other, length-set}
 use Rattle.std.proofs.lemmas.List.Concat.{flat_map-cons}
 use Rattle.std.proofs.lemmas.List.FromFn.{fill_by_all, get_or-map-range_with_len, length-map-range_with_len}
-use Rattle.std.proofs.Math.Bool.{or-true}
 use Rattle.goblin_base.specs.declared.endian.Endian.{Endian}
 use Rattle.goblin_base.specs.declared.endian.Endian.TheVariants.{Little}
 use Rattle.goblin_base.specs.declared.error.ErrorOf.{ErrorOf}
@@ -51,41 +50,57 @@ past_end count bytes p some past =
       | false ↦ refl
     ]
 
+-- entries for which there is room are there
+pub entries_there : (count : ℕ) (bytes : List ℕ) (p : ℕ) → count ≤ 16 → (0 < count → p + 8 * count ≤ length bytes)
+    → entries_in_room count bytes p ≡ Some (map (directory_entry_at count bytes p) (range_with_len 0 16))
+unfolding entries_in_room
+entries_there count bytes p most room =
+    let few : nat_le count 16 ≡ true = le-leb count 16 most in
+    elim (cases_eq count 0) [
+      | inl none ↦ rw (few, eq-eqb count 0 none) refl
+      | inr some ↦ rw (few, ne_eqb count 0 some, le-leb (p + 8 * count) (length bytes) (room (omega (arith, some)))) refl
+    ]
+
+-- what entries that were read are
+pub record AreEntries (count : ℕ) (bytes : List ℕ) (p : ℕ) (entries : List (Option (ℕ × DataDirectory))) : Type 0 where
+  pub few : count ≤ 16
+  pub room : 0 < count → p + 8 * count ≤ length bytes
+  pub are : map (directory_entry_at count bytes p) (range_with_len 0 16) ≡ entries
+  pub sixteen : length entries ≡ 16
+  pub each : (k : ℕ) → k < 16 → get_or entries k None ≡ directory_entry_at count bytes p k
+
+pub entries_read : (count : ℕ) (bytes : List ℕ) (p : ℕ) (entries : List (Option (ℕ × DataDirectory))) → entries_in_room count bytes p ≡ Some entries → AreEntries count bytes p entries
+unfolding entries_in_room
+entries_read count bytes p entries h =
+    let f = directory_entry_at count bytes p in
+    let found = cond_some (nat_le count 16 && (count == 0 || nat_le (p + 8 * count) (length bytes))) (map f (range_with_len 0 16)) entries h in
+    let tests = and_parts (nat_le count 16) (count == 0 || nat_le (p + 8 * count) (length bytes)) found.0 in
+    record {
+      few = leb-true count 16 tests.0;
+      room = λ some. elim (or_cases (count == 0) (nat_le (p + 8 * count) (length bytes)) tests.1) [
+        | inl none ↦ absurd (omega (arith, some, eqb-true count 0 none))
+        | inr le ↦ leb-true (p + 8 * count) (length bytes) le
+      ];
+      are = found.1;
+      sixteen = ap length (sym found.1) ∙ length-map-range_with_len f 0 16;
+      each = λ k lt. ap (λ (es : List (Option (ℕ × DataDirectory))). get_or es k None) (sym found.1) ∙ get_or-map-range_with_len f 0 16 k k None lt (omega arith);
+    }
+
 -- entries that were read are there
 entries-there : (i : ℕ) (bytes : List ℕ) (p : ℕ) (entries : List (Option (ℕ × DataDirectory))) → entries_in_room i bytes p ≡ Some entries → (k : ℕ) → k < i → slice_at bytes (p + 8 * k) 8 ≢ None
-unfolding entries_in_room
 entries-there i bytes p entries h k lt none =
-    let test = (cond_some (nat_le i 16 && (i == 0 || nat_le (p + 8 * i) (length bytes))) (map (directory_entry_at i bytes p) (range_with_len 0 16)) entries h).0 in
-    let room : p + 8 * i ≤ length bytes = elim (or_cases (i == 0) (nat_le (p + 8 * i) (length bytes)) (and_parts (nat_le i 16) (i == 0 || nat_le (p + 8 * i) (length bytes)) test).1) [
-      | inl nothing ↦ absurd (omega (arith, lt, eqb-true i 0 nothing))
-      | inr le ↦ leb-true _ _ le
-    ] in
+    let room = (entries_read i bytes p entries h).room (omega (arith, lt)) in
     let is = slice_at-inside bytes (p + 8 * k) 8 (omega (arith, room, lt)) (omega (arith, room, lt)) in
     absurd (cc (is, none))
 
 -- the first that is not there refuses them all
-pub one_missing : (count i : ℕ) (bytes : List ℕ) (p at : ℕ) (entries : List (Option (ℕ × DataDirectory))) (e : ErrorOf) → i < count → count ≤ 16 → at ≡ p + 8 * i
-    → entries_in_room i bytes p ≡ Some entries → IsSliceFault bytes at 8 e → (entries_in_room count bytes p ≡ None) × IsFirstMissing (λ i. slice_at bytes (p + 8 * i) 8) count (λ i. IsSliceFault bytes (p + 8 * i) 8) e
-one_missing count i bytes p at entries (Read BadOffset) lt most is so_far h =
+pub one_missing : (count i : ℕ) (bytes : List ℕ) (p : ℕ) (entries : List (Option (ℕ × DataDirectory))) (e : ErrorOf) → i < count → count ≤ 16
+    → entries_in_room i bytes p ≡ Some entries → IsSliceFault bytes (p + 8 * i) 8 e → (entries_in_room count bytes p ≡ None) × IsFirstMissing (λ i. slice_at bytes (p + 8 * i) 8) count (λ i. IsSliceFault bytes (p + 8 * i) 8) e
+one_missing count i bytes p entries (Read BadOffset) lt most so_far h =
     (past_end count bytes p (omega arith) (omega arith), (i, lt, entries-there i bytes p entries so_far, slice_at-past bytes (p + 8 * i) 8 (omega arith), omega arith))
-one_missing count i bytes p at entries (Read TooBig) lt most is so_far h =
+one_missing count i bytes p entries (Read TooBig) lt most so_far h =
     (past_end count bytes p (omega arith) (omega arith), (i, lt, entries-there i bytes p entries so_far, slice_at-past bytes (p + 8 * i) 8 (omega arith), omega arith))
-one_missing count i bytes p at entries e lt most is so_far h = absurd h
-
--- what entries that were read are
-record AreEntries (count : ℕ) (bytes : List ℕ) (p : ℕ) (entries : List (Option (ℕ × DataDirectory))) : Type 0 where
-  pub sixteen : length entries ≡ 16
-  pub each : (k : ℕ) → k < 16 → get_or entries k None ≡ directory_entry_at count bytes p k
-
-entries_read : (count : ℕ) (bytes : List ℕ) (p : ℕ) (entries : List (Option (ℕ × DataDirectory))) → entries_in_room count bytes p ≡ Some entries → AreEntries count bytes p entries
-unfolding entries_in_room
-entries_read count bytes p entries h =
-    let f = directory_entry_at count bytes p in
-    let is : map f (range_with_len 0 16) ≡ entries = (cond_some (nat_le count 16 && (count == 0 || nat_le (p + 8 * count) (length bytes))) (map f (range_with_len 0 16)) entries h).1 in
-    record {
-      sixteen = ap length (sym is) ∙ length-map-range_with_len f 0 16;
-      each = λ k lt. ap (λ (es : List (Option (ℕ × DataDirectory))). get_or es k None) (sym is) ∙ get_or-map-range_with_len f 0 16 k k None lt (omega arith);
-    }
+one_missing count i bytes p entries e lt most so_far h = absurd h
 
 pub directory_entry_at-below : (count : ℕ) (bytes : List ℕ) (p i : ℕ) → i < count → directory_entry_at count bytes p i ≡ entry_ending (p + 8 * i + 8) (directory_record Little (slice_range bytes (p + 8 * i) (p + 8 * i + 8)))
 directory_entry_at-below count bytes p i lt = rw (lt-ltb i count lt) refl
@@ -93,20 +108,13 @@ directory_entry_at-below count bytes p i lt = rw (lt-ltb i count lt) refl
 pub directory_entry_at-past : (count : ℕ) (bytes : List ℕ) (p i : ℕ) → count ≤ i → directory_entry_at count bytes p i ≡ None
 directory_entry_at-past count bytes p i le = rw (le-ltb i count le) refl
 
--- an entry that was not read is none
-pub entry_unread : (i : ℕ) (bytes : List ℕ) (p : ℕ) (entries : List (Option (ℕ × DataDirectory))) → i < 16 → entries_in_room i bytes p ≡ Some entries → get_or entries i None ≡ None
-entry_unread i bytes p entries lt so_far = (entries_read i bytes p entries so_far).each i lt ∙ directory_entry_at-past i bytes p i (omega arith)
-
 -- one more entry
 pub entries_more : (i : ℕ) (bytes : List ℕ) (p at end : ℕ) (entries : List (Option (ℕ × DataDirectory))) (d : DataDirectory) (x : Option (ℕ × DataDirectory)) → i < 16
     → at ≡ p + 8 * i → end ≡ at + 8 → entries_in_room i bytes p ≡ Some entries → record_at 8 (directory_record Little) bytes at ≡ Some d → x ≡ entry_ending end d
     → entries_in_room (i + 1) bytes p ≡ Some (set entries i x)
-unfolding entries_in_room
 entries_more i bytes p at end entries d x lt at_is end_is so_far next is =
     let are = entries_read i bytes p entries so_far in
     let here = record_at-some 8 (directory_record Little) bytes at d next in
-    let most : nat_le (i + 1) 16 ≡ true = le-leb _ _ (omega arith) in
-    let room : nat_le (p + 8 * (i + 1)) (length bytes) ≡ true = le-leb _ _ (omega (arith, here.end)) in
     let e1 : end ≡ p + 8 * i + 8 = omega arith in
     let new : x ≡ directory_entry_at (i + 1) bytes p i =
     is ∙ ap (entry_ending end) here.is ∙ rw (at_is) (rw e1 (sym (directory_entry_at-below (i + 1) bytes p i (omega arith)))) in
@@ -124,7 +132,7 @@ entries_more i bytes p at end entries d x lt at_is end_is so_far next is =
     ] in
     let len : length (set entries i x) ≡ 16 = length-set entries i x ∙ are.sixteen in
     let all : set entries i x ≡ map (directory_entry_at (i + 1) bytes p) (range_with_len 0 16) = fill_by_all (directory_entry_at (i + 1) bytes p) (set entries i x) 16 None len each in
-    rw (most, room, or-true, all) refl
+    entries_there (i + 1) bytes p (omega (arith, lt)) (λ _. omega (arith, here.end)) ∙ ap Some (sym all)
 
 -- what is left to write, once an entry is written
 pub entries-going : (endian : Endian) (entries : List (Option (ℕ × DataDirectory))) (i : ℕ) (d : DataDirectory) (bytes new final : List ℕ)

@@ -9,8 +9,8 @@ use Rattle.goblin_base.proofs.Fronts.{HaveFront, slice-front}
 use Rattle.goblin_pe_sect.specs.declared.data_directories.DataDirectory.{DataDirectory}
 use Rattle.goblin_pe_sect.specs.DataDirectories.{directory_record, entry_ending}
 use Rattle.goblin_pe_sect.specs.DirectoryReadings.{directories_at}
-use Rattle.goblin_pe_sect.proofs.DirectoryReadings.{value-directories_at}
-use Rattle.goblin_pe_sect.proofs.Entries.{directory_entry_at, directory_entry_at-below, directory_entry_at-past, entries_in_room}
+use Rattle.goblin_pe_sect.proofs.DirectoryReadings.{directories_read, value-directories_at}
+use Rattle.goblin_pe_sect.proofs.Entries.{directory_entry_at, directory_entry_at-below, directory_entry_at-past, entries_there}
 use Rattle.goblin_base.proofs.Footprints.{same_map}
 
 entry-front : (n count p : ℕ) (a b : List ℕ) → HaveFront n a b → p + 8 * count ≤ n → (i : ℕ) → directory_entry_at count a p i ≡ directory_entry_at count b p i
@@ -25,11 +25,7 @@ entry-front n count p a b h le i =
 
 pub directories-front : (n count p : ℕ) (entries : List (Option (ℕ × DataDirectory))) (a b : List ℕ) → HaveFront n a b → p + 8 * count ≤ n
     → (directories_at count p).value a ≡ Some entries → (directories_at count p).value b ≡ Some entries
-unfolding entries_in_room
 directories-front n count p entries a b h le read =
-    let e = sym (value-directories_at count a p) ∙ read in
-    let found = cond_some (nat_le count 16 && (count == 0 || nat_le (p + 8 * count) (length a))) (map (directory_entry_at count a p) (range_with_len 0 16)) entries e in
-    let tests = and_parts (nat_le count 16) (count == 0 || nat_le (p + 8 * count) (length a)) found.0 in
-    let room : nat_le (p + 8 * count) (length b) ≡ true = le-leb _ _ (omega (arith, h.in_b, le)) in
+    let are = directories_read count a p entries read in
     let same = same_map (directory_entry_at count a p) (directory_entry_at count b p) 16 0 (λ i low high. entry-front n count p a b h le i) in
-    value-directories_at count b p ∙ rw (tests.0, room, or-true (count == 0)) (ap (λ (es : List (Option (ℕ × DataDirectory))). Some es) (sym same ∙ found.1))
+    value-directories_at count b p ∙ entries_there count b p are.few (λ _. omega (arith, h.in_b, le)) ∙ ap (λ (es : List (Option (ℕ × DataDirectory))). Some es) (sym same ∙ are.are)

@@ -1,5 +1,5 @@
 -- A search by halving among numbers that rise.
-use Rattle.std.proofs.Common.{◌≡◌, ℕ, zero, suc, ◌+◌, ◌-◌, ◌*◌, ◌/◌, ◌^◌, ◌<◌, ◌≤◌, true, false, List, length, slice_index, get_or, nat_le, nat_lt, ◌==◌, ap, sym, refl, inl, inr, arith, tests, rules, pow-add, pow_pos}
+use Rattle.std.proofs.Common.{◌≡◌, ℕ, zero, suc, ◌+◌, ◌-◌, ◌*◌, ◌/◌, ◌^◌, ◌<◌, ◌≤◌, true, false, List, length, slice_index, get_or, nat_le, nat_lt, ◌==◌, ap, sym, ◌∙◌, refl, inl, inr, arith, tests, rules, pow-add, pow_pos}
 use Rattle.std.specs.List.{prefix_len}
 use Rattle.std.specs.List.Sorted.{IsStrictlyIncreasing}
 use Rattle.std.proofs.lemmas.List.Kept.{AllPairs-from_increasing}
@@ -96,32 +96,27 @@ reached-below begins rva half passes =
       | inr ge ↦ ge
     ]
 
--- half of a number has a digit less
-pub half_below : (e s : ℕ) → 0 < s → s < 2 ^ e → (1 ≤ e) × (s / 2 < 2 ^ (e - 1))
-half_below zero s positive below = absurd (omega arith)
-half_below (suc e) s positive below =
-    let power : 2 ^ (e + 1) ≡ 2 ^ e * 2 = pow-add 2 e 1 in
-    let same : 2 ^ (suc e) ≡ 2 ^ (e + 1) = ap (λ (k : ℕ). 2 ^ k) (omega arith) in
-    let less : s / 2 < 2 ^ e = omega (arith, power, same, below) in
-    let exponent : 2 ^ (suc e - 1) ≡ 2 ^ e = ap (λ (k : ℕ). 2 ^ k) (omega arith) in
-    (omega arith, omega (arith, less, exponent))
+-- one digit less is half of a power
+half_power : (d probes : ℕ) → probes < d → 2 ^ (d - probes) ≡ 2 ^ (d - (probes + 1)) * 2
+half_power d probes less =
+    let step : d - probes ≡ d - (probes + 1) + 1 = omega (arith, less) in
+    ap (λ (k : ℕ). 2 ^ k) step ∙ pow-add 2 (d - (probes + 1)) 1
 
 -- a part of at most half the size costs one probe
 fewer : (d probes s t : ℕ) → 0 < s → t ≤ s / 2 → (probes ≤ d) × (s < 2 ^ (d - probes)) → (probes + 1 ≤ d) × (t < 2 ^ (d - (probes + 1)))
 fewer d probes s t positive half h =
-    let halved = half_below (d - probes) s positive h.1 in
-    let exponent : 2 ^ (d - (probes + 1)) ≡ 2 ^ (d - probes - 1) = ap (λ (k : ℕ). 2 ^ k) (omega arith) in
-    (omega (arith, halved.0, h.0), omega (arith, halved.1, exponent))
+    elim (cases_lt probes d) [
+      | inl less ↦ (omega (arith, less), omega (arith, half_power d probes less, half, h.1))
+      | inr done ↦
+          let none : d - probes ≡ 0 = omega (arith, done) in
+          absurd (omega (arith, ap (λ (k : ℕ). 2 ^ k) none, h.1, positive))
+    ]
 
 -- a part of at least half the size, without the number in the middle, costs at most one probe of those that are needed
 no_fewer : (d probes s t : ℕ) → 0 < s → s ≤ 2 * t + 2 → 2 ^ (d - probes) ≤ s + 1 → 2 ^ (d - (probes + 1)) ≤ t + 1
 no_fewer d probes s t positive half h =
     elim (cases_lt probes d) [
-      | inl less ↦
-          let e : ℕ = d - (probes + 1) in
-          let power : 2 ^ (e + 1) ≡ 2 ^ e * 2 = pow-add 2 e 1 in
-          let exponent : 2 ^ (d - probes) ≡ 2 ^ (e + 1) = ap (λ (k : ℕ). 2 ^ k) (omega arith) in
-          omega (arith, power, exponent, h, half)
+      | inl less ↦ omega (arith, half_power d probes less, h, half)
       | inr done ↦
           let none : d - (probes + 1) ≡ 0 = omega arith in
           omega (arith, ap (λ (k : ℕ). 2 ^ k) none)
@@ -131,11 +126,7 @@ no_fewer d probes s t positive half h =
 pub no_power : (d probes : ℕ) → 2 ^ (d - probes) ≤ 1 → d ≤ probes
 no_power d probes h =
     elim (cases_lt probes d) [
-      | inl less ↦
-          let e : ℕ = d - probes - 1 in
-          let power : 2 ^ (e + 1) ≡ 2 ^ e * 2 = pow-add 2 e 1 in
-          let exponent : 2 ^ (d - probes) ≡ 2 ^ (e + 1) = ap (λ (k : ℕ). 2 ^ k) (omega arith) in
-          absurd (omega (arith, power, exponent, h, pow_pos e))
+      | inl less ↦ absurd (omega (arith, half_power d probes less, h, pow_pos (d - (probes + 1))))
       | inr done ↦ done
     ]
 

@@ -9,7 +9,6 @@ pub mod DirectoryReadings
 pub mod Entries
 pub mod EntriesFront
 pub mod EntriesWithin
-pub mod First
 pub mod Halving
 pub mod InOrder
 pub mod Mapped

@@ -10,7 +10,7 @@ use Rattle.goblin_pe_sect.specs.SectionTable.{Section}
 use Rattle.goblin_pe_sect.specs.Mapping.{read_size, is_in_window, offset_in, file_offset, InWindow, IsFirstWindow, MapsTo, MapsNowhere, raw_begin, window_end}
 use Rattle.goblin_pe_sect.specs.Multiples.{least_multiple}
 use Rattle.goblin_pe_sect.proofs.Multiples.{up_near}
-use Rattle.goblin_pe_sect.proofs.First.{found_at_first, found_passes, fails_before, none_passes, first_is_found}
+use Rattle.goblin_base.proofs.First.{found_at_first, found_passes, fails_before, none_passes, first_is_found}
 
 -- zero is no power of two
 pub power_positive : (a : ℕ) → IsTrue (is_power_of_two a) → 0 < a
@@ -59,23 +59,18 @@ first_by mapping sections alignment rva (Some s) e =
     } in
     (position_or_len (is_in_window mapping alignment rva) sections, first, refl)
 
--- both tests are passed
-chosen : (b c : Bool) (x : Option ℕ) (rva : ℕ) → b ≡ true → c ≡ true → cond b (cond c x None) (Some rva) ≡ x
-chosen true true x rva on even = refl
-chosen true false x rva on even = absurd (cc)
-chosen false c x rva on even = absurd (cc)
-
-pub file_offset-mapped : (mapping : Mapping) (sections : List Section) (alignment rva : ℕ) → mapping.resolve_rva ≡ true → is_power_of_two alignment ≡ true → file_offset mapping sections alignment rva ≡ option_map (λ s. offset_in mapping s rva) (find (is_in_window mapping alignment rva) sections)
+pub file_offset-mapped : (mapping : Mapping) (sections : List Section) (alignment rva : ℕ) → IsTrue mapping.resolve_rva → IsTrue (is_power_of_two alignment) → file_offset mapping sections alignment rva ≡ option_map (λ s. offset_in mapping s rva) (find (is_in_window mapping alignment rva) sections)
 unfolding file_offset
-file_offset-mapped mapping sections alignment rva on even = chosen mapping.resolve_rva (is_power_of_two alignment) _ rva on even
+file_offset-mapped mapping sections alignment rva on even =
+    let on' : mapping.resolve_rva ≡ true = search (rules, tests) in
+    let even' : is_power_of_two alignment ≡ true = search (rules, tests) in
+    rw (on', even') refl
 
 -- the file offset of an address is that of the section with the least index among those whose windows hold it
 pub file_offset_first : (mapping : Mapping) (sections : List Section) (alignment rva : ℕ) → IsTrue mapping.resolve_rva → IsTrue (is_power_of_two alignment) → MatchOption (file_offset mapping sections alignment rva) (MapsNowhere mapping sections alignment rva) (MapsTo mapping sections alignment rva)
 file_offset_first mapping sections alignment rva on even =
-    let on' : mapping.resolve_rva ≡ true = search (rules, tests) in
-    let even' : is_power_of_two alignment ≡ true = search (rules, tests) in
     let Says : Option ℕ → Type 0 = λ o. MatchOption o (MapsNowhere mapping sections alignment rva) (MapsTo mapping sections alignment rva) in
-    subst Says (sym (file_offset-mapped mapping sections alignment rva on' even')) (first_by mapping sections alignment rva (find (is_in_window mapping alignment rva) sections) refl)
+    subst Says (sym (file_offset-mapped mapping sections alignment rva on even)) (first_by mapping sections alignment rva (find (is_in_window mapping alignment rva) sections) refl)
 
 -- an address that is in a window by its words passes the test
 pub window_test : (mapping : Mapping) (alignment rva : ℕ) (s : Section) → InWindow mapping alignment rva s → is_in_window mapping alignment rva s ≡ true

@@ -9,7 +9,8 @@ use Rattle.goblin_pe_sect.specs.declared.options.Mapping.{Mapping}
 use Rattle.goblin_pe_sect.specs.SectionTable.{Section}
 use Rattle.goblin_pe_sect.specs.Mapping.{file_offset, is_in_window, offset_in}
 use Rattle.goblin_pe_sect.specs.WindowOrder.{HaveDisjointWindows, IsReordering}
-use Rattle.goblin_pe_sect.proofs.First.{first_is_found, found_at_first, found_passes, none_passes}
+use Rattle.goblin_base.proofs.Footprints.{same_if}
+use Rattle.goblin_base.proofs.First.{first_is_found, found_at_first, found_passes, none_passes}
 use Rattle.goblin_pe_sect.proofs.Mapped.{in_window}
 
 -- where an element of one list is in the other
@@ -31,6 +32,7 @@ none_found p (x ∷ xs) fails = rw (fails 0 x refl) (none_found p xs (λ k y at.
 abbrev AreAlone : {X : Type 0} → (X → Bool) → List X → Type 0
 AreAlone {X} p xs = (i j : ℕ) (x y : X) → i < j → slice_get xs i ≡ Some x → slice_get xs j ≡ Some y → p x ≡ true → p y ≡ true → ⊥
 
+-- where at most one element passes, the same is found in any order
 found_by : {X : Type 0} (p : X → Bool) (xs ys : List X) → IsPermutation xs ys → AreAlone p xs → (found : Option X) → find p ys ≡ found → find p xs ≡ found
 found_by p xs ys moved alone None e =
     none_found p xs (λ k x at. let there = moved_to xs ys moved k x at in none_passes p ys e there.place x there.is)
@@ -43,10 +45,6 @@ found_by {X} p xs ys moved alone (Some y) e =
       | inr fails ↦ fails
     ])
 
--- where at most one element passes, the same is found in any order
-find_reordered : {X : Type 0} (p : X → Bool) (xs ys : List X) → IsPermutation xs ys → AreAlone p xs → find p xs ≡ find p ys
-find_reordered p xs ys moved alone = found_by p xs ys moved alone (find p ys) refl
-
 -- windows that do not meet hold an address at most once
 alone_in_windows : (mapping : Mapping) (alignment rva : ℕ) (sections : List Section) → AllPairs (HaveDisjointWindows mapping alignment) sections → AreAlone (is_in_window mapping alignment rva) sections
 alone_in_windows mapping alignment rva sections apart i j s t lt at_i at_j holds_s holds_t =
@@ -54,18 +52,13 @@ alone_in_windows mapping alignment rva sections apart i j s t lt at_i at_j holds
     let one : HaveDisjointWindows mapping alignment s t = rw (get_or_from_slice_get sections i s s at_i, get_or_from_slice_get sections j t s at_j) at pair in
     one rva (in_window mapping alignment rva s holds_s) (in_window mapping alignment rva t holds_t)
 
-same_choice : (on even : Bool) (x y : Option ℕ) (own : Option ℕ) → (even ≡ true → x ≡ y) → cond on (cond even x None) own ≡ cond on (cond even y None) own
-same_choice true true x y own same = same refl
-same_choice true false x y own same = refl
-same_choice false even x y own same = refl
-
 -- a table in another order maps each address alike
 pub file_offset-reordered : (mapping : Mapping) (xs ys : List Section) (alignment : ℕ) → IsReordering mapping alignment xs ys → (rva : ℕ) → file_offset mapping xs alignment rva ≡ file_offset mapping ys alignment rva
 unfolding file_offset
 file_offset-reordered mapping xs ys alignment is rva =
-    same_choice mapping.resolve_rva (is_power_of_two alignment) _ _ (Some rva) (λ even.
+    ap (λ (o : Option ℕ). cond mapping.resolve_rva o (Some rva)) (same_if (is_power_of_two alignment) (is_power_of_two alignment) _ _ None refl (λ even.
     let there : IsTrue (is_power_of_two alignment) = search (rules, tests) in
-    ap (option_map (λ s. offset_in mapping s rva)) (find_reordered (is_in_window mapping alignment rva) xs ys is.moved (alone_in_windows mapping alignment rva xs (is.apart there))))
+    ap (option_map (λ s. offset_in mapping s rva)) (found_by (is_in_window mapping alignment rva) xs ys is.moved (alone_in_windows mapping alignment rva xs (is.apart there)) _ refl)))
 
 -- the two maps are the same
 pub map-reordered : (mapping : Mapping) (xs ys : List Section) (alignment : ℕ) → IsReordering mapping alignment xs ys → file_offset mapping xs alignment ≡ file_offset mapping ys alignment

@@ -1,14 +1,14 @@
 -- A name that was written says what it was written for.
-use Rattle.std.proofs.Common.{◌≡◌, ℕ, zero, suc, ◌+◌, ◌==◌, ◌&&◌, Bool, true, false, nat_lt, nat_eq, List, [], ◌∷◌, ◌++◌, take, length, refl, ap, sym, ◌∙◌, arith, take_all, nat_le, ◌-◌, if◌then◌else◌, ◌<◌, ◌≤◌, ◌/◌, ◌%◌, ◌^◌, not, map, Some, replicate, Option, None, option_map}
-use Rattle.std.specs.List.{list_all, position_or_len}
-use Rattle.std.specs.Str.{is_utf8, IsAscii}
-use Rattle.std.proofs.lemmas.Str.{is_utf8-from_IsUtf8, IsUtf8-from_ascii}
-use Rattle.std.proofs.lemmas.Str.Ascii.{IsAscii-cons, IsAscii-nil}
-use Rattle.std.proofs.lemmas.Bool.{and_parts, ltb-true, eqb-true, leb-true, false_from_ne_true, not-true}
-use Rattle.std.proofs.lemmas.List.{length-append, length-replicate, append-nil, length-map}
-use Rattle.std.proofs.Math.Seq.{take-append_seam}
+use Rattle.std.proofs.Common.{◌≡◌, ℕ, zero, suc, ◌+◌, ◌==◌, ◌&&◌, Bool, true, false, nat_lt, nat_eq, List, [], ◌∷◌, ◌++◌, take, length, refl, ap, sym, ◌∙◌, arith, take_all, nat_le, ◌-◌, if◌then◌else◌, ◌<◌, ◌≤◌, ◌/◌, ◌%◌, ◌^◌, not, map, Some, replicate, Option, None, option_map, inl, inr, slice_index}
+use Rattle.std.specs.List.{list_all}
+use Rattle.std.proofs.lemmas.Bool.Decides.{nat_tests}
+use Rattle.std.proofs.lemmas.List.Folds.{list_all_at}
+use Rattle.std.proofs.lemmas.Bool.{and_parts, cases_Bool, ltb-true, eqb-true, leb-true, false_from_ne_true, not-true, true≢false}
+use Rattle.std.proofs.lemmas.List.{length-append, length-replicate, append-nil, length-map, get_or_append_left}
+use Rattle.std.proofs.Math.Seq.{get_or-append_seam, take-append_seam}
 use Rattle.std.proofs.lemmas.Option.{cond_some}
-use Rattle.goblin_base.specs.Bytes.{before_nul, bounded_text_at}
+use Rattle.goblin_base.specs.Bytes.{before_nul, bounded_text_at, text_of}
+use Rattle.goblin_base.proofs.AsciiText.{ascii_text}
 use Rattle.goblin_pe_sect.specs.declared.digits.Digits.{Digits}
 use Rattle.goblin_pe_sect.specs.declared.digits.Digits.TheVariants.{Decimal, Base64}
 use Rattle.goblin_pe_sect.specs.Digits.{alphabet, last_digits, digit_byte, radix, numeral}
@@ -19,40 +19,32 @@ use Rattle.goblin_pe_sect.proofs.DigitsRoundTrip.{all_below, all_below-at, last_
 abbrev pub is_nonzero_ascii : ℕ → Bool
 is_nonzero_ascii b = nat_lt 0 b && nat_lt b 128
 
-ascii : (text : List ℕ) → list_all is_nonzero_ascii text ≡ true → IsAscii text
-ascii [] h = IsAscii-nil
-ascii (b ∷ bs) h =
-    let parts = and_parts (is_nonzero_ascii b) (list_all is_nonzero_ascii bs) h in
-    IsAscii-cons b bs (ltb-true b 128 (and_parts (nat_lt 0 b) (nat_lt b 128) parts.0).1) (ascii bs parts.1)
-
-pub utf8 : (text : List ℕ) → list_all is_nonzero_ascii text ≡ true → is_utf8 text ≡ true
-utf8 text h = is_utf8-from_IsUtf8 text (IsUtf8-from_ascii text (ascii text h))
-
-nonzero : (b : ℕ) → nat_lt 0 b ≡ true → nat_eq b 0 ≡ false
-nonzero b h = false_from_ne_true (nat_eq b 0) (λ e. omega (arith, eqb-true b 0 e, ltb-true 0 b h))
-
-first_nul : (text : List ℕ) (k : ℕ) → list_all is_nonzero_ascii text ≡ true → position_or_len (λ b. b == 0) (text ++ replicate k 0) ≡ length text
-first_nul [] zero h = refl
-first_nul [] (suc k) h = refl
-first_nul (b ∷ bs) k h =
-    let parts = and_parts (is_nonzero_ascii b) (list_all is_nonzero_ascii bs) h in
-    let other = nonzero b (and_parts (nat_lt 0 b) (nat_lt b 128) parts.0).0 in
-    let rest = first_nul bs k parts.1 in
-    let next : 1 + length bs ≡ suc (length bs) = omega arith in
-    rw (other, rest) next
+nonzero_ascii : (text : List ℕ) → list_all is_nonzero_ascii text ≡ true → (k : ℕ) → k < length text → (0 < slice_index text k) × (slice_index text k < 128)
+nonzero_ascii text h k lt = elim (cases_Bool (is_nonzero_ascii (slice_index text k))) [
+  | inl is ↦ grind (arith, nat_tests)
+  | inr other ↦ absurd (true≢false (sym h ∙ list_all_at is_nonzero_ascii text k 0 lt other))
+]
 
 -- a text without NULs, with NULs after it
-pub before_nul-padded : (text : List ℕ) (k : ℕ) → list_all is_nonzero_ascii text ≡ true → before_nul (text ++ replicate k 0) ≡ text
-before_nul-padded text k h = ap (λ (n : ℕ). take n (text ++ replicate k 0)) (first_nul text k h) ∙ take-append_seam text (replicate k 0)
+text-padded : (text : List ℕ) (k : ℕ) → list_all is_nonzero_ascii text ≡ true → text_of (before_nul (text ++ replicate k 0)) ≡ Some text
+text-padded text k h =
+    let all = text ++ replicate k 0 in
+    let long : length all ≡ length text + k = length-append text (replicate k 0) ∙ ap (λ (n : ℕ). length text + n) (length-replicate k 0) in
+    ascii_text all (length text) (omega (arith, long))
+    (λ i lt. rw (get_or_append_left text (replicate k 0) 0 i lt) (nonzero_ascii text h i lt)) (nul_after k)
+    ∙ ap (λ (xs : List ℕ). Some xs) (take-append_seam text (replicate k 0))
+  where
+    nul_after : (k : ℕ) → length text < length (text ++ replicate k 0) → slice_index (text ++ replicate k 0) (length text) ≡ 0
+    nul_after zero lt = absurd (omega (arith, lt, ap length (append-nil text)))
+    nul_after (suc k) lt = get_or-append_seam text 0 (replicate k 0) 0
 
 -- the text after two slashes
 pub after_two : (text : List ℕ) → list_all is_nonzero_ascii text ≡ true → length text ≡ 6 → bounded_text_at (47 ∷ 47 ∷ text) 2 6 ≡ Some text
 after_two text h len =
     let all : length (47 ∷ 47 ∷ text) ≡ 8 = omega (arith, len) in
     let whole : take 6 text ≡ text = take_all 6 text (omega (arith, len)) in
-    let nul : before_nul text ≡ text = ap before_nul (sym (append-nil text)) ∙ before_nul-padded text 0 h in
-    let good = utf8 text h in
-    rw (all, whole, nul, good) refl
+    let good : text_of (before_nul text) ≡ Some text = ap (λ (xs : List ℕ). text_of (before_nul xs)) (sym (append-nil text)) ∙ text-padded text 0 h in
+    rw (all, whole) good
 
 -- the text after one slash, with NULs after it
 pub after_one : (text : List ℕ) (k : ℕ) → list_all is_nonzero_ascii text ≡ true → length text + k ≡ 7 → bounded_text_at (47 ∷ (text ++ replicate k 0)) 1 7 ≡ Some text
@@ -60,9 +52,7 @@ after_one text k h len =
     let padded : length (text ++ replicate k 0) ≡ 7 = length-append text (replicate k 0) ∙ ap (λ (n : ℕ). length text + n) (length-replicate k 0) ∙ len in
     let all : length (47 ∷ (text ++ replicate k 0)) ≡ 8 = omega (arith, padded) in
     let whole : take 7 (text ++ replicate k 0) ≡ text ++ replicate k 0 = take_all 7 (text ++ replicate k 0) (omega (arith, padded)) in
-    let nul = before_nul-padded text k h in
-    let good = utf8 text h in
-    rw (all, whole, nul, good) refl
+    rw (all, whole) (text-padded text k h)
 
 -- ---- what `name_offset` says after `set_name_offset`
 

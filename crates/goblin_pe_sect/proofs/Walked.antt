@@ -14,10 +14,7 @@ pub record IsLeft (mapping : Mapping) (alignment : ℕ) (sections left : List Se
 
 module _ (mapping : Mapping) (alignment : ℕ) (on : IsTrue mapping.resolve_rva) (even : IsTrue (is_power_of_two alignment)) where
   by_windows : (sections : List Section) (rva : ℕ) → file_offset mapping sections alignment rva ≡ option_map (λ s. offset_in mapping s rva) (find (is_in_window mapping alignment rva) sections)
-  by_windows sections rva =
-      let on' : mapping.resolve_rva ≡ true = search (rules, tests) in
-      let even' : is_power_of_two alignment ≡ true = search (rules, tests) in
-      file_offset-mapped mapping sections alignment rva on' even'
+  by_windows sections rva = file_offset-mapped mapping sections alignment rva on even
 
   -- a section whose window does not hold an address has no part in its offset
   not_first : (s : Section) (later : List Section) (rva : ℕ) → ¬ InWindow mapping alignment rva s → file_offset mapping (s ∷ later) alignment rva ≡ file_offset mapping later alignment rva

@@ -17,7 +17,7 @@ use Rattle.goblin_pe_sect.specs.declared.options.Mapping.{Mapping}
 use Rattle.goblin_pe_sect.specs.SectionTable.{Section}
 use Rattle.goblin_pe_sect.specs.declared.windows.bounds.Piece.{Piece}
 use Rattle.goblin_pe_sect.specs.declared.windows.owners.Owner.{Owner}
-use Rattle.goblin_pe_sect.proofs.First.{find_same}
+use Rattle.goblin_base.proofs.First.{find_same}
 use Rattle.goblin_pe_sect.proofs.Halving.{rising_at, rising_to}
 use Rattle.goblin_pe_sect.proofs.Mapped.{in_window}
 
@@ -202,12 +202,6 @@ held resolves begins owners h rva n o is some owned =
     let same : get_or begins (reached begins rva) 0 ≡ get_or begins (k + 1) 0 = ap (λ (j : ℕ). get_or begins j 0) (omega (arith, is)) in
     (omega (arith, h.low k o owned, before), omega (arith, high.1, after, same))
 
-last_owner_is : (owners : List (Option Owner)) (n : ℕ) (o : Owner) → 0 < n → slice_index_or owners (n - 1) None ≡ Some o → last_owner owners n ≡ Some o
-last_owner_is owners zero o some owned = absurd (omega arith)
-last_owner_is owners (suc k) o some owned =
-    let same : k ≡ suc k - 1 = omega arith in
-    ap (λ (j : ℕ). slice_index_or owners j None) same ∙ owned
-
 -- the last piece that begins at or before an address has its place among the owners
 pub piece_within : (resolves : Bool) (begins : List ℕ) (owners : List (Option Owner)) (w : Pieces) → record { resolves = resolves; begins = begins; owners = owners } ≡ w → IsIndex resolves begins owners → (rva n : ℕ) → n ≡ reached w.begins rva → 0 < n → n - 1 < length owners
 piece_within resolves begins owners w seen h rva n is some =
@@ -233,7 +227,7 @@ piece_answers resolves begins owners w seen h rva n is some o owned =
     let at : n ≡ reached begins rva = is ∙ ap (λ (v : Pieces). reached v.begins rva) (sym seen) in
     let here = owned (piece_within resolves begins owners w seen h rva n is some) in
     let near = held resolves begins owners h rva n o at some here in
-    let answer : Some (owner_offset rva o) ≡ option_map (owner_offset rva) (last_owner owners n) = sym (ap (option_map (owner_offset rva)) (last_owner_is owners n o some here)) in
+    let answer : Some (owner_offset rva o) ≡ option_map (owner_offset rva) (last_owner owners n) = sym (ap (option_map (owner_offset rva)) (last_owner_some owners n some ∙ here)) in
     (near.0, near.1, answer ∙ ap (λ (v : Pieces). option_map (owner_offset rva) (last_owner v.owners n)) seen)
 
 -- ---- what is found

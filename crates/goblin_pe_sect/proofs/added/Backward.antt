@@ -6,7 +6,7 @@ use Rattle.goblin_pe_sect.specs.declared.options.Mapping.{Mapping}
 use Rattle.goblin_pe_sect.specs.added.Backward.{IsMappedFromNowhere, file_address, is_at, maps_to, rva_in}
 use Rattle.goblin_pe_sect.specs.Mapping.{MapsTo, MapsNowhere, file_offset, offset_in, InWindow}
 use Rattle.goblin_pe_sect.specs.SectionTable.{Section}
-use Rattle.goblin_pe_sect.proofs.First.{found_passes, none_passes}
+use Rattle.goblin_base.proofs.First.{found_passes, none_passes}
 use Rattle.goblin_pe_sect.proofs.Mapped.{file_offset_first}
 
 module _ (mapping : Mapping) (sections : List Section) (alignment p : ℕ) where

@@ -2,7 +2,7 @@ use Rattle.std.proofs.Common.{true, false, refl, sym, ◌∙◌}
 use Rattle.std.proofs.lemmas.Fn.{says_at}
 use Rattle.goblin_pe_export.specs.added.ExportWalks.{exports_left, walked_export}
 use Rattle.goblin_pe_export.proofs.added.exports.Exports.find_export.Goals as goal
-use Rattle.goblin_pe_sect.proofs.First.{found-first}
+use Rattle.goblin_base.proofs.First.{found-first}
 
 pub exports-preserved : goal.exports-preserved
 exports-preserved g c = λ p is.

@@ -4,7 +4,7 @@ use Rattle.std.proofs.lemmas.Bool.Decides.{nat_tests}
 use Rattle.std.proofs.lemmas.Fn.{says_at}
 use Rattle.goblin_pe_sect.specs.SectionTable.{Section}
 use Rattle.goblin_pe_sect.proofs.address_map.records.MappedRecords.find.Goals as goal
-use Rattle.goblin_pe_sect.proofs.First.{found-first}
+use Rattle.goblin_base.proofs.First.{found-first}
 
 -- by what the test says of the first section
 place-first : (p : Section → Bool) (x : Section) (all rest : List Section) (b : Bool) → b ≡ p x → all ≡ x ∷ rest
