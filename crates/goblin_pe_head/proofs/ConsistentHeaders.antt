@@ -1,9 +1,8 @@
 -- A header whose parts agree is read again from what is written of it, and a header that was read has such parts.
-use Rattle.std.proofs.Common.{◌≡◌, ℕ, zero, suc, ◌+◌, ◌-◌, ◌*◌, ◌^◌, ◌<◌, ◌≤◌, ◌&&◌, ◌||◌, Bool, true, false, cond, nat_le, nat_lt, nat_eq, List, [], ◌∷◌, ◌++◌, take, drop, length, map, get_or, Option, Some, None, Result, Ok, Err, refl, sym, ap, ◌∙◌, subst, append_assoc, inl, inr, arith, ◌==◌, IfOk, IfSome, option_map, slice_range, append-nil, drop_at, drop-drop, length-append, length-drop, length-take-le, take_at, mod-eq_of_lt}
+use Rattle.std.proofs.Common.{◌≡◌, ℕ, zero, suc, ◌+◌, ◌-◌, ◌*◌, ◌^◌, ◌<◌, ◌≤◌, ◌&&◌, ◌||◌, Bool, true, false, cond, nat_le, nat_lt, nat_eq, List, [], ◌∷◌, ◌++◌, take, drop, length, map, get_or, Option, Some, None, Result, Ok, Err, refl, sym, ap, ◌∙◌, subst, append_assoc, inl, inr, arith, ◌==◌, IfOk, IfSome, option_map, slice_range, append-nil, drop_at, drop-drop, length-append, length-drop, length-take-le, take_all, take_at, mod-eq_of_lt}
 use Rattle.std.specs.List.{range_with_len}
-use Rattle.std.proofs.Math.Bool.{or-true}
 use Rattle.std.proofs.lemmas.Bool.{and_parts, cases_lt, eqb-true, le-leb, leb-true, lt-ltb, le-ltb}
-use Rattle.std.proofs.lemmas.List.FromFn.{get_or-map-range_with_len, length-map-range_with_len}
+use Rattle.std.proofs.lemmas.List.FromFn.{fill_by_all}
 use Rattle.std.proofs.lemmas.Option.{cond_some}
 use Rattle.goblin_base.specs.declared.endian.Endian.{Endian}
 use Rattle.goblin_base.specs.declared.endian.Endian.TheVariants.{Little}
@@ -13,15 +12,15 @@ use Rattle.goblin_base.specs.Reading.{Reads}
 use Rattle.goblin_base.specs.Record.{FieldValue, FieldsFit, ReadsBack, encoding, record_at, uint}
 use Rattle.goblin_base.proofs.Numbers.{number-of_slice, number-slice, read_number}
 use Rattle.goblin_base.proofs.Records.{record_at-some}
-use Rattle.goblin_base.proofs.RecordRoundTrip.{IsBytes-slice, number-lt, slice-is}
+use Rattle.goblin_base.proofs.RecordRoundTrip.{bytes_after, IsBytes-slice, number-lt, slice-is}
 use Rattle.goblin_base.proofs.Steps.{mapped, same_value, step}
 use Rattle.goblin_base.proofs.Writing.{encoding_append, length_encoding}
 use Rattle.goblin_pe_sect.specs.declared.data_directories.DataDirectory.{DataDirectory}
 use Rattle.goblin_pe_sect.specs.DataDirectories.{directory_fields, directory_or_zeros, directory_record, entries_fields, entry_ending}
 use Rattle.goblin_pe_sect.specs.DirectoryReadings.{directories_at}
 use Rattle.goblin_pe_sect.proofs.DataDirectoriesRoundTrip.{directory_again}
-use Rattle.goblin_pe_sect.proofs.DirectoryReadings.{value-directories_at}
-use Rattle.goblin_pe_sect.proofs.Entries.{directory_entry_at, directory_entry_at-below, directory_entry_at-past, entries_in_room, width-entries}
+use Rattle.goblin_pe_sect.proofs.DirectoryReadings.{directories_read, value-directories_at}
+use Rattle.goblin_pe_sect.proofs.Entries.{directory_entry_at, directory_entry_at-below, directory_entry_at-past, entries_there, width-entries}
 use Rattle.goblin_pe_head.specs.declared.header.dos.DosHeader.{DosHeader}
 use Rattle.goblin_pe_head.specs.declared.header.pe_header.Header.{Header}
 use Rattle.goblin_pe_head.specs.declared.optional_header.OptionalHeader.{OptionalHeader}
@@ -37,7 +36,7 @@ use Rattle.goblin_pe_head.specs.HeaderReadings.{optional_at, optional_header, pe
 use Rattle.goblin_pe_head.specs.OptionalHeader.{bytes_32, bytes_64, fields_size, narrowed, optional_bytes, standard_32_fields, standard_32_record, standard_64_fields, standard_64_record, standard_from_32, standard_from_64, standard_to_32, standard_to_64, windows_32_fields, windows_32_record, windows_64_fields, windows_64_record, windows_from_32, windows_to_32}
 use Rattle.goblin_pe_head.specs.PeHeader.{PeHeader, header_parts, header_value, written_part}
 use Rattle.goblin_pe_head.specs.RichReadings.{rich_at, rich_in}
-use Rattle.goblin_pe_head.proofs.OptionalHeaderRoundTrip.{bytes_after, four-bytes}
+use Rattle.goblin_pe_head.proofs.OptionalHeaderRoundTrip.{four-bytes}
 use Rattle.goblin_pe_head.proofs.OptionalParts.{IsOptionalOf, magic_32, magic_64, of_optional, optional_of, pick, same_magic}
 use Rattle.goblin_pe_head.proofs.PeHeaderRoundTrip.{dos_of, of_dos, of_parts, parts_of, strict_stub}
 
@@ -64,26 +63,12 @@ stand-record {R} bytes p n value fields r h long back =
     let own = encoding Little (fields r) in
     let end = stand-end bytes p own h in
     let alone = record_at-some n (value Little) own 0 r (back Little) in
-    let whole : slice_range own 0 (0 + n) ≡ own = slice-is own 0 n ∙ (let e : n ≡ length own = sym long in rw e (take_at-all own)) in
+    let whole : slice_range own 0 (0 + n) ≡ own = slice-is own 0 n ∙ take_all n own (omega (arith, long)) in
     let start : nat_lt p (length bytes) ≡ true = lt-ltb _ _ (omega (arith, end, h.some)) in
     let finish : nat_le (p + n) (length bytes) ≡ true = le-leb _ _ (omega (arith, end, long)) in
     rw (start, finish) (ap (λ (s : List ℕ). Some (value Little s)) (stand-slice bytes p n own h long ∙ sym whole) ∙ ap (λ (x : R). Some x) (sym alone.is))
-  where
-    take_at-all : (xs : List ℕ) → take (length xs) xs ≡ xs
-    take_at-all xs = ap (take (length xs)) (sym (append-nil xs)) ∙ take_at xs [] (length xs) refl
 
 -- ---- the data directories
-
--- a list of items is what a function gives for each index
-items-are : {X : Type 0} (f : ℕ → X) (d : X) (xs : List X) (a : ℕ) → ((i : ℕ) → i < length xs → f (a + i) ≡ get_or xs i d) → map f (range_with_len a (length xs)) ≡ xs
-items-are f d [] a each = refl
-items-are {X} f d (x ∷ xs) a each =
-    let first : f a ≡ x = ap f (omega arith) ∙ each 0 (omega arith) in
-    let rest = items-are f d xs (a + 1) (λ i lt. ap f (omega arith) ∙ each (suc i) (omega arith)) in
-    same first rest
-  where
-    same : {y : X} {ys : List X} → y ≡ x → ys ≡ xs → y ∷ ys ≡ x ∷ xs
-    same e g = cc
 
 length-directory : (entry : Option (ℕ × DataDirectory)) → length (encoding Little (directory_fields (directory_or_zeros entry))) ≡ 8
 length-directory entry = length_encoding Little (directory_fields (directory_or_zeros entry))
@@ -126,17 +111,12 @@ entry-again bytes p count i entry is stands =
 
 entries-again : (bytes : List ℕ) (p count : ℕ) (entries : List (Option (ℕ × DataDirectory))) (rest : List ℕ) → drop p bytes ≡ encoding Little (entries_fields entries) ++ rest
     → count ≤ 16 → length entries ≡ 16 → ((i : ℕ) → i < 16 → IsEntryAt p count i (get_or entries i None)) → (directories_at count p).value bytes ≡ Some entries
-unfolding entries_in_room
 entries-again bytes p count entries rest is most sixteen each =
-    let f = directory_entry_at count bytes p in
     let long : length (encoding Little (entries_fields entries)) ≡ 128 = length_encoding Little (entries_fields entries) ∙ width-entries entries ∙ omega (arith, sixteen) in
     let all : length (drop p bytes) ≡ 128 + length rest = ap length is ∙ length-append (encoding Little (entries_fields entries)) rest ∙ ap (λ (k : ℕ). k + length rest) long in
-    let room : nat_le (p + 8 * count) (length bytes) ≡ true = le-leb _ _ (omega (arith, all, most, length-drop p bytes)) in
-    let few : nat_le count 16 ≡ true = le-leb _ _ most in
-    let made : map f (range_with_len 0 (length entries)) ≡ entries = items-are f None entries 0
-    (λ i lt. ap f (omega arith) ∙ entry-again bytes p count i (get_or entries i None) (each i (omega (arith, lt, sixteen))) (entry-stands bytes p entries rest i is lt)) in
-    let made' : map f (range_with_len 0 16) ≡ entries = subst (λ (k : ℕ). map f (range_with_len 0 k) ≡ entries) sixteen made in
-    value-directories_at count bytes p ∙ rw (few, room, or-true (count == 0)) (ap (λ (es : List (Option (ℕ × DataDirectory))). Some es) made')
+    let made = fill_by_all (directory_entry_at count bytes p) entries 16 None sixteen
+    (λ i lt. sym (entry-again bytes p count i (get_or entries i None) (each i lt) (entry-stands bytes p entries rest i is (omega (arith, lt, sixteen))))) in
+    value-directories_at count bytes p ∙ entries_there count bytes p most (λ some. omega (arith, all, most, length-drop p bytes)) ∙ ap Some (sym made)
 
 -- ---- the optional header
 
@@ -357,11 +337,7 @@ module _ (h : PeHeader) (agree : IsConsistent h) (bytes rest optional : List ℕ
       })
 
 five : (a b c d e rest : List ℕ) → (a ++ (b ++ (c ++ (d ++ (e ++ []))))) ++ rest ≡ a ++ (b ++ (c ++ (d ++ (e ++ rest))))
-five a b c d e rest =
-    append_assoc a (b ++ (c ++ (d ++ (e ++ [])))) rest
-    ∙ ap (λ (xs : List ℕ). a ++ xs) (append_assoc b (c ++ (d ++ (e ++ []))) rest
-    ∙ ap (λ (xs : List ℕ). b ++ xs) (append_assoc c (d ++ (e ++ [])) rest
-    ∙ ap (λ (xs : List ℕ). c ++ xs) (append_assoc d (e ++ []) rest ∙ ap (λ (xs : List ℕ). d ++ (xs ++ rest)) (append-nil e))))
+five a b c d e rest = simp (append_assoc, append-nil)
 
 -- a header whose parts agree reads back, whatever bytes it was written over
 pub consistent_again : (endian : Endian) (old new optional : List ℕ) (h : PeHeader) → written_part endian h.optional_header ≡ Some optional → new ≡ replaced old 0 (header_parts endian h optional)
@@ -393,17 +369,14 @@ directory-fits own fits = (number-lt Little 4 own 0 fits, (number-lt Little 4 ow
 
 entries-agree : (bytes : List ℕ) (p count : ℕ) (entries : List (Option (ℕ × DataDirectory))) → IsBytes bytes → (directories_at count p).value bytes ≡ Some entries
     → (count ≤ 16) × (length entries ≡ 16) × ((i : ℕ) → i < 16 → IsEntryAt p count i (get_or entries i None))
-unfolding entries_in_room
 entries-agree bytes p count entries fits read =
-    let f = directory_entry_at count bytes p in
-    let found = cond_some (nat_le count 16 && (count == 0 || nat_le (p + 8 * count) (length bytes))) (map f (range_with_len 0 16)) entries (sym (value-directories_at count bytes p) ∙ read) in
-    let tests = and_parts (nat_le count 16) (count == 0 || nat_le (p + 8 * count) (length bytes)) found.0 in (
-      leb-true count 16 tests.0,
-      ap length (sym found.1) ∙ length-map-range_with_len f 0 16,
+    let are = directories_read count bytes p entries read in (
+      are.few,
+      are.sixteen,
       λ i lt.
           let own = slice_range bytes (p + 8 * i) (p + 8 * i + 8) in
           let d = directory_record Little own in
-          subst (IsEntryAt p count i) (sym (ap (λ (es : List (Option (ℕ × DataDirectory))). get_or es i None) (sym found.1) ∙ get_or-map-range_with_len f 0 16 i i None lt (omega arith)))
+          subst (IsEntryAt p count i) (sym (are.each i lt))
           (entry-agrees (nat_lt i count) (d.virtual_address == 0) (d.size == 0) (p + 8 * i + 8) d refl refl (directory-fits own (IsBytes-slice bytes (p + 8 * i) 8 fits))),
     )
 

@@ -1,4 +1,3 @@
-pub mod Beside
 pub mod CoffHeaderRoundTrip
 pub mod ConsistentHeaders
 pub mod DosHeaderRoundTrip

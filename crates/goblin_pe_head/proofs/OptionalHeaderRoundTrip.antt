@@ -117,9 +117,6 @@ wide bytes x h is =
           ∙ ap (λ (n : ℕ). Some (take n bytes ++ filling header)) is.size,
     )
 
-pub bytes_after : (bytes : List ℕ) (p : ℕ) → IsBytes bytes → IsBytes (drop p bytes)
-bytes_after bytes p h i = rw (get_or-drop p bytes i 0) (h (p + i))
-
 within : (bytes : List ℕ) (h : OptionalHeader) (n : ℕ) → optional_header.value bytes ≡ Some (h, n) → n ≤ length bytes
 within bytes h n e = subst (λ (o : Option (OptionalHeader × ℕ)). IfSome o (λ x. x.1 ≤ length bytes)) e (optional_header-within bytes)
 

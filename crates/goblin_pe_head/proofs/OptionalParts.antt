@@ -16,7 +16,7 @@ use Rattle.goblin_pe_head.specs.declared.optional_header.standard_fields.Standar
 use Rattle.goblin_pe_head.specs.declared.optional_header.standard_fields.StandardFields64.{StandardFields64}
 use Rattle.goblin_pe_head.specs.HeaderReadings.{entries_after, fields_with, fixed_fields, optional_header, size_of, standard_by, windows_by, with_entries}
 use Rattle.goblin_pe_head.specs.OptionalHeader.{fields_size, standard_32_record, standard_64_record, standard_from_32, standard_from_64}
-use Rattle.goblin_pe_head.proofs.Beside.{both}
+use Rattle.readings.proofs.Pairs.{both}
 
 -- its parts, in the width that this magic gives, and its size
 pub record IsOptionalOf (magic : ℕ) (bytes : List ℕ) (x : OptionalHeader × ℕ) : Type 0 where

@@ -7,7 +7,7 @@ use Rattle.goblin_base.specs.Bytes.{IsBytes, number_at, number_bytes, overwritte
 use Rattle.goblin_base.specs.Answers.{◌>>=◌}
 use Rattle.goblin_base.specs.Parts.{bytes_between}
 use Rattle.goblin_base.specs.Record.{encoding, record_at, uint}
-use Rattle.goblin_base.proofs.RecordRoundTrip.{front_more, number_bytes-number, slice-is}
+use Rattle.goblin_base.proofs.RecordRoundTrip.{bytes_after, front_more, number_bytes-number, slice-is}
 use Rattle.goblin_base.proofs.Numbers.{number_at-some, slice_at-some}
 use Rattle.goblin_base.proofs.Steps.{mapped, same_value, step}
 use Rattle.goblin_base.proofs.Fronts.{HaveFront, front-drop, front_then, number-front, record-front, slice-front}
@@ -24,10 +24,10 @@ use Rattle.goblin_pe_head.specs.HeaderReadings.{SignedParts, coff_parts, dos_hea
 use Rattle.goblin_pe_head.specs.OptionalHeader.{standard_32_record, standard_64_record, standard_from_32, standard_from_64, windows_32_record, windows_64_record, windows_from_32}
 use Rattle.goblin_pe_head.specs.PeHeader.{PeHeader, header_bytes, header_parts, written_part}
 use Rattle.goblin_pe_head.specs.RichReadings.{rich_at, rich_in}
-use Rattle.goblin_pe_head.proofs.Beside.{both, strict_in_its_place}
+use Rattle.readings.proofs.Pairs.{both, strict_in_its_place}
 use Rattle.goblin_pe_head.proofs.CoffHeaderRoundTrip.{coff_back}
 use Rattle.goblin_pe_head.proofs.DosHeaderRoundTrip.{dos_back}
-use Rattle.goblin_pe_head.proofs.OptionalHeaderRoundTrip.{bytes_after, optional_back}
+use Rattle.goblin_pe_head.proofs.OptionalHeaderRoundTrip.{optional_back}
 use Rattle.goblin_pe_head.proofs.OptionalParts.{IsOptionalOf, of_optional, optional_of}
 
 -- the parts of a header that was read

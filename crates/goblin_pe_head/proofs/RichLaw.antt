@@ -11,7 +11,7 @@ use Rattle.goblin_base.specs.Bytes.{IsBytes, number_bytes}
 use Rattle.goblin_base.specs.Tables.{record_items, records_in}
 use Rattle.goblin_base.proofs.Numbers.{rest_is_drop}
 use Rattle.goblin_base.proofs.Parts.{find_is}
-use Rattle.goblin_base.proofs.RecordRoundTrip.{IsBytes-slice, length-slice, slice-is, number_bytes-number}
+use Rattle.goblin_base.proofs.RecordRoundTrip.{bytes_after, IsBytes-range, IsBytes-slice, IsBytes-take, length-slice, slice-is, number_bytes-number}
 use Rattle.goblin_base.proofs.Steps.{same_value}
 use Rattle.goblin_pe_head.specs.HeaderReadings.{rich_header}
 use Rattle.goblin_pe_head.specs.RichHeader.{Rich, leading_words, least_below, marker_place, other_place, rich_between, rich_value, word_at}
@@ -20,7 +20,6 @@ use Rattle.goblin_pe_head.specs.declared.header.rich.RichHeader.{RichHeader}
 use Rattle.goblin_pe_head.specs.declared.header.rich.RichMetadata.{RichMetadata}
 use Rattle.goblin_pe_head.proofs.RichPlaces.{before_marker, between, long_enough, of_file, stored, stored-high}
 use Rattle.goblin_pe_head.proofs.WordPlaces.{cancelled}
-use Rattle.goblin_pe_head.proofs.OptionalHeaderRoundTrip.{bytes_after}
 
 -- an entry is stored as the bytes that it was read from
 stored_entry-metadata_at : (key : ℕ) (bytes : List ℕ) (p : ℕ) → IsBytes bytes → p + 8 ≤ length bytes → stored_entry key (metadata_at key bytes p) ≡ take 8 (drop p bytes)
@@ -72,16 +71,6 @@ words_are_entries key bytes h words =
         | inr some ↦ inr (omega (arith, left, some, words))
       ];
     }
-
--- what follows the first bytes is made of bytes, and so are the first bytes
-IsBytes-take : (n : ℕ) (bytes : List ℕ) → IsBytes bytes → IsBytes (take n bytes)
-IsBytes-take n bytes h i = elim (cases_lt i n) [
-  | inl lt ↦ rw (get_or-take n bytes i 0 lt) (h i)
-  | inr le ↦ rw (get_or_past (take n bytes) i 0 (omega (arith, length-take n bytes))) (omega arith)
-]
-
-IsBytes-range : (bytes : List ℕ) (p q : ℕ) → IsBytes bytes → IsBytes (slice_range bytes p q)
-IsBytes-range bytes p q h = IsBytes-take (q - p) (drop p bytes) (bytes_after bytes p h)
 
 -- the first of n numbers that passes is one of them
 least_below-lt : (n : ℕ) (test : ℕ → Bool) (i : ℕ) → least_below n test ≡ Some i → i < n

@@ -6,26 +6,13 @@ use Rattle.std.proofs.lemmas.Bool.{cases_eq, eqb-true, eq-eqb, ltb-true}
 use Rattle.goblin_base.specs.declared.endian.Endian.TheVariants.{Little}
 use Rattle.goblin_base.proofs.Fronts.{HaveFront, slice-front}
 use Rattle.goblin_base.proofs.Numbers.{number-slice, read_number}
-use Rattle.goblin_base.proofs.Parts.{find_is, least_place-high}
+use Rattle.goblin_base.proofs.Parts.{find_is, find_none, least_place-high}
 use Rattle.goblin_base.proofs.Steps.{mapped, step}
 use Rattle.goblin_pe_head.specs.declared.header.dos.DosHeader.{DosHeader}
 use Rattle.goblin_pe_head.specs.HeaderLaws.{IsDansAt, IsLeast, IsMarked, IsMarkerAt, RichIsMarked, RichIsUnmarked}
 use Rattle.goblin_pe_head.specs.HeaderReadings.{dos_header, rich_header}
 use Rattle.goblin_pe_head.specs.RichHeader.{Rich, dans_place, is_rich, leading_words, least_below, marker_place, rich_between, word_at}
 use Rattle.goblin_pe_head.specs.RichReadings.{rich_at, rich_before, rich_in}
-
-fails : (passes : Bool) (a : ℕ) (later : Option ℕ) → cond passes (Some a) later ≡ None → (passes ≡ false) × (later ≡ None)
-fails true a later e = absurd cc
-fails false a later e = (refl, e)
-
-find_none : (test : ℕ → Bool) (n a k : ℕ) → find test (range_with_len a n) ≡ None → a ≤ k → k < a + n → test k ≡ false
-find_none test zero a k e low high = absurd (omega (arith, low, high))
-find_none test (suc n) a k e low high =
-    let here = fails (test a) a (find test (range_with_len (a + 1) n)) e in
-    elim (cases_eq k a) [
-      | inl at ↦ ap test at ∙ here.0
-      | inr other ↦ find_none test n (a + 1) k here.1 (omega (arith, low, other)) (omega (arith, high))
-    ]
 
 -- the least number that passes a test is the least place where P holds, if the test is that of P
 least_is : (P : ℕ → Type 0) (test : ℕ → Bool) (n i : ℕ) → ((k : ℕ) → k < n → test k ≡ true → P k) → ((k : ℕ) → P k → (k < n) × (test k ≡ true)) → least_below n test ≡ Some i → IsLeast P i

@@ -8,22 +8,8 @@ use lib.Count.{count_trailing_zeros}
 use lib.Lanes.{chunk, mask_l, top, zip2}
 use Rattle.goblin_base.specs.declared.endian.Endian.TheVariants.{Little}
 use Rattle.goblin_base.specs.Bytes.{number}
+use Rattle.goblin_base.proofs.First.{find_same}
 use Rattle.goblin_pe_head.specs.RichHeader.{dans_place, is_dans, least_below, word_at}
-
--- ---- the first number that passes a test
-
-pub found_none : (test : ℕ → Bool) (n a : ℕ) → ((k : ℕ) → a ≤ k → k < a + n → test k ≡ false) → find test (range_with_len a n) ≡ None
-found_none test zero a none = refl
-found_none test (suc n) a none =
-    rw (none a (omega arith) (omega arith)) (found_none test n (a + 1) (λ k low high. none k (omega (arith, low)) (omega (arith, high))))
-
-pub found_at : (test : ℕ → Bool) (n a i : ℕ) → a ≤ i → i < a + n → test i ≡ true → ((k : ℕ) → a ≤ k → k < i → test k ≡ false) → find test (range_with_len a n) ≡ Some i
-found_at test zero a i low high passes least = absurd (omega (arith, low, high))
-found_at test (suc n) a i low high passes least = elim (cases_eq i a) [
-  | inl at ↦ rw at (rw (ap test (sym at) ∙ passes) refl)
-  | inr other ↦ rw (least a (omega arith) (omega (arith, low, other)))
-      (found_at test n (a + 1) i (omega (arith, low, other)) (omega (arith, high)) passes (λ k from to. least k (omega (arith, from)) to))
-]
 
 -- ---- a word by its first byte
 
@@ -62,14 +48,10 @@ same_test word key marker = elim (cases_eq word (bit_xor marker key)) [
   | inr other ↦ ne_eqb word (bit_xor marker key) other ∙ sym (ne_eqb (bit_xor word key) marker (λ is. other (sym (cancelled word key) ∙ ap (λ w. bit_xor w key) is)))
 ]
 
-find_same : (test again : ℕ → Bool) (n a : ℕ) → ((k : ℕ) → test k ≡ again k) → find test (range_with_len a n) ≡ find again (range_with_len a n)
-find_same test again zero a same = refl
-find_same test again (suc n) a same = ap (λ t. cond t (Some a) (find test (range_with_len (a + 1) n))) (same a) ∙ ap (cond (again a) (Some a)) (find_same test again n (a + 1) same)
-
 -- the word that is the marker under a key
 pub under_key : (stretch : List ℕ) (key n : ℕ) → n ≡ length stretch - 3 → least_below n (λ i. word_at stretch i == bit_xor 0x536E6144 key) ≡ dans_place key stretch
 under_key stretch key n is =
-    find_same (λ i. word_at stretch i == bit_xor 0x536E6144 key) (λ i. is_dans key (word_at stretch i)) n 0 (λ i. same_test (word_at stretch i) key 0x536E6144)
+    find_same (λ i. word_at stretch i == bit_xor 0x536E6144 key) (λ i. is_dans key (word_at stretch i)) (range_with_len 0 n) (λ k i at. same_test (word_at stretch i) key 0x536E6144)
     ∙ ap (λ m. find (λ i. is_dans key (word_at stretch i)) (range_with_len 0 m)) is
 
 -- ---- sixteen bytes as the lanes of a vector, and the first of them that is a byte

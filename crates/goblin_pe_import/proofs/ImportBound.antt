@@ -24,6 +24,9 @@ use Rattle.goblin_base.specs.Reading.{Reading}
 use Rattle.readings.specs.Reads.{given, in_its_place, pair_of, with_slots}
 use Rattle.goblin_pe_import.specs.Imports.{ImportValue, has_slots, import_at, imports_by, imports_of, kept_count, kept_entries, library_imports}
 use Rattle.goblin_base.proofs.Kept.{without_test}
+use Rattle.goblin_base.proofs.SlotTables as SlotTables
+use Rattle.goblin_base.proofs.TextEnds.{cond_some_by}
+use Rattle.readings.proofs.Pairs.{both, with_slots-both}
 
 -- ---- tables of slots
 
@@ -37,15 +40,11 @@ module _ {A : Type 0} (count : List A → ℕ) (none : count [] ≡ 0) (adds : (
       let last = few n parts.1 parts.3 in
       omega (arith, before, last, adds parts.0 parts.1, ap count parts.4)
 
-slot_there : {V : Type 0} (is_last : V → Bool) (slot : Option V) → ends_table is_last slot ≡ false → (v : V) × (slot ≡ Some v)
-slot_there is_last None e = absurd cc
-slot_there is_last (Some v) e = (v, refl)
-
 -- the slots before n lie in the file, where none of them ends the table
 pub slots_fit : {V : Type 0} (slots : SlotFormat V) (bytes : List ℕ) (o n : ℕ) → ((j : ℕ) → j < n → ends_table slots.is_last (slot_at slots bytes o j) ≡ false) → n * slots.entry.width ≤ length bytes
 slots_fit slots bytes o zero going = omega arith
 slots_fit slots bytes o (suc n) going =
-    let last = slot_there slots.is_last (slot_at slots bytes o n) (going n (omega arith)) in
+    let last = SlotTables.going slots.is_last (slot_at slots bytes o n) (going n (omega arith)) in
     let is = record_at-some slots.entry.width slots.entry.value_of bytes (slot_place slots o n) last.0 last.1 in
     omega (arith, is.end)
 
@@ -101,32 +100,6 @@ kept_entry-few strict addressing bytes entry xs e =
     (reading.kept_name strict addressing.longest entry.rva (addressing.offset entry.rva)) bytes xs
     (kept_name-few strict addressing.longest bytes entry.rva (addressing.offset entry.rva) xs) e
 
-pub with_slots-value : {A : Type 0} (kept : List ℕ) (made : Option A) (both : A × List ℕ)
-    → with_slots kept made ≡ Some both → made ≡ Some both.0
-with_slots-value kept None both e = absurd cc
-with_slots-value {A} kept (Some x) both e =
-    ap (λ (p : A × List ℕ). Some p.0) (same_value (x, kept) both e)
-
-pub with_slots-kept : {A : Type 0} (kept : List ℕ) (made : Option A) (both : A × List ℕ)
-    → with_slots kept made ≡ Some both → kept ≡ both.1
-with_slots-kept kept None both e = absurd cc
-with_slots-kept {A} kept (Some x) both e =
-    ap (λ (p : A × List ℕ). p.1) (same_value (x, kept) both e)
-
-pub pair_of-left : {A B : Type 0} (x : Option A) (y : Option B) (both : A × B)
-    → pair_of x y ≡ Some both → x ≡ Some both.0
-pair_of-left None y both e = absurd cc
-pair_of-left (Some v) None both e = absurd cc
-pair_of-left {A} {B} (Some v) (Some w) both e =
-    ap (λ (p : A × B). Some p.0) (same_value (v, w) both e)
-
-pub pair_of-right : {A B : Type 0} (x : Option A) (y : Option B) (both : A × B)
-    → pair_of x y ≡ Some both → y ≡ Some both.1
-pair_of-right None y both e = absurd cc
-pair_of-right (Some v) None both e = absurd cc
-pair_of-right {A} {B} (Some v) (Some w) both e =
-    ap (λ (p : A × B). Some p.1) (same_value (v, w) both e)
-
 -- the libraries of import data: none, or those of the directory at the offset of its address
 module _ (strict : Bool) (format : Format EntryValue) (addressing : Addressing) (bytes : List ℕ)
     (rva : ℕ) (xs : List ImportedLibrary) where
@@ -176,7 +149,7 @@ module _ (strict : Bool) (format : Format EntryValue) (addressing : Addressing) 
       (same_value (None, []) both e) (omega arith)
   lookup_if-few (Some o) both e =
       let m = mapped ((reading.lookup_with_slots strict format addressing o).value bytes) _ both e in
-      let table = with_slots-value _ ((reading.lookup_table strict format addressing o).value bytes) m.value m.is in
+      let table = (with_slots-both _ ((reading.lookup_table strict format addressing o).value bytes) m.value m.is).0 in
       subst (λ (t : Option (List LookupEntry) × List ℕ). length (unwrap_or t.0 []) ≤ entries)
       m.made (lookup_table-few o m.value.0 table)
 
@@ -189,7 +162,7 @@ module _ (strict : Bool) (format : Format EntryValue) (addressing : Addressing) 
       let name = in_its_place strict [] ((address.name_at addressing r.name_rva).value bytes) in
       let look = (directory.lookup_if strict format addressing place).value bytes in
       let m = mapped (pair_of (pair_of name look) _) _ library e in
-      let there = pair_of-right name look m.value.0 (pair_of-left (pair_of name look) _ m.value m.is) in
+      let there = (both name look m.value.0 (both (pair_of name look) _ m.value m.is).first).second in
       subst (λ (l : ImportedLibrary). length (kept_entries l) ≤ entries) m.made
       (lookup_if-few place m.value.0.1 there)
 
@@ -217,16 +190,12 @@ all_of-length {A} (value ∷ values) xs e =
     let s2 = step (all_of values) (λ rest. Some (s1.value ∷ rest)) xs s1.then in
     omega (arith, all_of-length values s2.value s2.is, ap length (same_value (s1.value ∷ s2.value) xs s2.then))
 
-slotted : {A : Type 0} (test : Bool) (value : Option A) (xs : A) → cond test value None ≡ Some xs → value ≡ Some xs
-slotted true value xs e = e
-slotted false value xs e = absurd cc
-
 library_imports-length : (size : ℕ) (library : ImportedLibrary) (xs : List ImportValue) → library_imports size library ≡ Some xs → length xs ≡ length (kept_entries library)
 unfolding imports_by
 library_imports-length size library xs e =
     let n = length (kept_entries library) in
     let at = import_at size library.name library.import_directory_entry.import_address_table_rva (kept_entries library) library.import_lookup_slots in
-    omega (arith, all_of-length (map at (range_with_len 0 n)) xs (slotted (has_slots library) _ xs e), length-map (range_with_len 0 n) at, length-range_with_len 0 n)
+    omega (arith, all_of-length (map at (range_with_len 0 n)) xs (cond_some_by (has_slots library) _ xs e).1, length-map (range_with_len 0 n) at, length-range_with_len 0 n)
 
 imports_to : (size : ℕ) (libraries : List ImportedLibrary) (n : ℕ) (xs : List ImportValue) → n ≤ length libraries → each_below (λ i. slice_get libraries i >>= library_imports size) n ≡ Some xs → length xs ≡ kept_count (take n libraries)
 imports_to size libraries zero xs le e = sym (ap length (same_value [] xs e))

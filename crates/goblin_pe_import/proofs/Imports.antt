@@ -9,7 +9,7 @@ use Rattle.goblin_base.specs.Tables.{each_below, join}
 use Rattle.goblin_base.proofs.Below.{each_below-missing, each_below-next}
 use Rattle.goblin_base.specs.Answers.{◌>>=◌, all_at}
 use Rattle.goblin_base.proofs.Steps.{all_at-more, all_at-none, all_at-zero, unmapped}
-use Rattle.goblin_pe_sect.proofs.First.{found_at_first, found_passes, none_passes}
+use Rattle.goblin_base.proofs.First.{found_at_first, found_passes, none_passes}
 use Rattle.goblin_pe_import.specs.ImportLookup.{LookupEntry}
 use Rattle.goblin_pe_import.specs.ImportRecords.{ImportedLibrary}
 use Rattle.goblin_pe_import.specs.Imports.{ImportValue, IsImportListFault, IsSlotCount, first_without_slots, has_slots, import_at, import_of, import_offset, imports_by, imports_of, kept_entries, library_imports}

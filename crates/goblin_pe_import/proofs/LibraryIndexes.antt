@@ -9,13 +9,14 @@ use Rattle.goblin_base.specs.Tables.{Format, each_below, is_kept, join, kept_slo
 use Rattle.readings.specs.Reads.{in_its_place, with_slots}
 use Rattle.goblin_pe_sect.specs.AddressReadings.{offset_at}
 use Rattle.goblin_pe_sect.specs.Addresses.{Addressing}
-use Rattle.readings.proofs.WalkValues.{range-next}
+use Rattle.readings.proofs.WalkValues.{kept-next}
 use Rattle.goblin_pe_import.specs.declared.import.directory_entry.ImportDirectoryEntry.{ImportDirectoryEntry}
 use Rattle.goblin_pe_import.specs.ImportEntries.{EntryValue}
 use Rattle.goblin_pe_import.specs.ImportReadings.{at_index, indexed_at, library_of, numbered, read_if, kept_library, import_data, libraries_at, read_past_front, first_record_offset, numbered_data, numbered_libraries_at}
 use Rattle.goblin_pe_import.specs.ImportRecords.{ImportedLibrary, NumberedLibrary, import_slots}
 use Rattle.goblin_base.proofs.Kept.{without_test}
-use Rattle.goblin_pe_import.proofs.ImportBound.{left_out-or, with_slots-kept, with_slots-value}
+use Rattle.readings.proofs.Pairs.{with_slots-both}
+use Rattle.goblin_pe_import.proofs.ImportBound.{left_out-or}
 use Rattle.goblin_pe_import.proofs.ListedImports.{pieces-counted}
 
 -- one more record, which keeps at most one library
@@ -43,18 +44,11 @@ module _ (made : ℕ → Option (List ImportedLibrary))
   abbrev pub numbered_at : ℕ → Option (List NumberedLibrary)
   numbered_at i = option_map (map (at_index i)) (made i)
 
-  kept-next : (n : ℕ) (ys : List ImportedLibrary) → made n ≡ Some ys
-      → kept_below (suc n) ≡ kept_below n ++ cond (is_kept (Some ys)) (n ∷ []) []
-  kept-next n ys is =
-      ap (filter (λ i. is_kept (made i))) (range-next n)
-      ∙ filter-append (λ i. is_kept (made i)) (range_with_len 0 n) (n ∷ [])
-      ∙ ap (λ (o : Option (List ImportedLibrary)). kept_below n ++ cond (is_kept o) (n ∷ []) []) is
-
   pub numbered-next : (n : ℕ) (xs ys : List ImportedLibrary) → each_below made n ≡ Some xs
       → made n ≡ Some ys
       → numbered (xs ++ ys) (kept_below (suc n)) ≡ numbered xs (kept_below n) ++ map (at_index n) ys
   numbered-next n xs ys so_far is =
-      ap (numbered (xs ++ ys)) (kept-next n ys is)
+      ap (numbered (xs ++ ys)) (kept-next made n (Some ys) is)
       ∙ numbered-append xs ys (kept_below n) n (pieces-counted made n few xs so_far) (few n ys is)
 
   pub numbered-below : (n : ℕ)
@@ -126,9 +120,9 @@ module _ (strict : Bool) (format : Format EntryValue) (addressing : Addressing)
   counted-both both is =
       let n = stop import_slots bytes o in
       let end = strict && not (is_some (slot_at import_slots bytes o n)) in
-      let listed = with_slots-value _ _ both is in
-      let made = without_test end (each_below kept_at n) both.0 listed in
-      ap (λ (indexes : List ℕ). length indexes) (sym (with_slots-kept _ _ both is))
+      let parts = with_slots-both _ _ both is in
+      let made = without_test end (each_below kept_at n) both.0 parts.0 in
+      ap (λ (indexes : List ℕ). length indexes) (sym parts.1)
       ∙ pieces-counted kept_at n few both.0 made
 
   pub counted : IfSome ((indexed_at strict format addressing o).value bytes)

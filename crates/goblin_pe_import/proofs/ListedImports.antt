@@ -1,8 +1,7 @@
 -- Of import data that was read a list of imports can be made: each entry that a lookup table keeps has a slot, whose address does not pass 64 bits.
 use Rattle.std.proofs.Common.{◌≡◌, ℕ, zero, suc, ◌+◌, ◌*◌, ◌<◌, ◌≤◌, ◌^◌, ◌&&◌, Bool, true, cond, not, List, [], ◌∷◌, ◌++◌, length, map, Option, Some, None, IsSome, refl, sym, ap, subst, arith, ◌∙◌, slice_get, slice_range, unwrap_or, get_or, lt-ltb, eq-eqb, length-append, is_some}
 use Rattle.std.specs.List.{All, filter, range_with_len}
-use Rattle.readings.proofs.WalkValues.{range-next}
-use Rattle.std.proofs.lemmas.List.Elements.{filter-append}
+use Rattle.readings.proofs.WalkValues.{kept-next}
 use Rattle.std.proofs.lemmas.Option.{slice_get-get_or}
 use Rattle.goblin_base.specs.declared.endian.Endian.TheVariants.{Little}
 use Rattle.goblin_base.specs.Answers.{◌>>=◌, all_of}
@@ -10,6 +9,7 @@ use Rattle.goblin_base.specs.Bytes.{IsBytes}
 use Rattle.goblin_base.specs.Tables.{Format, each_below, is_kept, kept_slots, made_of, or_left_out, slot_at, slot_place, slot_table, stop}
 use Rattle.goblin_base.proofs.Below.{each_below-there, join-parts, least-before}
 use Rattle.goblin_base.proofs.Kept.{without_test}
+use Rattle.readings.proofs.Pairs.{both, with_slots-both}
 use Rattle.goblin_base.proofs.RecordRoundTrip.{IsBytes-slice, number-lt}
 use Rattle.goblin_base.proofs.Records.{record_at-some}
 use Rattle.goblin_base.proofs.SlotTables.{ends, kept-below}
@@ -24,7 +24,7 @@ use Rattle.goblin_pe_import.specs.ImportLookup.{lookup_slots}
 use Rattle.goblin_pe_import.specs.ImportReadings as directory
 use Rattle.goblin_pe_import.specs.ImportRecords.{ImportedLibrary, import_record, import_slots, lookup_offset}
 use Rattle.goblin_pe_import.specs.LookupReadings as reading
-use Rattle.goblin_pe_import.proofs.ImportBound.{in_directory, kept_entry-few, left_out-or, pair_of-left, pair_of-right, slots_fit, with_slots-kept, with_slots-value}
+use Rattle.goblin_pe_import.proofs.ImportBound.{in_directory, kept_entry-few, left_out-or, slots_fit}
 use Rattle.goblin_pe_import.specs.Imports.{has_slots, import_at, import_of, import_offset, imports_by, imports_of, kept_entries, library_imports}
 
 -- ---- what holds of each of a list
@@ -69,18 +69,12 @@ pub pieces-counted : {A : Type 0} (piece : ℕ → Option (List A)) (n : ℕ) �
     → length (filter (λ i. is_kept (piece i)) (range_with_len 0 n)) ≡ length ys
 pieces-counted piece zero few ys e = ap length (same_value [] ys e)
 pieces-counted piece (suc n) few ys e =
-    let test : ℕ → Bool = λ i. is_kept (piece i) in
     let parts = join-parts (each_below piece n) (piece n) ys e in
     let before = pieces-counted piece n few parts.0 parts.2 in
     let last = one-counted n parts.1 (few n parts.1 parts.3) in
-    let here : length (cond (is_kept (piece n)) (n ∷ []) []) ≡ length parts.1 = ap (λ p. length (cond (is_kept p) (n ∷ []) [])) parts.3 ∙ last in
-    let all : length (filter test (range_with_len 0 (suc n))) ≡ length (filter test (range_with_len 0 n)) + length (filter test (n ∷ [])) =
-    ap (λ xs. length (filter test xs)) (range-next n) ∙ ap length (filter-append test (range_with_len 0 n) (n ∷ [])) ∙ length-append (filter test (range_with_len 0 n)) (filter test (n ∷ [])) in
-    let own : length (filter test (n ∷ [])) ≡ length (cond (is_kept (piece n)) (n ∷ []) []) = one-filtered test n in
-    omega (arith, before, here, all, own, ap length parts.4, length-append parts.0 parts.1)
-  where
-    one-filtered : (test : ℕ → Bool) (n : ℕ) → length (filter test (n ∷ [])) ≡ length (cond (test n) (n ∷ []) [])
-    one-filtered test n = refl
+    let kept = filter (λ i. is_kept (piece i)) (range_with_len 0 n) in
+    let all = ap length (kept-next piece n (Some parts.1) parts.3) ∙ length-append kept (cond (is_kept (Some parts.1)) (n ∷ []) []) in
+    omega (arith, before, last, all, ap length parts.4, length-append parts.0 parts.1)
 
 module _ (strict : Bool) (format : Format EntryValue) (addressing : Addressing) (file : List ℕ) where
   table-counted : (o : ℕ) (entries : List LookupEntry) → (reading.lookup_table strict format addressing o).value file ≡ Some entries → length entries ≡ length (lookup_slots strict format addressing file o)
@@ -115,9 +109,8 @@ module _ (strict : Bool) (format : Format EntryValue) (addressing : Addressing) 
   table_if-slots (Some o) both e =
       let made = (reading.lookup_table strict format addressing o).value file in
       let m = mapped ((reading.lookup_with_slots strict format addressing o).value file) _ both e in
-      let table = with_slots-value _ made m.value m.is in
-      let kept = with_slots-kept _ made m.value m.is in
-      let have : HaveSlots (Some m.value.0) m.value.1 = subst (λ (slots : List ℕ). HaveSlots (Some m.value.0) slots) kept (table-counted o m.value.0 table, table-slots o) in
+      let parts = with_slots-both _ made m.value m.is in
+      let have : HaveSlots (Some m.value.0) m.value.1 = subst (λ (slots : List ℕ). HaveSlots (Some m.value.0) slots) parts.1 (table-counted o m.value.0 parts.0, table-slots o) in
       subst (λ (t : Option (List LookupEntry) × List ℕ). HaveSlots t.0 t.1) m.made have
 
   -- a library has a slot for each entry, in the file, and its address table an address of 32 bits
@@ -131,7 +124,7 @@ module _ (strict : Bool) (format : Format EntryValue) (addressing : Addressing) 
       let name = in_its_place strict [] ((name_at addressing r.name_rva).value file) in
       let look = (directory.lookup_if strict format addressing place).value file in
       let m = mapped (pair_of (pair_of name look) _) _ library e in
-      let there = pair_of-right name look m.value.0 (pair_of-left (pair_of name look) _ m.value m.is) in
+      let there = (both name look m.value.0 (both (pair_of name look) _ m.value m.is).first).second in
       subst IsListed m.made (table_if-slots place m.value.0.1 there, low)
 
   module _ (bytes : IsBytes file) where

@@ -2,96 +2,10 @@
 use Rattle.std.proofs.Common.{ap, ◌∙◌, ◌≡◌, ℕ, Bool, true, false, cond, List, Option, Some, None, refl}
 use Rattle.goblin_base.specs.Reading.{Reading, Repeats, RepeatsAs}
 use Rattle.goblin_base.specs.Tables.{SlotFormat, kept_slots, slot_table}
-use Rattle.goblin_base.proofs.Kept.{Keeps, kept_slots-kept, map-kept, or_left_out-kept, slot_table-kept, then-kept}
+use Rattle.goblin_base.proofs.Kept.{Keeps, kept_slots-kept, or_left_out-kept, slot_table-kept, then-kept}
 use Rattle.goblin_base.proofs.Steps.{mapped as mapped_value, same_value, step}
 use Rattle.readings.specs.Reads as reads
 use Rattle.readings.specs.Reads.{◌beside◌, in_its_place, mapped, or_else, or_left_out, pair_of, table, table_with_slots, with_slots}
-
--- the same read in both modes
-pub repeats-same : {A : Type 0} (r : Reading A) → Repeats r r
-repeats-same r = record { kept = λ bytes x is. is }
-
-pub repeats-mapped : {A B : Type 0} (f : A → B) (r s : Reading A) → Repeats r s
-    → Repeats (mapped f r) (mapped f s)
-repeats-mapped f r s h = record {
-  kept = λ bytes. map-kept f (r.value bytes) (s.value bytes) (h.kept bytes);
-}
-
-kept_in_place : {A : Type 0} (d : A) (first second : Option A) → Keeps first second
-    → Keeps (in_its_place true d first) (in_its_place false d second)
-kept_in_place d None second kept x e = absurd cc
-kept_in_place d (Some y) second kept x e = rw (kept y refl) e
-
-pub repeats-or_else : {A : Type 0} (d : A) (r s : Reading A) → Repeats r s
-    → Repeats (or_else true d r) (or_else false d s)
-repeats-or_else d r s h = record {
-  kept = λ bytes. kept_in_place d (r.value bytes) (s.value bytes) (h.kept bytes);
-}
-
-pub repeats-or_left_out : {A : Type 0} (r s : Reading A) → Repeats r s
-    → Repeats (or_left_out true r) (or_left_out false s)
-repeats-or_left_out r s h = record {
-  kept = λ bytes. or_left_out-kept (r.value bytes) (s.value bytes) (h.kept bytes);
-}
-
-pub repeats-then : {A B : Type 0} (r s : Reading A) (f g : A → Reading B) → Repeats r s
-    → ((x : A) → Repeats (f x) (g x)) → Repeats (reads.◌>>=◌ r f) (reads.◌>>=◌ s g)
-repeats-then r s f g h k = record {
-  kept = λ bytes.
-      then-kept (r.value bytes) (s.value bytes) (λ x. (f x).value bytes)
-      (λ x. (g x).value bytes) (h.kept bytes) (λ x. (k x).kept bytes);
-}
-
-kept_pair : {A B : Type 0} (x again : Option A) (y other : Option B) → Keeps x again
-    → Keeps y other → Keeps (pair_of x y) (pair_of again other)
-kept_pair None again y other one two p e = absurd cc
-kept_pair (Some v) again None other one two p e = absurd cc
-kept_pair (Some v) again (Some w) other one two p e = rw (one v refl, two w refl) e
-
-pub repeats-beside : {A B : Type 0} (r s : Reading A) (p q : Reading B) → Repeats r s
-    → Repeats p q → Repeats (r beside p) (s beside q)
-repeats-beside r s p q h k = record {
-  kept = λ bytes.
-      kept_pair (r.value bytes) (s.value bytes) (p.value bytes) (q.value bytes)
-      (h.kept bytes) (k.kept bytes);
-}
-
-pub repeats-pick : {A : Type 0} (test : Bool) (r s p q : Reading A) → Repeats r s
-    → Repeats p q → Repeats (cond test r p) (cond test s q)
-repeats-pick true r s p q h k = h
-repeats-pick false r s p q h k = k
-
--- a table whose end strict mode needs
-module _ {V A : Type 0} (slots : SlotFormat V) (missing other : ℕ → Reading V)
-    (piece again : V → Reading (List A)) (o : ℕ) (h : (v : V) → Repeats (piece v) (again v)) where
-  pub repeats-table : Repeats (table slots true missing piece o) (table slots false other again o)
-  repeats-table = record {
-    kept = λ bytes.
-        slot_table-kept slots (λ v. (piece v).value bytes) (λ v. (again v).value bytes) bytes o
-        (λ v. (h v).kept bytes);
-  }
-
-  kept_with_slots : (bytes : List ℕ) (made remade : Option (List A)) (kept rekept : List ℕ)
-      → Keeps made remade → ((xs : List A) → made ≡ Some xs → kept ≡ rekept)
-      → Keeps (with_slots kept made) (with_slots rekept remade)
-  kept_with_slots bytes None remade kept rekept same slots_same p e = absurd cc
-  kept_with_slots bytes (Some xs) remade kept rekept same slots_same p e =
-      rw (same xs refl, ← slots_same xs refl) e
-
-  pub repeats-table_with_slots : Repeats (table_with_slots slots true missing piece o)
-      (table_with_slots slots false other again o)
-  repeats-table_with_slots = record {
-    kept = λ bytes.
-        kept_with_slots bytes (slot_table slots true (λ v. (piece v).value bytes) bytes o)
-        (slot_table slots false (λ v. (again v).value bytes) bytes o)
-        (kept_slots slots (λ v. (piece v).value bytes) bytes o)
-        (kept_slots slots (λ v. (again v).value bytes) bytes o)
-        (slot_table-kept slots (λ v. (piece v).value bytes) (λ v. (again v).value bytes) bytes o
-        (λ v. (h v).kept bytes))
-        (λ xs is.
-        kept_slots-kept slots (λ v. (piece v).value bytes) (λ v. (again v).value bytes) bytes o xs
-        (λ v. (h v).kept bytes) is);
-  }
 
 -- ---- where something becomes of a value
 
@@ -130,3 +44,75 @@ as-then becomes r s f g h k = record {
       let one = step (r.value bytes) (λ x. (f x).value bytes) y is in
       rw (h.kept bytes one.value one.is) ((k one.value).kept bytes y one.then);
 }
+
+-- ---- where nothing becomes of it
+
+-- the same read in both modes
+pub repeats-same : {A : Type 0} (r : Reading A) → Repeats r r
+repeats-same r = record { kept = λ bytes x is. is }
+
+pub repeats-mapped : {A B : Type 0} (f : A → B) (r s : Reading A) → Repeats r s
+    → Repeats (mapped f r) (mapped f s)
+repeats-mapped f r s h = as-mapped f (λ x. x) (λ x. x) r s h (λ x. refl)
+
+pub repeats-beside : {A B : Type 0} (r s : Reading A) (p q : Reading B) → Repeats r s
+    → Repeats p q → Repeats (r beside p) (s beside q)
+repeats-beside r s p q h k = as-beside (λ x. x) (λ x. x) r s p q h k
+
+pub repeats-then : {A B : Type 0} (r s : Reading A) (f g : A → Reading B) → Repeats r s
+    → ((x : A) → Repeats (f x) (g x)) → Repeats (reads.◌>>=◌ r f) (reads.◌>>=◌ s g)
+repeats-then r s f g h k = as-then (λ x. x) r s f g h k
+
+kept_in_place : {A : Type 0} (d : A) (first second : Option A) → Keeps first second
+    → Keeps (in_its_place true d first) (in_its_place false d second)
+kept_in_place d None second kept x e = absurd cc
+kept_in_place d (Some y) second kept x e = rw (kept y refl) e
+
+pub repeats-or_else : {A : Type 0} (d : A) (r s : Reading A) → Repeats r s
+    → Repeats (or_else true d r) (or_else false d s)
+repeats-or_else d r s h = record {
+  kept = λ bytes. kept_in_place d (r.value bytes) (s.value bytes) (h.kept bytes);
+}
+
+pub repeats-or_left_out : {A : Type 0} (r s : Reading A) → Repeats r s
+    → Repeats (or_left_out true r) (or_left_out false s)
+repeats-or_left_out r s h = record {
+  kept = λ bytes. or_left_out-kept (r.value bytes) (s.value bytes) (h.kept bytes);
+}
+
+pub repeats-pick : {A : Type 0} (test : Bool) (r s p q : Reading A) → Repeats r s
+    → Repeats p q → Repeats (cond test r p) (cond test s q)
+repeats-pick true r s p q h k = h
+repeats-pick false r s p q h k = k
+
+-- a table whose end strict mode needs
+module _ {V A : Type 0} (slots : SlotFormat V) (missing other : ℕ → Reading V)
+    (piece again : V → Reading (List A)) (o : ℕ) (h : (v : V) → Repeats (piece v) (again v)) where
+  pub repeats-table : Repeats (table slots true missing piece o) (table slots false other again o)
+  repeats-table = record {
+    kept = λ bytes.
+        slot_table-kept slots (λ v. (piece v).value bytes) (λ v. (again v).value bytes) bytes o
+        (λ v. (h v).kept bytes);
+  }
+
+  kept_with_slots : (bytes : List ℕ) (made remade : Option (List A)) (kept rekept : List ℕ)
+      → Keeps made remade → ((xs : List A) → made ≡ Some xs → kept ≡ rekept)
+      → Keeps (with_slots kept made) (with_slots rekept remade)
+  kept_with_slots bytes None remade kept rekept same slots_same p e = absurd cc
+  kept_with_slots bytes (Some xs) remade kept rekept same slots_same p e =
+      rw (same xs refl, ← slots_same xs refl) e
+
+  pub repeats-table_with_slots : Repeats (table_with_slots slots true missing piece o)
+      (table_with_slots slots false other again o)
+  repeats-table_with_slots = record {
+    kept = λ bytes.
+        kept_with_slots bytes (slot_table slots true (λ v. (piece v).value bytes) bytes o)
+        (slot_table slots false (λ v. (again v).value bytes) bytes o)
+        (kept_slots slots (λ v. (piece v).value bytes) bytes o)
+        (kept_slots slots (λ v. (again v).value bytes) bytes o)
+        (slot_table-kept slots (λ v. (piece v).value bytes) (λ v. (again v).value bytes) bytes o
+        (λ v. (h v).kept bytes))
+        (λ xs is.
+        kept_slots-kept slots (λ v. (piece v).value bytes) (λ v. (again v).value bytes) bytes o xs
+        (λ v. (h v).kept bytes) is);
+  }

@@ -70,6 +70,16 @@ range-next n =
     ∙ ap (λ m. range_with_len 0 m ++ (suc n - 1) ∷ []) front
     ∙ ap (λ m. range_with_len 0 n ++ m ∷ []) last
 
+-- which numbers have pieces that keep something, with one number more
+pub kept-next : {A : Type 0} (made : ℕ → Option (List A)) (n : ℕ) (o : Option (List A)) → made n ≡ o
+    → filter (λ i. is_kept (made i)) (range_with_len 0 (suc n))
+    ≡ filter (λ i. is_kept (made i)) (range_with_len 0 n) ++ cond (is_kept o) (n ∷ []) []
+kept-next {A} made n o is =
+    let kept : ℕ → List ℕ = λ (m : ℕ). filter (λ i. is_kept (made i)) (range_with_len 0 m) in
+    ap (filter (λ i. is_kept (made i))) (range-next n)
+    ∙ filter-append (λ i. is_kept (made i)) (range_with_len 0 n) (n ∷ [])
+    ∙ ap (λ (o : Option (List A)). kept n ++ cond (is_kept o) (n ∷ []) []) is
+
 -- ---- the items of the slots before the stop
 
 -- Collected from the slots before one, they are none where the table has none, and else what it
@@ -95,13 +105,6 @@ module _ {A B : Type 0} (item : ℕ → A → B) (entry : B → A) (slot : B →
   IsCollected n =
       Collected n ⊎ ((all_of (all n) ≡ None) × (each_below made n ≡ None))
 
-  kept-next : (n : ℕ) (o : Option (List A)) → made n ≡ o
-      → kept (suc n) ≡ kept n ++ cond (is_kept o) (n ∷ []) []
-  kept-next n o is =
-      ap (filter (λ i. is_kept (made i))) (range-next n)
-      ∙ filter-append (λ i. is_kept (made i)) (range_with_len 0 n) (n ∷ [])
-      ∙ ap (λ (o : Option (List A)). kept n ++ cond (is_kept o) (n ∷ []) []) is
-
   -- one slot further
   more : (n : ℕ) (c : Collected n) (o : Option (List A)) → made n ≡ o → IsCollected (suc n)
   more n c None is =
@@ -122,7 +125,7 @@ module _ {A B : Type 0} (item : ℕ → A → B) (entry : B → A) (slot : B →
         are = both ∙ ap (λ (o : Option (List B)). join o (Some [])) c.are;
         table = rw (c.table, is)
             (ap (λ (xs : List A). Some xs) (sym (map-append entry c.items [])));
-        rows = kept-next n (Some []) is ∙ ap (λ (xs : List ℕ). xs ++ []) c.rows
+        rows = kept-next made n (Some []) is ∙ ap (λ (xs : List ℕ). xs ++ []) c.rows
             ∙ sym (map-append slot c.items []);
       })
   more n c (Some (x ∷ [])) is =
@@ -137,7 +140,7 @@ module _ {A B : Type 0} (item : ℕ → A → B) (entry : B → A) (slot : B →
         table = rw (c.table, is)
             (ap (λ (y : A). Some (map entry c.items ++ y ∷ [])) (sym (entries n x))
             ∙ ap (λ (xs : List A). Some xs) (sym (map-append entry c.items (item n x ∷ []))));
-        rows = kept-next n (Some (x ∷ [])) is ∙ ap (λ (xs : List ℕ). xs ++ n ∷ []) c.rows
+        rows = kept-next made n (Some (x ∷ [])) is ∙ ap (λ (xs : List ℕ). xs ++ n ∷ []) c.rows
             ∙ ap (λ (i : ℕ). map slot c.items ++ i ∷ []) (sym (slots n x))
             ∙ sym (map-append slot c.items (item n x ∷ []));
       })

@@ -16,7 +16,7 @@ use Rattle.goblin_pe_import.specs.ImportReadings.{import_data, libraries_at, rea
 use Rattle.goblin_pe_import.specs.ImportRecords.{ImportedLibrary, NumberedLibrary}
 use Rattle.goblin_pe_import.specs.TableSums.{amount_of}
 use Rattle.goblin_pe_import.specs.added.LeftOut.{libraries_of_directory}
-use Rattle.goblin_pe_import.proofs.ImportBound.{pair_of-left}
+use Rattle.readings.proofs.Pairs.{both}
 use Rattle.goblin_pe_import.proofs.added.LeftOutLibraries.{front_has_none, none_made}
 use Rattle.goblin_pe_import.proofs.LibraryIndexes.{unnumbered}
 use Rattle.goblin_pe.specs.added.Damages.{imports_left_out_at, left_out_of}
@@ -99,7 +99,7 @@ module _ (opts : ParseOptions) (addressing : Addressing) (places : TablePlaces) 
   unfolding table_parts numbered_data_part left_out_of
   tables_same bytes none t is =
       let m = mapped _ _ t is in
-      let imports = pair_of-left _ _ m.value.0 (pair_of-left _ _ m.value m.is) in
+      let imports = (both _ _ m.value.0 (both _ _ m.value m.is).first).first in
       let same = part_unhidden (place_by addressing (directory_at places 1)) m.value.0.0
       (imports_unhidden (entry_format places.magic) addressing bytes opts.parse_imports (directory_at places 1) m.value.0.0 imports none) in
       ap (permissive_tables opts addressing places) (sym m.made)

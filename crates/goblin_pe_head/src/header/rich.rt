@@ -324,7 +324,7 @@ pub(crate) fn dans_place(stretch: &[u8], key: u32) -> Option<usize>
 }
 
 // The first of `count` positions at which `word` lies.
-#[tactic(auto, using(crate::proofs::WordPlaces::found_at, crate::proofs::WordPlaces::found_none))]
+#[tactic(auto, using(goblin_base::proofs::Parts::found_at, goblin_base::proofs::Parts::found_none))]
 fn word_place(bytes: &[u8], count: usize, word: u32) -> Option<usize>
     requires { count ≤ length bytes.now - 3 }
     ensures value { result ≡ least_below count (λ i. word_at bytes.now i == word) }

@@ -1,7 +1,8 @@
 use Rattle.std.proofs.Common.{◌≡◌, ◌+◌, sym, ◌∙◌, inl, inr, arith, rules, ◌==◌}
 use Rattle.std.proofs.lemmas.Bool.{cases_lt, eq-eqb, ne_eqb}
 use Rattle.goblin_pe_head.specs.RichHeader.{word_at}
-use Rattle.goblin_pe_head.proofs.WordPlaces.{found_at, passed_over}
+use Rattle.goblin_base.proofs.Parts.{found_at}
+use Rattle.goblin_pe_head.proofs.WordPlaces.{passed_over}
 use Rattle.goblin_pe_head.proofs.header.rich.word_place.Goals as goal
 use Rattle.goblin_pe_head.proofs.header.rich.word_place.Goals.{else-at-count-via-then-at-count+else-field_u32-word, else-at-count-via-else-at-count}
 
