@@ -96,13 +96,11 @@ record IsRichOf (stretch : List ℕ) (r : Rich) : Type 0 where
 
 rich_between-is : (stretch : List ℕ) (key j i : ℕ) (r : Rich) → i ≤ length stretch → rich_between stretch key j i ≡ Some (Some r) → IsRichOf stretch r
 rich_between-is stretch key j i r inside e =
-    let own = slice_range stretch (j + 4) i in
-    let made : Rich = record { key = key; bytes = own; padding_size = 4 * leading_words key own; start_offset = 64 + j; end_offset = 64 + i } in
-    let both = cond_some (nat_lt (j + 4) i && ((i - j - 4) % 4 == 0)) (Some made) (Some r) e in
+    let both = cond_some (nat_lt (j + 4) i && ((i - j - 4) % 4 == 0)) _ (Some r) e in
     let tests = and_parts (nat_lt (j + 4) i) ((i - j - 4) % 4 == 0) both.0 in
     let words : (i - j - 4) % 4 ≡ 0 = eqb-true ((i - j - 4) % 4) 0 tests.1 in
     let same : i - (j + 4) ≡ i - j - 4 = omega arith in
-    subst (IsRichOf stretch) (same_value made r both.1) (record { start = j + 4; end = i; inside = inside; words = rw same words; bytes = refl; padding = refl })
+    subst (IsRichOf stretch) (same_value _ r both.1) (record { start = j + 4; end = i; inside = inside; words = rw same words; bytes = refl; padding = refl })
 
 -- the data after the padding are entries
 entries_after : (stretch : List ℕ) (r : Rich) → IsBytes stretch → IsRichOf stretch r → AreEntriesOf r.key (drop r.padding_size r.bytes) (metadata_items r.key (drop r.padding_size r.bytes))

@@ -7,7 +7,8 @@ use Rattle.goblin_base.specs.declared.endian.Endian.TheVariants.{Little}
 use Rattle.goblin_base.proofs.Fronts.{HaveFront, slice-front}
 use Rattle.goblin_base.proofs.Numbers.{number-slice, read_number}
 use Rattle.goblin_base.proofs.Parts.{find_is, find_none, least_place-high}
-use Rattle.goblin_base.proofs.Steps.{mapped, step}
+use Rattle.std.proofs.lemmas.Option.{cond_some}
+use Rattle.goblin_base.proofs.Steps.{mapped, same_value, step}
 use Rattle.goblin_pe_head.specs.declared.header.dos.DosHeader.{DosHeader}
 use Rattle.goblin_pe_head.specs.HeaderLaws.{IsDansAt, IsLeast, IsMarked, IsMarkerAt, RichIsMarked, RichIsUnmarked}
 use Rattle.goblin_pe_head.specs.HeaderReadings.{dos_header, rich_header}
@@ -98,36 +99,18 @@ between stretch i found e =
       made = ap (λ (start : ℕ × List ℕ). rich_between own key start.0 i) m.made ∙ s.then;
     }
 
-same_rich : (test : Bool) (r s : Rich) → cond test (Some (Some r)) None ≡ Some (Some s) → r ≡ s
-same_rich true r s e = cc
-same_rich false r s e = absurd cc
-
 marked_before : (stretch : List ℕ) (marker : Option ℕ) (r : Rich) → marker_place stretch ≡ marker → before_marker stretch marker ≡ Some (Some r) → IsMarkedIn stretch r
 marked_before stretch None r is e = absurd cc
 marked_before stretch (Some i) r is e =
-    let own = stored stretch i in
-    let key = word_at own (i + 4) in
     let s = between stretch i (Some r) e in
-    let j = s.start in
-    let between_them = slice_range own (j + 4) i in
-    let header : Rich = record { key = key; bytes = between_them; padding_size = 4 * leading_words key between_them; start_offset = 64 + j; end_offset = 64 + i } in
-    subst (IsMarkedIn stretch) (same_rich (nat_lt (j + 4) i && ((i - j - 4) % 4 == 0)) header r s.made)
-    (record { end = i; start = j; end_offset = refl; start_offset = refl; marker = is; key = key_is stretch i is; dans = s.dans })
-
-never_none : (test : Bool) (r : Rich) → cond test (Some (Some r)) None ≡ Some None → ⊥
-never_none true r e = absurd cc
-never_none false r e = absurd cc
+    subst (IsMarkedIn stretch) (same_value _ r (cond_some _ _ (Some r) s.made).1)
+    (record { end = i; start = s.start; end_offset = refl; start_offset = refl; marker = is; key = key_is stretch i is; dans = s.dans })
 
 none_before : (stretch : List ℕ) (marker : Option ℕ) → before_marker stretch marker ≡ Some None → marker ≡ None
 none_before stretch None e = refl
 none_before stretch (Some i) e =
-    let own = stored stretch i in
-    let key = word_at own (i + 4) in
-    let s = between stretch i None e in
-    let j = s.start in
-    let between_them = slice_range own (j + 4) i in
-    let header : Rich = record { key = key; bytes = between_them; padding_size = 4 * leading_words key between_them; start_offset = 64 + j; end_offset = 64 + i } in
-    absurd (never_none (nat_lt (j + 4) i && ((i - j - 4) % 4 == 0)) header s.made)
+    let made = (cond_some _ _ None (between stretch i None e).made).1 in
+    absurd cc
 
 pub long_enough : (short : Bool) (found : Option (Option Rich)) (r : Rich) → cond short (Some None) found ≡ Some (Some r) → found ≡ Some (Some r)
 long_enough true found r e = absurd cc
