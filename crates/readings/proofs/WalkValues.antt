@@ -1,8 +1,8 @@
 -- What a walk over a table of slots collects is what the table keeps.
-use Rattle.std.proofs.Common.{◌≡◌, ◌≤◌, ℕ, zero, suc, Bool, true, false, cond, List, [], ◌∷◌, ◌++◌, map, length, Option, Some, None, refl, sym, ap, subst, ◌∙◌, ◌-◌, append-nil, arith, ◌⊎◌, inl, inr, ◌&&◌, not, option_and_then, option_map, is_some}
+use Rattle.std.proofs.Common.{◌≡◌, ◌≤◌, ℕ, zero, suc, Bool, true, false, cond, List, [], ◌∷◌, ◌++◌, map, length, Option, Some, None, refl, sym, ap, subst, ◌∙◌, add-one, ◌+◌, append-nil, arith, ◌⊎◌, inl, inr, ◌&&◌, not, option_and_then, option_map, is_some}
 use Rattle.std.specs.List.{filter, range_with_len}
-use Rattle.std.proofs.iter.Rest.{range_with_len_last}
-use Rattle.std.proofs.lemmas.List.{map-append}
+use Rattle.std.proofs.lemmas.List.FromFn.{map-range_with_len_more}
+use Rattle.std.proofs.lemmas.List.{map-append, map-id}
 use Rattle.std.proofs.lemmas.List.Elements.{filter-append}
 use Rattle.goblin_base.specs.Answers.{all_of}
 use Rattle.goblin_base.specs.Tables.{concat_below, each_below, is_kept, join}
@@ -63,12 +63,20 @@ joined-end {B = B} false end (Some xs) = ap (λ (ys : List B). Some ys) (append-
 
 pub range-next : (n : ℕ) → range_with_len 0 (suc n) ≡ range_with_len 0 n ++ n ∷ []
 range-next n =
-    let whole : suc n - 0 ≡ suc n = omega arith in
-    let front : suc n - 1 - 0 ≡ n = omega arith in
-    let last : suc n - 1 ≡ n = omega arith in
-    sym (ap (range_with_len 0) whole) ∙ range_with_len_last 0 (suc n) (omega arith)
-    ∙ ap (λ m. range_with_len 0 m ++ (suc n - 1) ∷ []) front
-    ∙ ap (λ m. range_with_len 0 n ++ m ∷ []) last
+    ap (range_with_len 0) (sym (add-one n)) ∙ sym (map-id (range_with_len 0 (n + 1)))
+    ∙ map-range_with_len_more (λ (i : ℕ). i) 0 n n (omega arith)
+    ∙ ap (λ (ns : List ℕ). ns ++ n ∷ []) (map-id (range_with_len 0 n))
+
+-- the items of one slot more
+all_of-next : {A B : Type 0} (item : ℕ → A → B) (made : ℕ → Option (List A)) (n : ℕ)
+    (o : Option (List A)) → made n ≡ o
+    → all_of (concat_below (λ i. items_of (item i) (made i)) (suc n))
+    ≡ join (all_of (concat_below (λ i. items_of (item i) (made i)) n)) (option_map (map (item n)) o)
+all_of-next {B = B} item made n o is =
+    let all = concat_below (λ i. items_of (item i) (made i)) n in
+    all_of-append all (items_of (item n) (made n))
+    ∙ ap (λ (o : Option (List B)). join (all_of all) o)
+    (all_of-items (item n) (made n) ∙ ap (option_map (map (item n))) is)
 
 -- which numbers have pieces that keep something, with one number more
 pub kept-next : {A : Type 0} (made : ℕ → Option (List A)) (n : ℕ) (o : Option (List A)) → made n ≡ o
@@ -108,35 +116,24 @@ module _ {A B : Type 0} (item : ℕ → A → B) (entry : B → A) (slot : B →
   -- one slot further
   more : (n : ℕ) (c : Collected n) (o : Option (List A)) → made n ≡ o → IsCollected (suc n)
   more n c None is =
-      let both =
-      all_of-append (all n) (items_of (item n) (made n))
-      ∙ ap (λ (o : Option (List B)). join (all_of (all n)) o)
-      (all_of-items (item n) (made n) ∙ ap (option_map (map (item n))) is)
-      ∙ join-none (all_of (all n)) in
-      inr (both, ap (join (each_below made n)) is ∙ join-none (each_below made n))
+      inr (all_of-next item made n None is ∙ join-none (all_of (all n)), ap (join (each_below made n)) is ∙ join-none (each_below made n))
   more n c (Some []) is =
-      let both =
-      all_of-append (all n) (items_of (item n) (made n))
-      ∙ ap (λ (o : Option (List B)). join (all_of (all n)) o)
-      (all_of-items (item n) (made n) ∙ ap (option_map (map (item n))) is) in
       inl
       (record {
         items = c.items ++ [];
-        are = both ∙ ap (λ (o : Option (List B)). join o (Some [])) c.are;
+        are = all_of-next item made n (Some []) is
+            ∙ ap (λ (o : Option (List B)). join o (Some [])) c.are;
         table = rw (c.table, is)
             (ap (λ (xs : List A). Some xs) (sym (map-append entry c.items [])));
         rows = kept-next made n (Some []) is ∙ ap (λ (xs : List ℕ). xs ++ []) c.rows
             ∙ sym (map-append slot c.items []);
       })
   more n c (Some (x ∷ [])) is =
-      let both =
-      all_of-append (all n) (items_of (item n) (made n))
-      ∙ ap (λ (o : Option (List B)). join (all_of (all n)) o)
-      (all_of-items (item n) (made n) ∙ ap (option_map (map (item n))) is) in
       inl
       (record {
         items = c.items ++ item n x ∷ [];
-        are = both ∙ ap (λ (o : Option (List B)). join o (Some (item n x ∷ []))) c.are;
+        are = all_of-next item made n (Some (x ∷ [])) is
+            ∙ ap (λ (o : Option (List B)). join o (Some (item n x ∷ []))) c.are;
         table = rw (c.table, is)
             (ap (λ (y : A). Some (map entry c.items ++ y ∷ [])) (sym (entries n x))
             ∙ ap (λ (xs : List A). Some xs) (sym (map-append entry c.items (item n x ∷ []))));
@@ -153,8 +150,8 @@ module _ {A B : Type 0} (item : ℕ → A → B) (entry : B → A) (slot : B →
         | inl c ↦ more n c (made n) refl
         | inr none ↦
             inr (
-              all_of-append (all n) (items_of (item n) (made n))
-                  ∙ ap (λ (o : Option (List B)). join o (all_of (items_of (item n) (made n)))) none.0,
+              all_of-next item made n (made n) refl
+                  ∙ ap (λ (o : Option (List B)). join o (option_map (map (item n)) (made n))) none.0,
               ap (λ (o : Option (List A)). join o (made n)) none.1,
             )
       ]
@@ -201,10 +198,7 @@ module _ {A B : Type 0} (item : ℕ → A → B) (made : ℕ → Option (List A)
   below-holds zero items e = subst Holds (same_value [] items e) none
   below-holds (suc n) items e =
       joined n (all_of (walked n)) (made n) items (below-holds n) refl
-      (sym
-      (all_of-append (walked n) (items_of (item n) (made n))
-      ∙ ap (λ (o : Option (List B)). join (all_of (walked n)) o) (all_of-items (item n) (made n)))
-      ∙ e)
+      (sym (all_of-next item made n (made n) refl) ∙ e)
 
   by_end : {V : Type 0} (needed : Bool) (end : Option V) (o : Option (List B)) (items : List B)
       → join o (all_of (end_items needed end)) ≡ Some items → o ≡ Some items
