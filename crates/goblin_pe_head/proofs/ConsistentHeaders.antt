@@ -227,12 +227,7 @@ module _ (h : OptionalHeader) (agree : IsConsistentOptional h) (bytes rest : Lis
       })
 
 pieces : (first second third whole rest : List ℕ) → first ++ (second ++ (third ++ [])) ≡ whole → whole ++ rest ≡ first ++ (second ++ (third ++ rest))
-pieces first second third whole rest is =
-    ap (λ (xs : List ℕ). xs ++ rest) (sym is) ∙ append_assoc first (second ++ (third ++ [])) rest
-    ∙ ap (λ (xs : List ℕ). first ++ xs) (append_assoc second (third ++ []) rest ∙ ap (λ (xs : List ℕ). second ++ (xs ++ rest)) (append-nil third))
-
-there : {A : Type 0} (o : Option A) (P : A → Type 0) (x : A) → IfSome o P → o ≡ Some x → P x
-there o P x holds is = subst (λ (o : Option _). IfSome o P) is holds
+pieces first second third whole rest is = ap (λ (xs : List ℕ). xs ++ rest) (sym is) ∙ simp (append_assoc, append-nil)
 
 -- an optional header that was written is read again
 record IsRead (bytes : List ℕ) (h : OptionalHeader) : Type 0 where
@@ -250,7 +245,7 @@ optional-again h written bytes rest agree fields made is =
           record {
             size = 96 + 8 * h.windows_fields.number_of_rva_and_sizes;
             is = narrow-again h agree bytes rest own.value magic own.is (is ∙ pieces (encoding Little (standard_32_fields (standard_to_32 h.standard_fields))) (encoding Little (windows_32_fields own.value)) (encoding Little (entries_fields h.data_directories.data_directories)) written rest own.made) back.0
-                (there (windows_to_32 h.windows_fields) (ReadsBack 68 windows_32_record windows_32_fields) own.value back.1 own.is);
+                (subst (λ (o : Option WindowsFields32). IfSome o (ReadsBack 68 windows_32_record windows_32_fields)) own.is back.1);
           }
       | inr wide ↦
           let magic = eqb-true h.standard_fields.magic 0x20B wide.0 in

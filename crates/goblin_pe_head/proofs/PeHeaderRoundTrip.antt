@@ -118,13 +118,15 @@ of_dos bytes h is = rw (is.magic, is.own, is.signature) refl
 -- an optional header that is there ends within the file, and is written as its bytes
 record IsOptionalPart (bytes : List ℕ) (p : ℕ) (optional : Option OptionalHeader) : Type 0 where
   pub end : end_after p optional ≤ length bytes
-  pub written : IsSomeAnd (written_part Little optional) (λ xs. take (p + 24) bytes ++ (xs ++ []) ≡ take (end_after p optional) bytes ++ filling_after optional)
+  pub own : List ℕ
+  pub is : written_part Little optional ≡ Some own
+  pub written : take (p + 24) bytes ++ (own ++ []) ≡ take (end_after p optional) bytes ++ filling_after optional
 
 part : (bytes : List ℕ) (p : ℕ) (none : Bool) (optional : Option OptionalHeader) → IsBytes bytes → p + 24 ≤ length bytes
     → cond none (Some None) (option_map (λ (header : OptionalHeader × ℕ). Some header.0) (optional_header.value (drop (p + 24) bytes))) ≡ Some optional
     → IsOptionalPart bytes p optional
 unfolding OptionalWritesBack
-part bytes p true optional h room e = subst (IsOptionalPart bytes p) (same_value None optional e) (record { end = room; written = refl })
+part bytes p true optional h room e = subst (IsOptionalPart bytes p) (same_value None optional e) (record { end = room; own = []; is = refl; written = refl })
 part bytes p false optional h room e =
     let at = p + 24 in
     let found = mapped (optional_header.value (drop at bytes)) (λ (header : OptionalHeader × ℕ). Some header.0) optional e in
@@ -135,22 +137,13 @@ part bytes p false optional h room e =
     let place : at + n ≡ at + optional_size header = ap (λ (k : ℕ). at + k) back.0 in
     let here : IsOptionalPart bytes p (Some header) = record {
       end = omega (arith, back.0, back.1, long, room);
-      written = rw back.2 (
-          ap (λ (xs : List ℕ). take at bytes ++ xs) (append-nil (take n (drop at bytes) ++ filling header))
+      own = take n (drop at bytes) ++ filling header;
+      is = back.2;
+      written = ap (λ (xs : List ℕ). take at bytes ++ xs) (append-nil (take n (drop at bytes) ++ filling header))
           ∙ front_more bytes at n (take n (drop at bytes)) (filling header) refl
-          ∙ ap (λ (k : ℕ). take k bytes ++ filling header) place);
+          ∙ ap (λ (k : ℕ). take k bytes ++ filling header) place;
     } in
     subst (IsOptionalPart bytes p) found.made here
-
--- a value that is there, and what holds of it
-record IsThere {A : Type 0} (o : Option A) (P : A → Type 0) : Type 0 where
-  pub value : A
-  pub is : o ≡ Some value
-  pub holds : P value
-
-there : {A : Type 0} (o : Option A) (P : A → Type 0) → IsSomeAnd o P → IsThere o P
-there None P h = absurd h
-there (Some x) P h = record { value = x; is = refl; holds = h }
 
 pub dos_file : DosWritesBack
 unfolding DosWritesBack
@@ -206,8 +199,7 @@ header_back file h fits e =
     let lies = laid file h fits is in
     let p = h.dos_header.pe_pointer in
     let last = part file p (h.coff_header.size_of_optional_header == 0) h.optional_header fits lies.end is.optional in
-    let bytes = there (written_part Little h.optional_header) (λ xs. take (p + 24) file ++ (xs ++ []) ≡ take (end_after p h.optional_header) file ++ filling_after h.optional_header) last.written in
-    (last.end, ap (option_map (header_parts Little h)) bytes.is ∙ ap (λ (xs : List ℕ). Some xs) (in_front file h bytes.value lies ∙ bytes.holds))
+    (last.end, ap (option_map (header_parts Little h)) last.is ∙ ap (λ (xs : List ℕ). Some xs) (in_front file h last.own lies ∙ last.written))
 
 -- ---- a header depends on the bytes up to its end alone, so it is read again
 

@@ -113,8 +113,8 @@ all_at-map f value n =
 moved-unnamed : (d : ℕ) (sections : List Section)
     → map unnamed (map (section_adjusted d) sections) ≡ map (section_adjusted d) (map unnamed sections)
 unfolding section_adjusted
-moved-unnamed d [] = refl
-moved-unnamed d (s ∷ sections) = rw (moved-unnamed d sections) refl
+moved-unnamed d sections =
+    map-map unnamed (section_adjusted d) sections ∙ sym (map-map (section_adjusted d) unnamed sections)
 
 moved-unnamed_if : (d : ℕ) (sections : Option (List Section))
     → option_map (map unnamed) (option_map (map (section_adjusted d)) sections)

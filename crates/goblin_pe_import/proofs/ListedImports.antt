@@ -2,6 +2,7 @@
 use Rattle.std.proofs.Common.{◌≡◌, ℕ, zero, suc, ◌+◌, ◌*◌, ◌<◌, ◌≤◌, ◌^◌, ◌&&◌, Bool, true, cond, not, List, [], ◌∷◌, ◌++◌, length, map, Option, Some, None, IsSome, refl, sym, ap, subst, arith, ◌∙◌, slice_get, slice_range, unwrap_or, get_or, lt-ltb, eq-eqb, length-append, is_some}
 use Rattle.std.specs.List.{All, filter, range_with_len}
 use Rattle.readings.proofs.WalkValues.{kept-next}
+use Rattle.std.proofs.lemmas.List.Elements.{All-append, All-cons, All-head, All-nil, All-tail}
 use Rattle.std.proofs.lemmas.Option.{slice_get-get_or}
 use Rattle.goblin_base.specs.declared.endian.Endian.TheVariants.{Little}
 use Rattle.goblin_base.specs.Answers.{◌>>=◌, all_of}
@@ -29,21 +30,12 @@ use Rattle.goblin_pe_import.specs.Imports.{has_slots, import_at, import_of, impo
 
 -- ---- what holds of each of a list
 
-module _ {A : Type 0} (P : A → Type 0) where
-  abbrev Each : List A → Type 0
-  Each [] = Unit {0}
-  Each (x ∷ xs) = P x × Each xs
-
-  each-append : (xs ys : List A) → Each xs → Each ys → Each (xs ++ ys)
-  each-append [] ys h k = k
-  each-append (x ∷ xs) ys h k = (h.0, each-append xs ys h.1 k)
-
-  each_below-each : (piece : ℕ → Option (List A)) (n : ℕ) → ((j : ℕ) (xs : List A) → piece j ≡ Some xs → Each xs) → (ys : List A) → each_below piece n ≡ Some ys → Each ys
-  each_below-each piece zero own ys e = subst Each (same_value [] ys e) tt
-  each_below-each piece (suc n) own ys e =
-      let parts = join-parts (each_below piece n) (piece n) ys e in
-      let before = each_below-each piece n own parts.0 parts.2 in
-      subst Each (sym parts.4) (each-append parts.0 parts.1 before (own n parts.1 parts.3))
+each_below-each : {A : Type 0} (P : A → Type 0) (piece : ℕ → Option (List A)) (n : ℕ) → ((j : ℕ) (xs : List A) → piece j ≡ Some xs → All P xs) → (ys : List A) → each_below piece n ≡ Some ys → All P ys
+each_below-each P piece zero own ys e = subst (All P) (same_value [] ys e) (All-nil P)
+each_below-each P piece (suc n) own ys e =
+    let parts = join-parts (each_below piece n) (piece n) ys e in
+    let before = each_below-each P piece n own parts.0 parts.2 in
+    subst (All P) (sym parts.4) (All-append P parts.0 parts.1 before (own n parts.1 parts.3))
 
 -- ---- values that are all there
 
@@ -131,7 +123,7 @@ module _ (strict : Bool) (format : Format EntryValue) (addressing : Addressing) 
     pub address-low : (p : ℕ) → (import_record Little (slice_range file p (p + 20))).import_address_table_rva < 2 ^ 32
     address-low p = number-lt Little 4 (slice_range file p (p + 20)) 16 (IsBytes-slice file p 20 bytes)
 
-    libraries_at-listed : (o : ℕ) (xs : List ImportedLibrary) → (directory.libraries_at strict format addressing o).value file ≡ Some xs → Each IsListed xs
+    libraries_at-listed : (o : ℕ) (xs : List ImportedLibrary) → (directory.libraries_at strict format addressing o).value file ≡ Some xs → All IsListed xs
     unfolding slot_table
     libraries_at-listed o xs e =
         let piece : ImportDirectoryEntry → Option (List ImportedLibrary) = λ r. or_left_out strict ((directory.library_of strict format addressing r).value file) in
@@ -142,11 +134,11 @@ module _ (strict : Bool) (format : Format EntryValue) (addressing : Addressing) 
         let s = step (slot_at import_slots file o j) piece ys is in
         let record_there = record_at-some 20 (import_record Little) file (slot_place import_slots o j) s.value s.is in
         let low : s.value.import_address_table_rva < 2 ^ 32 = subst (λ (r : ImportDirectoryEntry). r.import_address_table_rva < 2 ^ 32) (sym record_there.is) (address-low (slot_place import_slots o j)) in
-        left_out-or strict ((directory.library_of strict format addressing s.value).value file) ys (Each IsListed) tt (λ l here. (library-listed s.value l low here, tt)) s.then)
+        left_out-or strict ((directory.library_of strict format addressing s.value).value file) ys (All IsListed) (All-nil IsListed) (λ l here. All-cons IsListed l [] (library-listed s.value l low here) (All-nil IsListed)) s.then)
         xs made
 
-    imported : (rva : ℕ) (xs : List ImportedLibrary) → (directory.import_data strict format addressing rva).value file ≡ Some xs → Each IsListed xs
-    imported rva xs e = in_directory strict format addressing file rva xs e (Each IsListed) tt (λ o is here. libraries_at-listed o xs here)
+    imported : (rva : ℕ) (xs : List ImportedLibrary) → (directory.import_data strict format addressing rva).value file ≡ Some xs → All IsListed xs
+    imported rva xs e = in_directory strict format addressing file rva xs e (All IsListed) (All-nil IsListed) (λ o is here. libraries_at-listed o xs here)
 
   -- ---- the imports of a library that has its slots
 
@@ -180,12 +172,12 @@ module _ (strict : Bool) (format : Format EntryValue) (addressing : Addressing) 
         let counted : has_slots library ≡ true = eq-eqb (length (kept_entries library)) (length library.import_lookup_slots) listed.0.0 in
         rw counted (imports_by-there library.name library.import_directory_entry.import_address_table_rva (kept_entries library) library.import_lookup_slots listed.1 listed.0.0 listed.0.1)
 
-    step-there : (libraries : List ImportedLibrary) (i : ℕ) → Each IsListed libraries → i < length libraries → IsSome (slice_get libraries i >>= library_imports format.width)
+    step-there : (libraries : List ImportedLibrary) (i : ℕ) → All IsListed libraries → i < length libraries → IsSome (slice_get libraries i >>= library_imports format.width)
     step-there [] i listed below = absurd (omega (arith, below))
-    step-there (x ∷ xs) zero listed below = library-there x listed.0
-    step-there (x ∷ xs) (suc i) listed below = step-there xs i listed.1 (omega (arith, below))
+    step-there (x ∷ xs) zero listed below = library-there x (All-head IsListed x xs listed)
+    step-there (x ∷ xs) (suc i) listed below = step-there xs i (All-tail IsListed x xs listed) (omega (arith, below))
 
-    imports-there : (libraries : List ImportedLibrary) → Each IsListed libraries → IsSome (imports_of format.width libraries)
+    imports-there : (libraries : List ImportedLibrary) → All IsListed libraries → IsSome (imports_of format.width libraries)
     unfolding imports_of
     imports-there libraries listed =
         each_below-there (λ i. slice_get libraries i >>= library_imports format.width) (length libraries) (λ i below. step-there libraries i listed below)
