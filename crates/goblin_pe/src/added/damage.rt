@@ -116,8 +116,10 @@ impl Layout<'_> {
 
 // What strict mode refuses in a file whose header and sections these options read, in a view.
 #[tactic(auto, unfolding(crate::specs::Whole::layout))]
-fn file_damage(alloc: Global, bytes: &[u8], view: View, opts: &ParseOptions) -> Result<Damage>
+fn damage_of(alloc: Global, bytes: &[u8], view: View, opts: &ParseOptions) -> Result<Damage>
     ensures tells { TellsDamage view opts.now bytes.now result }
+    ensures sound { IfOk result
+        (λ d. IsSound d → IsReadByBoth (whole_in view) opts.now bytes.now) }
     ensures grown { IfErr result
         (λ e.
         IsMemory e → IsSomeAnd ((pe_header (is_strict opts.now.parse_mode)).value bytes.now)
@@ -136,19 +138,6 @@ fn file_damage(alloc: Global, bytes: &[u8], view: View, opts: &ParseOptions) -> 
         left_out,
         left_out_exports,
     })
-}
-
-// The same, with what it says of both modes.
-fn damage_of(alloc: Global, bytes: &[u8], view: View, opts: &ParseOptions) -> Result<Damage>
-    ensures tells { TellsDamage view opts.now bytes.now result }
-    ensures sound { IfOk result
-        (λ d. IsSound d → IsReadByBoth (whole_in view) opts.now bytes.now) }
-    ensures grown { IfErr result
-        (λ e.
-        IsMemory e → IsSomeAnd ((pe_header (is_strict opts.now.parse_mode)).value bytes.now)
-        TakesIndex) }
-{
-    file_damage(alloc, bytes, view, opts)
 }
 
 impl Whole<'_> {
