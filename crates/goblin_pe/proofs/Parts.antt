@@ -1,6 +1,6 @@
 -- What becomes of a table that was asked for, as a part of a file.
-use Rattle.std.proofs.Common.{◌≡◌, ℕ, List, Bool, true, false, Option, Some, None, option_map, refl, ap, subst, ◌∙◌}
-use Rattle.std.specs.Prelude.{Result, Ok, Err}
+use Rattle.std.proofs.Common.{◌≡◌, ℕ, List, Bool, true, false, Option, Some, None, option_map, refl, ap, subst, ◌∙◌, inl, inr}
+use Rattle.std.specs.Prelude.{◌⊎◌, IfOk, Result, Ok, Err}
 use Rattle.goblin_base.specs.declared.error.ErrorOf.{ErrorOf}
 use Rattle.goblin_base.specs.declared.error.ErrorOf.TheVariants.{BadMagic, BufferTooShort, Malformed, Memory, Read}
 use Rattle.goblin_base.specs.Answers.{Answers, AnswersOrMemory, IsMemory}
@@ -10,7 +10,7 @@ use Rattle.goblin_pe_sect.specs.declared.data_directories.DataDirectory.{DataDir
 use Rattle.goblin_pe.specs.declared.whole.Part.{Part}
 use Rattle.goblin_pe.specs.declared.whole.Part.TheVariants.{Absent, Refused}
 use Rattle.goblin_pe.specs.declared.whole.Part.TheVariants as part
-use Rattle.goblin_pe.specs.Whole.{BecomesPart, part_at, part_map, part_of}
+use Rattle.goblin_pe.specs.Whole.{BecomesPart, IfRead, part_at, part_map, part_of}
 
 abbrev IsNoMemory : {X : Type 0} → Result X ErrorOf → Type 0
 IsNoMemory (Ok x) = Unit {0}
@@ -22,58 +22,49 @@ no_memory : {X Y : Type 0} (view : X → Y) (r : Reading Y) (bytes : List ℕ)
 no_memory view r bytes (Ok x) h = tt
 no_memory view r bytes (Err e) h = r.not_memory bytes e h.1
 
-answers_or_memory : {X Y : Type 0} (view : X → Y) (value : Option Y) (IsCause : ErrorOf → Type 0)
-    (made : Result X ErrorOf) → Answers view made value IsCause
-    → AnswersOrMemory view made value IsCause
-answers_or_memory view value IsCause (Ok x) h = h
-answers_or_memory view value IsCause (Err e) h = λ other. h
+-- what becomes of a refusal: both modes pass on that of memory, and permissive mode no other
+becomes_refused : {A : Type 0} (strict : Bool) (e : ErrorOf) (made : Result (Part A) ErrorOf)
+    → BecomesPart strict (Err e) made
+    → ((made ≡ Err e) × (¬ IsMemory e → strict ≡ true))
+    ⊎ ((made ≡ Ok Refused) × (strict ≡ false) × ¬ IsMemory e)
+becomes_refused strict (Memory m) made is = inl (is, λ other. absurd (other tt))
+becomes_refused true (Malformed c) made is = inl (is, λ other. refl)
+becomes_refused false (Malformed c) made is = inr (is, refl, λ m. m)
+becomes_refused true (BadMagic n) made is = inl (is, λ other. refl)
+becomes_refused false (BadMagic n) made is = inr (is, refl, λ m. m)
+becomes_refused true (BufferTooShort n w) made is = inl (is, λ other. refl)
+becomes_refused false (BufferTooShort n w) made is = inr (is, refl, λ m. m)
+becomes_refused true (Read f) made is = inl (is, λ other. refl)
+becomes_refused false (Read f) made is = inr (is, refl, λ m. m)
+
+-- what holds of a table holds of the part that it becomes
+pub becomes_kept : {X : Type 0} (P : X → Type 0) (strict : Bool) (asked : Result X ErrorOf)
+    (made : Result (Part X) ErrorOf) → IfOk asked P → BecomesPart strict asked made
+    → IfOk made (IfRead P)
+becomes_kept P strict (Ok x) made h is = rw is h
+becomes_kept P strict (Err e) made h is =
+    elim (becomes_refused strict e made is) [ inl r ↦ rw (r.0) tt | inr r ↦ rw (r.0) tt ]
 
 module _ {X Y : Type 0} (view : X → Y) (value : Option Y) (IsCause : ErrorOf → Type 0)
     (made : Result (Part X) ErrorOf) where
-  refused_strictly : (e : ErrorOf) → made ≡ Err e → (value ≡ None) × IsCause e
-      → Answers (part_map view) made (part_of true value) IsCause
-  refused_strictly e is fault = rw (is, fault.0) (refl, fault.1)
-
-  kept_refused : made ≡ Ok Refused → value ≡ None
-      → Answers (part_map view) made (part_of false value) IsCause
-  kept_refused is none = rw (is, none) refl
-
   becomes_answer : (strict : Bool) (asked : Result X ErrorOf) → IsNoMemory asked
       → Answers view asked value IsCause → BecomesPart strict asked made
       → Answers (part_map view) made (part_of strict value) IsCause
   becomes_answer strict (Ok x) other h is = rw (is, h) refl
-  becomes_answer strict (Err (Memory m)) other h is = absurd (other tt)
-  becomes_answer true (Err (Malformed c)) other h is = refused_strictly (Malformed c) is h
-  becomes_answer false (Err (Malformed c)) other h is = kept_refused is h.0
-  becomes_answer true (Err (BadMagic n)) other h is = refused_strictly (BadMagic n) is h
-  becomes_answer false (Err (BadMagic n)) other h is = kept_refused is h.0
-  becomes_answer true (Err (BufferTooShort n w)) other h is =
-      refused_strictly (BufferTooShort n w) is h
-  becomes_answer false (Err (BufferTooShort n w)) other h is = kept_refused is h.0
-  becomes_answer true (Err (Read f)) other h is = refused_strictly (Read f) is h
-  becomes_answer false (Err (Read f)) other h is = kept_refused is h.0
-
-  becomes_other : (strict : Bool) (asked : Result X ErrorOf) → IsNoMemory asked
-      → Answers view asked value IsCause → BecomesPart strict asked made
-      → AnswersOrMemory (part_map view) made (part_of strict value) IsCause
-  becomes_other strict asked other h is =
-      answers_or_memory (part_map view) (part_of strict value) IsCause made
-      (becomes_answer strict asked other h is)
+  becomes_answer strict (Err e) other h is = elim (becomes_refused strict e made is) [
+    | inl r ↦ rw (r.0, r.1 other, h.0) (refl, h.1)
+    | inr r ↦ rw (r.0, r.1, h.0) refl
+  ]
 
   -- the part of a table that is made from what was read
   pub becomes_answered : (strict : Bool) (asked : Result X ErrorOf)
       → AnswersOrMemory view asked value IsCause → BecomesPart strict asked made
       → AnswersOrMemory (part_map view) made (part_of strict value) IsCause
-  becomes_answered strict (Ok x) h is = becomes_other strict (Ok x) tt h is
-  becomes_answered strict (Err (Memory m)) h is = rw is (λ other. absurd (other tt))
-  becomes_answered strict (Err (Malformed c)) h is =
-      becomes_other strict (Err (Malformed c)) (λ m. m) (h (λ m. m)) is
-  becomes_answered strict (Err (BadMagic n)) h is =
-      becomes_other strict (Err (BadMagic n)) (λ m. m) (h (λ m. m)) is
-  becomes_answered strict (Err (BufferTooShort n w)) h is =
-      becomes_other strict (Err (BufferTooShort n w)) (λ m. m) (h (λ m. m)) is
-  becomes_answered strict (Err (Read f)) h is =
-      becomes_other strict (Err (Read f)) (λ m. m) (h (λ m. m)) is
+  becomes_answered strict (Ok x) h is = rw (is, h) refl
+  becomes_answered strict (Err e) h is = elim (becomes_refused strict e made is) [
+    | inl r ↦ rw (r.0) (λ other. rw (r.1 other, (h other).0) (refl, (h other).1))
+    | inr r ↦ rw (r.0, r.1, (h r.2).0) refl
+  ]
 
 module _ {X Y : Type 0} (view : X → Y) (r : Reading Y) (bytes : List ℕ) (strict : Bool)
     (asked : Result X ErrorOf) (made : Result (Part X) ErrorOf) where

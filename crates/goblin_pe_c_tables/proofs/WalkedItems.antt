@@ -24,7 +24,6 @@ use Rattle.goblin_pe_import.specs.KeptEntries.{entries_from}
 use Rattle.goblin_pe_import.specs.declared.added.imports.ImportCursor.{ImportCursor}
 use Rattle.goblin_pe_import.proofs.added.ImportsValue.{imports-value}
 use Rattle.goblin_pe_import.proofs.added.ImportsWalk.{imports-once}
-use Rattle.goblin_pe_import.proofs.LibraryIndexes.{unnumbered}
 use Rattle.goblin_pe_export.specs.added.ExportAddresses.{export_addresses, without_names}
 use Rattle.goblin_pe_export.specs.ExportReadings.{export_data, numbered_read}
 use Rattle.goblin_pe_export.specs.ExportRecords.{ExportTables, NumberedExport}
@@ -37,8 +36,7 @@ use Rattle.goblin_pe.specs.Whole.{IfRead, NumberedTables, TablePlaces, collected
 use Rattle.goblin_pe.specs.declared.whole.Part.{Part}
 use Rattle.goblin_pe.specs.declared.whole.Part.TheVariants.{Absent, Refused}
 use Rattle.goblin_pe.specs.declared.whole.Part.TheVariants as part
-use Rattle.goblin_pe.proofs.added.WalkedParts.{data-there}
-use Rattle.goblin_pe.proofs.added.SoundFiles.{unmapped-there}
+use Rattle.goblin_pe.proofs.added.WalkedParts.{numbered-there}
 use Rattle.goblin_pe_c_headers.specs.Onward.{unrefused}
 use Rattle.goblin_pe_c_headers.specs.Options.{alignment_by, alignment_in, header_options, longest_of, options_at, options_in, view_of}
 use Rattle.goblin_pe_c_headers.specs.declared.options.PeOptions.{PeOptions}
@@ -107,9 +105,7 @@ module _ (m : MapOfAddresses) (magic : ℕ) (bytes : List ℕ) (octets : IsBytes
 
   -- permissive mode refuses no import directory
   there : (rva : ℕ) → reads_strictly m ≡ false → IsSome ((numbered_data (reads_strictly m) format m.addressing rva).value bytes)
-  there rva permissive =
-      unmapped-there _ _ _ (unnumbered (reads_strictly m) format m.addressing bytes rva)
-      (data-there format m.addressing bytes (reads_strictly m) rva permissive)
+  there rva = numbered-there format m.addressing bytes (reads_strictly m) rva
 
   abbrev Begins : Option ImportCursor → Part (List NumberedLibrary) → Type 0
   Begins begin p = IsSomeAnd begin (λ c. cursor_left m format bytes c ≡ unrefused (items_in (imports_in magic p)))

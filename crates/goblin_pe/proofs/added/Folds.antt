@@ -19,24 +19,24 @@ use Rattle.readings.proofs.Walked.{AtWalk, walk-all, walk-fault, walk-more, walk
 pub record Gathers {B : Type 0} (gather : List NumberedImport → B) (start now : FileImports) (value : B) : Type 0 where
   pub items : List NumberedImport
   pub at : AtWalk file_imports_left IsFileImportsCause start now items
-  pub said : value ≡ gather items
+  pub is : value ≡ gather items
 
 pub gathers_start : {B : Type 0} (gather : List NumberedImport → B) (start : FileImports) (value : B) → value ≡ gather [] → Gathers gather start start value
-gathers_start gather start value is = record { items = []; at = walk-start file_imports_left IsFileImportsCause start; said = is }
+gathers_start gather start value is = record { items = []; at = walk-start file_imports_left IsFileImportsCause start; is = is }
 
 module _ {B : Type 0} (gather : List NumberedImport → B) (start now next : FileImports) (value : B) (h : Gathers gather start now value) where
   -- one import more
   pub gathers_more : (r : Result WalkedImport ErrorOf) (x : WalkedImport) (more : B) → GivesFileImport now (Some r) next → r ≡ Ok x → more ≡ gather (h.items ++ walked_value x ∷ []) → Gathers gather start next more
-  gathers_more r x more given is said = record {
+  gathers_more r x more given is value_is = record {
     items = h.items ++ walked_value x ∷ [];
     at = walk-more file_imports_left IsFileImportsCause start now h.items h.at walked_value next x
         (subst (λ (q : Result WalkedImport ErrorOf). GivesNext walked_value file_imports_left IsFileImportsCause now (Some q) next) is given.0);
-    said = said;
+    is = value_is;
   }
 
   -- all imports have come
   pub gathers_all : GivesFileImport now None next → option_map gather (all_of (file_imports_left start)) ≡ Some value
-  gathers_all given = ap (option_map gather) (walk-all file_imports_left IsFileImportsCause start now h.items h.at walked_value next given.0) ∙ ap (λ (b : B). Some b) (sym h.said)
+  gathers_all given = ap (option_map gather) (walk-all file_imports_left IsFileImportsCause start now h.items h.at walked_value next given.0) ∙ ap (λ (b : B). Some b) (sym h.is)
 
   -- they end with a refusal
   pub gathers_fault : (r : Result WalkedImport ErrorOf) (e : ErrorOf) → GivesFileImport now (Some r) next → r ≡ Err e → (option_map gather (all_of (file_imports_left start)) ≡ None) × IsFileImportsCause start e
@@ -54,9 +54,9 @@ one-count p x = omega arith
 -- how many of the imports pass a test
 pub count_more : (p : NumberedImport → Bool) (start now next : FileImports) (count more : ℕ) (r : Result WalkedImport ErrorOf) (x : WalkedImport)
     → Gathers (counted p) start now count → GivesFileImport now (Some r) next → r ≡ Ok x → more ≡ min (count + cond (p (walked_value x)) 1 0) (2 ^ 64 - 1) → Gathers (counted p) start next more
-count_more p start now next count more r x h given is said =
+count_more p start now next count more r x h given is value_is =
     gathers_more (counted p) start now next count h r x more given is
-    (said ∙ ap (λ (n : ℕ). min (n + cond (p (walked_value x)) 1 0) (2 ^ 64 - 1)) h.said
+    (value_is ∙ ap (λ (n : ℕ). min (n + cond (p (walked_value x)) 1 0) (2 ^ 64 - 1)) h.is
     ∙ capped-more (count_by p h.items) (cond (p (walked_value x)) 1 0) (2 ^ 64 - 1)
     ∙ ap (λ (n : ℕ). min n (2 ^ 64 - 1)) (ap (λ (n : ℕ). count_by p h.items + n) (sym (one-count p (walked_value x))) ∙ sym (sum_by-append (λ x. cond (p x) 1 0) h.items (walked_value x ∷ []))))
 
@@ -66,7 +66,7 @@ one-found p x = refl
 -- the first of the imports that passes a test
 pub find_more : (p : NumberedImport → Bool) (start now next : FileImports) (found more : Option NumberedImport) (r : Result WalkedImport ErrorOf) (x : WalkedImport)
     → Gathers (find p) start now found → GivesFileImport now (Some r) next → r ≡ Ok x → more ≡ option_or found (cond (p (walked_value x)) (Some (walked_value x)) None) → Gathers (find p) start next more
-find_more p start now next found more r x h given is said =
+find_more p start now next found more r x h given is value_is =
     let one = cond (p (walked_value x)) (Some (walked_value x)) None in
     gathers_more (find p) start now next found h r x more given is
-    (said ∙ ap (λ (o : Option NumberedImport). option_or o one) h.said ∙ ap (λ (o : Option NumberedImport). option_or (find p h.items) o) (sym (one-found p (walked_value x))) ∙ sym (find-append p h.items (walked_value x ∷ [])))
+    (value_is ∙ ap (λ (o : Option NumberedImport). option_or o one) h.is ∙ ap (λ (o : Option NumberedImport). option_or (find p h.items) o) (sym (one-found p (walked_value x))) ∙ sym (find-append p h.items (walked_value x ∷ [])))

@@ -28,28 +28,18 @@ use Rattle.goblin_pe.specs.added.Damages.{IsDamage, IsDamaged, TellsDamage}
 use Rattle.goblin_pe.specs.added.Layouts.{IsLayoutOf, layout_map, layout_places}
 use Rattle.goblin_pe.specs.Whole.{TablePlaces, layout, mapped_in, places_in, section_table_offset, sections_after}
 
--- ---- what is made of a value
+-- ---- a refusal tells the damage
 
-some_made : {A B : Type 0} (f : A → B) (o : Option A) (b : B) → option_map f o ≡ Some b → IsSome o
-some_made f None b made = absurd cc
-some_made f (Some a) b made = refl
-
--- what is refused is refused whatever would be made of it
-pub refused_made : {A B : Type 0} (f : A → B) (reading : Reading A) (bytes : List ℕ) (e : ErrorOf)
-    → ((mapped f reading).value bytes ≡ None) × reading.IsCause bytes e
-    → IsRefused reading bytes e
-refused_made f reading bytes e refused = (steps.unmapped f (reading.value bytes) refused.0, refused.1)
-
--- a refusal tells the damage
 pub damage_read : {X A : Type 0} (view : X → A) (result : Result X ErrorOf) (reading : Reading A) (bytes : List ℕ)
     → Reads view result reading bytes → IsDamage reading bytes (result_err result)
-damage_read view (Ok x) reading bytes read = some_made (λ x. x) (reading.value bytes) (view x) (ap (option_map (λ x. x)) read)
+damage_read view (Ok x) reading bytes read = rw read refl
 damage_read view (Err e) reading bytes refused = refused
 
+-- so does one of what is made of a value
 pub damage_made : {X A B : Type 0} (view : X → B) (result : Result X ErrorOf) (f : A → B) (reading : Reading A) (bytes : List ℕ)
     → Reads view result (mapped f reading) bytes → IsDamage reading bytes (result_err result)
-damage_made view (Ok x) f reading bytes read = some_made f (reading.value bytes) (view x) read
-damage_made view (Err e) f reading bytes refused = refused_made f reading bytes e refused
+damage_made view (Ok x) f reading bytes read = rw (steps.mapped (reading.value bytes) f (view x) read).is refl
+damage_made view (Err e) f reading bytes refused = (steps.unmapped f (reading.value bytes) refused.0, refused.1)
 
 -- ---- how many sections there are
 

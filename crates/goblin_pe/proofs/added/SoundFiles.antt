@@ -23,14 +23,11 @@ use Rattle.goblin_pe.specs.Whole.{by_layout, NumberedTables, TablePlaces, export
 use Rattle.goblin_pe.specs.Whole.{whole_with}
 use Rattle.goblin_pe.proofs.PermissiveReads.{repeats-table_parts, sections_repeat}
 use Rattle.goblin_pe.proofs.added.UnhiddenImports.{tables_same}
+use Rattle.goblin_pe.proofs.added.WalkedParts.{was-there}
 
 there : {A : Type 0} (reading : Reading A) (bytes : List ℕ) (damage : Option ErrorOf) → damage ≡ None → IsDamage reading bytes damage → IsSome (reading.value bytes)
 there reading bytes None is h = h
 there reading bytes (Some e) is h = absurd cc
-
-pub unmapped-there : {A B : Type 0} (f : A → B) (o : Option A) (made : Option B) → made ≡ option_map f o → IsSome made → IsSome o
-unmapped-there f None made is some = let none = subst IsSome is some in absurd cc
-unmapped-there f (Some x) made is some = refl
 
 placed : {A : Type 0} (strict : Bool) (d : A) (o : Option A) → IsSome o → in_its_place strict d o ≡ o
 placed strict d None some = absurd cc
@@ -87,7 +84,7 @@ module _ (view : View) (opts : ParseOptions) (bytes : List ℕ) where
   tables-there addressing places imports exports relocations left_out no_imports no_exports no_relocations damage =
       let listed = there (import_list (in_mode Strict opts) addressing places) bytes imports no_imports damage.imports in
       mapped-there _ _
-      (all-there (numbered_data_part (in_mode Strict opts) addressing places) (export_part (in_mode Strict opts) addressing places) (relocation_part (in_mode Strict opts) addressing places) bytes (unmapped-there _ _ _ refl listed)
+      (all-there (numbered_data_part (in_mode Strict opts) addressing places) (export_part (in_mode Strict opts) addressing places) (relocation_part (in_mode Strict opts) addressing places) bytes (was-there _ _ listed)
       (there (export_part (in_mode Strict opts) addressing places) bytes exports no_exports damage.exports)
       (there (relocation_part (in_mode Strict opts) addressing places) bytes relocations no_relocations damage.relocations))
 
@@ -139,33 +136,21 @@ module _ (view : View) (opts : ParseOptions) (bytes : List ℕ) where
         let both = sound_read l d is damaged sound in
         rw (made (in_mode Strict opts) l.0 l.1 both.tables both.strictly) (made (in_mode Permissive opts) l.0 l.1 both.tables both.permissively)
 
-    pub sound_reported : (result : Result Damage ErrorOf) → TellsDamage view opts bytes result → IfOk result (λ d. IsSound d → IsReadByBoth read opts bytes)
-    sound_reported (Ok d) tells = sound_damage ((layout opts).value bytes) d refl tells
-    sound_reported (Err e) tells = tt
-
-  -- what it tells for a whole file
+  -- so do both read a whole file
   pub sound_whole : (result : Result Damage ErrorOf) → TellsDamage view opts bytes result → IfOk result (λ d. IsSound d → IsReadByBoth (whole_in view) opts bytes)
   unfolding whole_in whole_with
-  sound_whole result tells =
-      sound_reported (whole_in view) (λ h s t. whole_of h s (lists_of (places_in h.optional_header).magic t)) (λ o h s t read. rw (read.header, read.sections, read.tables) refl) result tells
+  sound_whole (Ok d) tells =
+      sound_damage (whole_in view) (λ h s t. whole_of h s (lists_of (places_in h.optional_header).magic t)) (λ o h s t read. rw (read.header, read.sections, read.tables) refl) _ d refl tells
+  sound_whole (Err e) tells = tt
 
 -- ---- what is made of the tables
-
--- what is read with the header and the sections
-tables-value : {A : Type 0} (opts : ParseOptions) (read : PeHeader → List Section → Reading A) (bytes : List ℕ)
-    (h : PeHeader) → (pe_header (is_strict opts.parse_mode)).value bytes ≡ Some h
-    → (s : List Section) → (sections_after (is_strict opts.parse_mode) h).value bytes ≡ Some s
-    → (by_layout opts read).value bytes ≡ (read h s).value bytes
-tables-value opts read bytes h header s sections = rw (header, sections) refl
 
 module _ {A : Type 0} (make : PeHeader → List Section → NumberedTables → A) (view : View) (opts : ParseOptions) (bytes : List ℕ) where
   abbrev pub made_in : ParseOptions → Reading A
   made_in o = by_layout o (λ h s. reads.mapped (make h s) (tables_with view o h s))
 
   made : (o : ParseOptions) (h : PeHeader) (s : List Section) (t : NumberedTables) → IsRead view o bytes h s t → (made_in o).value bytes ≡ Some (make h s t)
-  made o h s t read =
-      tables-value o (λ h s. reads.mapped (make h s) (tables_with view o h s)) bytes h read.header s read.sections
-      ∙ ap (option_map (make h s)) read.tables
+  made o h s t read = rw (read.header, read.sections, read.tables) refl
 
   -- both modes read the same from a file without damage, if no library is left out
   pub sound_made : (l : PeHeader × List Section) (d : Damage) → (layout opts).value bytes ≡ Some l → IsDamaged view opts l.0 l.1 bytes d → IsSound d → IsReadByBoth made_in opts bytes

@@ -25,33 +25,24 @@ use Rattle.goblin_pe.specs.Whole.{IfRead, NumberedTables, TablePlaces, directory
 use Rattle.goblin_pe.proofs.Parts.{read_from}
 use Rattle.goblin_pe.proofs.PermissiveReads.{place_by, libraries_of, permissive_tables}
 
--- a list is not of the front, or has nothing, so that permissive mode has it, too
+-- permissive mode has the whole list, too
 abbrev IsUnhidden : {A : Type 0} → Option ℕ → List A → Type 0
-IsUnhidden place xs = (is_front place ≡ false) ⊎ (xs ≡ [])
-
-none_left : {A : Type 0} (front : Bool) (xs : List A) → xs ≡ [] → cond front [] xs ≡ xs
-none_left true xs none = sym none
-none_left false xs none = refl
-
-unhidden : {A : Type 0} (place : Option ℕ) (xs : List A) → IsUnhidden place xs
-    → unless_front place xs ≡ xs
-unhidden place xs (inl past) = rw past refl
-unhidden place xs (inr none) = none_left (is_front place) xs none
+IsUnhidden place xs = unless_front place xs ≡ xs
 
 at_place : (format : Format EntryValue) (addressing : Addressing) (bytes : List ℕ) (o : ℕ)
     (xs : List ImportedLibrary) → (libraries_at true format addressing o).value bytes ≡ Some xs
     → libraries_of_directory format addressing bytes o ≡ 0
     → (front : Bool) → (o == 0) ≡ front → IsUnhidden (Some o) xs
-at_place format addressing bytes o xs is none false at = inl at
+at_place format addressing bytes o xs is none false at = rw at refl
 at_place format addressing bytes o xs is none true at =
-    inr (none_made _ true bytes o xs (front_has_none format addressing bytes o at none) is)
+    rw at (sym (none_made _ true bytes o xs (front_has_none format addressing bytes o at none) is))
 
 data_unhidden : (format : Format EntryValue) (addressing : Addressing) (bytes : List ℕ)
     (place : Option ℕ) (xs : List ImportedLibrary)
     → (in_its_place true 0 place
     >>= λ o. (read_past_front true (libraries_at true format addressing) o).value bytes) ≡ Some xs
     → amount_of (libraries_of_directory format addressing bytes) place ≡ 0 → IsUnhidden place xs
-data_unhidden format addressing bytes None xs is none = inl refl
+data_unhidden format addressing bytes None xs is none = refl
 data_unhidden format addressing bytes (Some o) xs is none =
     at_place format addressing bytes o xs is none (o == 0) refl
 
@@ -60,14 +51,14 @@ data_unhidden format addressing bytes (Some o) xs is none =
 part_unhidden : {A : Type 0} (place : Option ℕ) (p : Part (List A)) → IfRead (IsUnhidden place) p
     → part_map (unless_front place) p ≡ p
 part_unhidden place Absent h = refl
-part_unhidden place (part.Read xs) h = ap part.Read (unhidden place xs h)
+part_unhidden place (part.Read xs) h = ap part.Read h
 part_unhidden place Refused h = refl
 
-unhidden_numbered : (place : Option ℕ) (xs : List NumberedLibrary)
-    → IsUnhidden place (map (λ x. x.library) xs) → IsUnhidden place xs
-unhidden_numbered place xs (inl past) = inl past
-unhidden_numbered place [] (inr none) = inr refl
-unhidden_numbered place (x ∷ xs) (inr none) = absurd cc
+unhidden_numbered : (front : Bool) (xs : List NumberedLibrary)
+    → cond front [] (map (λ x. x.library) xs) ≡ map (λ x. x.library) xs → cond front [] xs ≡ xs
+unhidden_numbered false xs e = refl
+unhidden_numbered true [] e = refl
+unhidden_numbered true (x ∷ xs) e = absurd cc
 
 module _ (format : Format EntryValue) (addressing : Addressing) (bytes : List ℕ) where
   imports_unhidden : (asked : Bool) (imports : Option DataDirectory)
@@ -84,7 +75,7 @@ module _ (format : Format EntryValue) (addressing : Addressing) (bytes : List �
       let whole = unnumbered true format addressing bytes from.at.virtual_address
       ∙ ap (option_map (map (λ x. x.library))) from.read in
       rw from.is
-      (unhidden_numbered place xs
+      (unhidden_numbered (is_front place) xs
       (data_unhidden format addressing bytes place _ whole (rw (from.is_asked, from.is) at none)))
   imports_unhidden asked imports Refused e none = tt
 

@@ -4,9 +4,7 @@ use Rattle.std.proofs.Common.{◌≡◌, ℕ, Bool, true, false, cond, List, Opt
 use Rattle.goblin_base.specs.declared.error.ErrorOf.{ErrorOf}
 use Rattle.goblin_base.specs.Answers.{◌>>=◌, all_of}
 use Rattle.goblin_base.specs.Reading.{IsRefused, Reading}
-use Rattle.goblin_base.specs.Tables as tables
-use Rattle.goblin_base.specs.Tables.{Format, ends_table, made_of, slot_at, slot_table, stop}
-use Rattle.goblin_base.proofs.Below.{each_below-there, least-before}
+use Rattle.goblin_base.specs.Tables.{Format}
 use Rattle.readings.specs.Reads.{given, in_its_place, mapped, pick}
 use Rattle.readings.specs.Walks.{IsWalkOf, Walks}
 use Rattle.goblin_pe_sect.specs.declared.data_directories.DataDirectory.{DataDirectory}
@@ -14,41 +12,34 @@ use Rattle.goblin_pe_sect.specs.declared.options.ParseOptions.{ParseOptions}
 use Rattle.goblin_pe_sect.specs.AddressReadings.{offset_at}
 use Rattle.goblin_pe_sect.specs.Options.{is_strict}
 use Rattle.goblin_pe_sect.specs.Addresses.{Addressing}
-use Rattle.goblin_pe_import.specs.declared.import.directory_entry.ImportDirectoryEntry.{ImportDirectoryEntry}
 use Rattle.goblin_pe_import.specs.ImportEntries.{EntryValue}
 use Rattle.goblin_pe_import.specs.ImportReadings.{import_data, kept_library, libraries_at, library_of, numbered_data, read_if, read_past_front}
 use Rattle.goblin_pe_import.specs.ImportRecords.{NumberedLibrary, import_slots}
 use Rattle.goblin_pe_import.specs.Imports.{NumberedImport, numbered_imports}
 use Rattle.goblin_pe_import.proofs.LibraryIndexes.{unnumbered}
+use Rattle.goblin_pe_import.proofs.PermissiveReads.{left-there, table-there}
 use Rattle.goblin_pe.specs.declared.whole.Part.{Part}
 use Rattle.goblin_pe.specs.declared.whole.Part.TheVariants.{Absent}
 use Rattle.goblin_pe.specs.declared.whole.Part.TheVariants as part
 use Rattle.goblin_pe.specs.declared.added.file_imports.FileImports.{FileImports}
 use Rattle.goblin_pe.specs.added.Layouts.{IsFileImportsCause, file_imports_left}
-use Rattle.goblin_pe.specs.Whole.{TablePlaces, directory_at, entry_format, numbered_data_part, import_list, part_at, part_map, part_of, BecomesPart, IfRead}
-use Rattle.std.specs.Prelude.{IfOk, Result, Ok, Err}
-use Rattle.goblin_base.specs.declared.error.ErrorOf.TheVariants.{BadMagic, BufferTooShort, Malformed, Memory, Read}
+use Rattle.goblin_pe.specs.Whole.{TablePlaces, directory_at, entry_format, numbered_data_part, import_list, part_at, part_map, part_of}
+use Rattle.std.specs.Prelude.{IfOk}
 
-left-there : {A : Type 0} (o : Option A) → IsSome (tables.or_left_out false o)
-left-there None = refl
-left-there (Some x) = refl
+-- what a value is made of is there
+pub was-there : {A B : Type 0} (f : A → B) (o : Option A) → IsSome (option_map f o) → IsSome o
+was-there f None some = absurd cc
+was-there f (Some x) some = refl
 
 placed-there : {A B : Type 0} (d : A) (o : Option A) (f : A → Option B) → ((x : A) → IsSome (f x)) → IsSome (in_its_place false d o >>= f)
 placed-there d None f all = all d
 placed-there d (Some x) f all = all x
 
 module _ (format : Format EntryValue) (addressing : Addressing) (bytes : List ℕ) where
-  slot-there : (slot : Option ImportDirectoryEntry) → ends_table import_slots.is_last slot ≡ false → IsSome (slot >>= λ r. (kept_library false format addressing r).value bytes)
-  slot-there None e = absurd cc
-  slot-there (Some r) e = left-there ((library_of false format addressing r).value bytes)
-
   libraries-there : (o : ℕ) → IsSome ((libraries_at false format addressing o).value bytes)
-  unfolding slot_table stop
   libraries-there o =
-      each_below-there (made_of import_slots (λ r. (kept_library false format addressing r).value bytes) bytes o) (stop import_slots bytes o)
-      (λ j below.
-      slot-there (slot_at import_slots bytes o j)
-      (least-before (λ i. ends_table import_slots.is_last (slot_at import_slots bytes o i)) (length bytes) j below))
+      table-there import_slots (λ r. (kept_library false format addressing r).value bytes) bytes o
+      (λ r. left-there ((library_of false format addressing r).value bytes))
 
   past-front-there : (o : ℕ) → IsSome ((read_past_front false (libraries_at false format addressing) o).value bytes)
   past-front-there o = by (not false && o == 0)
@@ -58,16 +49,17 @@ module _ (format : Format EntryValue) (addressing : Addressing) (bytes : List �
       by true = cc
       by false = libraries-there o
 
-  pub data-there : (strict : Bool) (rva : ℕ) → strict ≡ false → IsSome ((import_data strict format addressing rva).value bytes)
+  data-there : (strict : Bool) (rva : ℕ) → strict ≡ false → IsSome ((import_data strict format addressing rva).value bytes)
   unfolding import_data
   data-there true rva permissive = absurd cc
   data-there false rva permissive = placed-there 0 ((offset_at addressing.offset rva).value bytes) (λ o. (read_past_front false (libraries_at false format addressing) o).value bytes) past-front-there
 
--- ---- the part
+  pub numbered-there : (strict : Bool) (rva : ℕ) → strict ≡ false
+      → IsSome ((numbered_data strict format addressing rva).value bytes)
+  numbered-there strict rva permissive =
+      was-there _ _ (subst IsSome (unnumbered strict format addressing bytes rva) (data-there strict rva permissive))
 
-was-there : {A B : Type 0} (f : A → B) (o : Option A) → IsSome (option_map f o) → IsSome o
-was-there f None some = absurd cc
-was-there f (Some x) some = refl
+-- ---- the part
 
 part-value : {A B : Type 0} (kept : List A → List B) (strict : Bool) (read : Option (List A)) (all : Option (List B)) → (strict ≡ false → IsSome read) → option_map (λ xs. xs) all ≡ option_map kept read → option_map (λ xs. part.Read xs) all ≡ option_map (part_map kept) (part_of strict read)
 part-value kept strict (Some xs) (Some ys) there e = ap (option_map (λ zs. part.Read zs)) e
@@ -95,10 +87,7 @@ module _ (opts : ParseOptions) (addressing : Addressing) (places : TablePlaces) 
   libraries = numbered_data strict format addressing d.virtual_address
 
   there : strict ≡ false → IsSome (libraries.value bytes)
-  there permissive =
-      was-there _ _
-      (subst IsSome (unnumbered strict format addressing bytes d.virtual_address)
-      (data-there format addressing bytes strict d.virtual_address permissive))
+  there = numbered-there format addressing bytes strict d.virtual_address
 
   -- a walk that is refused before its first import
   pub list-refused : (result : Result FileImports ErrorOf) (e : ErrorOf) → Walks file_imports_left IsFileImportsCause (λ xs. xs) result (mapped kept libraries) bytes → result ≡ Err e → IsRefused (import_list opts addressing places) bytes e
@@ -134,18 +123,3 @@ pub kept_both : {X : Type 0} (P Q : X → Type 0) (asked : Result X ErrorOf) →
     → IfOk asked Q → IfOk asked (λ x. P x × Q x)
 kept_both P Q (Ok x) h k = (h, k)
 kept_both P Q (Err e) h k = tt
-
--- it holds of the part that the table becomes
-pub becomes_kept : {X : Type 0} (P : X → Type 0) (strict : Bool) (asked : Result X ErrorOf)
-    (made : Result (Part X) ErrorOf) → IfOk asked P → BecomesPart strict asked made
-    → IfOk made (IfRead P)
-becomes_kept P strict (Ok x) made h is = rw is h
-becomes_kept P strict (Err (Memory m)) made h is = rw is tt
-becomes_kept P true (Err (Malformed c)) made h is = rw is tt
-becomes_kept P false (Err (Malformed c)) made h is = rw is tt
-becomes_kept P true (Err (BadMagic n)) made h is = rw is tt
-becomes_kept P false (Err (BadMagic n)) made h is = rw is tt
-becomes_kept P true (Err (BufferTooShort n w)) made h is = rw is tt
-becomes_kept P false (Err (BufferTooShort n w)) made h is = rw is tt
-becomes_kept P true (Err (Read f)) made h is = rw is tt
-becomes_kept P false (Err (Read f)) made h is = rw is tt

@@ -27,7 +27,7 @@ imports-preserved-then-test g c = λ p is.
 pub imports-preserved : goal.imports-preserved
 imports-preserved g c = λ p is.
     count_more p _ _ _ _ _ _ _ (c.imports.invariant p is) c.in-Some.ensures.steps c.in_ok-import.was
-    (capped-same c.imports.count (count_by p (c.imports.invariant p is).items) (2 ^ 64 - 1) (c.imports.invariant p is).said
+    (capped-same c.imports.count (count_by p (c.imports.invariant p is).items) (2 ^ 64 - 1) (c.imports.invariant p is).is
     ∙ ap (λ (b : Bool). min (c.imports.count + cond b 1 0) (2 ^ 64 - 1)) (is c.in_ok-import.import false (says_at g.F.Fn c.if-test.ensures refl)))
 
 pub returns : goal.returns

@@ -6,8 +6,8 @@ use Rattle.goblin_pe_export.specs.added.ExportAddresses.{export_addresses}
 use Rattle.goblin_pe_export.specs.added.ExportWalks.{walked_tables}
 use Rattle.goblin_pe.specs.added.Layouts.{IsExportWalk, address_part, layout_bytes, layout_map}
 use Rattle.goblin_pe.specs.Whole.{BecomesPart}
-use Rattle.goblin_pe.proofs.added.WalkedParts.{becomes_kept, kept_both}
-use Rattle.goblin_pe.proofs.Parts.{becomes_read}
+use Rattle.goblin_pe.proofs.added.WalkedParts.{kept_both}
+use Rattle.goblin_pe.proofs.Parts.{becomes_kept, becomes_read}
 use Rattle.goblin_pe.proofs.added.layout.Layout.export_addresses.Goals as goal
 
 pub returns-clause-value : goal.returns-clause-value

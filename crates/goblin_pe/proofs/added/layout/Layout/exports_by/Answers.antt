@@ -7,8 +7,8 @@ use Rattle.goblin_pe_sect.specs.Addresses.{MapOfAddresses, map_of, reads_strictl
 use Rattle.goblin_pe_export.specs.ExportReadings.{numbered_read}
 use Rattle.goblin_pe.specs.added.Layouts.{IsExportWalk, layout_bytes, walked_exports}
 use Rattle.goblin_pe.specs.Whole.{BecomesPart, IfRead, export_part, part_map, part_of}
-use Rattle.goblin_pe.proofs.added.WalkedParts.{becomes_kept, kept_both}
-use Rattle.goblin_pe.proofs.Parts.{becomes_read}
+use Rattle.goblin_pe.proofs.added.WalkedParts.{kept_both}
+use Rattle.goblin_pe.proofs.Parts.{becomes_kept, becomes_read}
 use Rattle.goblin_pe.proofs.added.layout.Layout.exports_by.Goals as goal
 
 pub returns-clause-value : goal.returns-clause-value
