@@ -5,7 +5,7 @@ use Rattle.readings.specs.Walks.{until_refused}
 use Rattle.goblin_pe_sect.specs.Addresses.{MapOfAddresses, map_of, reads_strictly}
 use Rattle.goblin_pe_import.specs.ImportEntries.{EntryValue}
 use Rattle.goblin_pe_import.specs.Imports.{NumberedImport}
-use Rattle.goblin_pe_import.specs.added.ImportWalks.{origin, IsNamed, IsNamedAt, IsWalkAt, cursor_left, cursor_of, imports_bytes, imports_left, imports_of_entries, cursor_dll, walk_left}
+use Rattle.goblin_pe_import.specs.added.ImportWalks.{IsNamed, IsNamedAt, IsWalkAt, cursor_left, cursor_of, imports_bytes, imports_left, imports_of_entries, cursor_dll, walk_left}
 use Rattle.goblin_pe_import.specs.KeptEntries.{entries_from}
 use Rattle.goblin_pe_import.specs.declared.added.imports.ImportCursor.{ImportCursor}
 use Rattle.goblin_pe_import.specs.declared.added.imports.Imports.{Imports}
@@ -18,7 +18,7 @@ module _ (format : Format EntryValue) (w : Walk) where
       let m = map_of w.finder in
       until_refused
       (imports_of_entries (reads_strictly m) format m.addressing w.bytes.now
-      (origin w.at.library dll) w.at.rva w.at.table_offset place ++ later)
+      w.at.library dll w.at.rva w.at.table_offset place ++ later)
 
   named-by : (place : Option ℕ) (later : List (Option NumberedImport)) (dll name : List ℕ)
       → IsNamedAt place dll name → left_by place later dll ≡ left_by place later name

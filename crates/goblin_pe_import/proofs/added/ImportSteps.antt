@@ -11,7 +11,7 @@ use Rattle.goblin_pe_import.specs.declared.import.kept.KeptEntry.{KeptEntry}
 use Rattle.goblin_pe_sect.specs.Addresses.{Addressing, map_of, reads_strictly}
 use Rattle.goblin_pe_import.specs.ImportEntries.{EntryValue}
 use Rattle.goblin_pe_import.specs.Imports.{NumberedImport}
-use Rattle.goblin_pe_import.specs.added.ImportWalks.{origin, GivesLibrary, IsLaterCause, IsNamed, IsCursorCause, IsNamedAt, IsWalkCause, bound_next, no_imports, imports_next, kept_import, later_items, walk_answer, walk_at, walk_bound, walk_left}
+use Rattle.goblin_pe_import.specs.added.ImportWalks.{GivesLibrary, IsLaterCause, IsNamed, IsCursorCause, IsNamedAt, IsWalkCause, bound_next, no_imports, imports_next, kept_import, later_items, walk_answer, walk_at, walk_bound, walk_left}
 use Rattle.goblin_pe_import.specs.KeptEntries.{IsEntriesCause, slots_bound, KeptValue, entries_from, kept_value, place_after}
 use Rattle.goblin_pe_import.specs.declared.added.imports.ImportCursor.{ImportCursor}
 
@@ -97,7 +97,7 @@ module _ (format : Format EntryValue) (start s : Walk) (h : AtImports format sta
         steps = subst (λ (q : Result KeptEntry ErrorOf). Steps (Some q)) is given
 
         abbrev item : NumberedImport
-        item = kept_import format.width (origin s.at.library s.dll.now) s.at.rva s.at.table_offset (kept_value kept)
+        item = kept_import format.width s.at.library s.dll.now s.at.rva s.at.table_offset (kept_value kept)
 
         pub next-one : (walk_left format start ≡ Some item ∷ walk_left format (walk_at s place))
             × ((e : ErrorOf) → IsWalkCause format (walk_at s place) e → IsWalkCause format start e)

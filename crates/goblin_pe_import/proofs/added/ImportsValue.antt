@@ -25,7 +25,7 @@ use Rattle.goblin_pe_import.specs.added.ImportCursors.{before_record}
 use Rattle.goblin_pe_import.specs.ImportReadings.{at_index, first_record_offset, kept_library, library_of, lookup_if, numbered_data, numbered_libraries_at, read_if, read_past_front}
 use Rattle.goblin_pe_import.specs.ImportRecords.{ImportedLibrary, NumberedLibrary, import_record, import_slots, lookup_offset}
 use Rattle.goblin_pe_import.specs.Imports.{ImportValue, NumberedImport, at_library, import_at, import_of, imports_by, numbered_imports}
-use Rattle.goblin_pe_import.specs.added.ImportWalks.{Origin, origin, imports_from_record, library_items, addresses_of, imports_next, library_name, record_index, IsCursorCause, IsImportsCause, IsWalkAt, cursor_of, imports_bytes, imports_left, imports_map}
+use Rattle.goblin_pe_import.specs.added.ImportWalks.{imports_from_record, library_items, addresses_of, imports_next, library_name, record_index, IsCursorCause, IsImportsCause, IsWalkAt, cursor_of, imports_bytes, imports_left, imports_map}
 use Rattle.goblin_pe_import.specs.added.ImportWalks.{items_left, kept_import, no_imports}
 use Rattle.goblin_pe_import.specs.KeptEntries.{entries_from, KeptValue, kept_at}
 use Rattle.goblin_pe_import.specs.declared.added.imports.ImportCursor.{ImportCursor}
@@ -84,18 +84,18 @@ imports_by-more size dll rva entries slots made entry slot offset counted at low
 -- ---- the imports of a lookup table
 
 module _ (strict : Bool) (format : Format EntryValue) (addressing : Addressing)
-    (bytes : List ℕ) (o : ℕ) (wide : 1 ≤ format.width) (from : Origin) (rva : ℕ)
+    (bytes : List ℕ) (o : ℕ) (wide : 1 ≤ format.width) (index : ℕ) (dll : List ℕ) (rva : ℕ)
     (short : length bytes < 2 ^ 63) (low : rva < 2 ^ 32) where
   -- the imports of these kept entries
   abbrev import_by : KeptValue → ImportValue
-  import_by k = (kept_import format.width from rva o k).import
+  import_by k = (kept_import format.width index dll rva o k).import
 
   abbrev imports : List KeptValue → List ImportValue
   imports kept = map import_by kept
 
   abbrev AreImports : List KeptValue → Type 0
   AreImports kept =
-      imports_by format.width from.dll rva (in_two kept).0 (in_two kept).1 ≡ Some (imports kept)
+      imports_by format.width dll rva (in_two kept).0 (in_two kept).1 ≡ Some (imports kept)
 
   abbrev made : ℕ → Option (List LookupEntry)
   made i =
@@ -119,7 +119,7 @@ module _ (strict : Bool) (format : Format EntryValue) (addressing : Addressing)
       length-map kept (λ (k : KeptValue). k.entry)
       ∙ sym (length-map kept (λ (k : KeptValue). k.slot)) in
       let longer =
-      imports_by-more format.width from.dll rva (map (λ k. k.entry) kept) (map (λ k. k.slot) kept)
+      imports_by-more format.width dll rva (map (λ k. k.entry) kept) (map (λ k. k.slot) kept)
       (imports kept) x n (rva + format.width * n) counted refl below so_far in
       rw (
         map-append (λ (k : KeptValue). k.entry) kept (item n x ∷ []),
@@ -137,7 +137,7 @@ module _ (strict : Bool) (format : Format EntryValue) (addressing : Addressing)
       → AreImports kept
   unfolding imports_by
   entries-imports kept e =
-      walk-holds item made AreImports (all_at-zero (import_at format.width from.dll rva [] []))
+      walk-holds item made AreImports (all_at-zero (import_at format.width dll rva [] []))
       (λ n items xs is so_far.
       let s = step (slot_at (entry_slots format) bytes o n)
       (λ v. (kept_entry strict addressing v).value bytes) xs is in
@@ -226,7 +226,7 @@ module _ (strict : Bool) (format : Format EntryValue) (addressing : Addressing)
 
     abbrev import_in : List ℕ → KeptValue → NumberedImport
     import_in dll =
-        kept_import format.width (origin index dll) r.import_address_table_rva (unwrap_or at 0)
+        kept_import format.width index dll r.import_address_table_rva (unwrap_or at 0)
 
     abbrev library : List ℕ → Option (List LookupEntry) × List ℕ → List ℕ → ImportedLibrary
     library dll both addresses = record {
@@ -242,7 +242,7 @@ module _ (strict : Bool) (format : Format EntryValue) (addressing : Addressing)
 
     abbrev record_import : List ℕ → Option ℕ → KeptValue → ImportValue
     record_import dll place k =
-        (kept_import format.width (origin index dll) r.import_address_table_rva (unwrap_or place 0) k).import
+        (kept_import format.width index dll r.import_address_table_rva (unwrap_or place 0) k).import
 
     by_count : (counted : Bool) (made : Option (List ImportValue)) (item : KeptValue → ImportValue)
         (ks : List KeptValue) → counted ≡ true → made ≡ Some (map item ks)
@@ -256,7 +256,7 @@ module _ (strict : Bool) (format : Format EntryValue) (addressing : Addressing)
         ≡ Some ks
         → imports_here (library dll (in_two_if place ks) addresses)
         ≡ map
-        (kept_import format.width (origin index dll) r.import_address_table_rva (unwrap_or place 0)) ks
+        (kept_import format.width index dll r.import_address_table_rva (unwrap_or place 0)) ks
     unfolding entries_from imports_by
     library-imports dll None ks addresses e =
         let none = same_value [] ks e in
@@ -269,7 +269,7 @@ module _ (strict : Bool) (format : Format EntryValue) (addressing : Addressing)
         ∙ sym (length-map ks (λ (k : KeptValue). k.slot)) in
         by_count _ (imports_by format.width dll r.import_address_table_rva (in_two ks).0 (in_two ks).1) (record_import dll (Some o)) ks
         (eq-eqb (length (in_two ks).0) (length (in_two ks).1) counted)
-        (entries-imports strict format addressing bytes o wide (origin index dll) r.import_address_table_rva short
+        (entries-imports strict format addressing bytes o wide index dll r.import_address_table_rva short
         low ks e)
 
     -- collecting what comes of a record gives the imports of its library

@@ -16,7 +16,7 @@ use Rattle.goblin_pe_import.specs.ImportEntries.{EntryValue, LookupEntry}
 use Rattle.goblin_pe_import.specs.ImportReadings.{import_record_at, kept_library, library_of, lookup_if}
 use Rattle.goblin_pe_import.specs.ImportRecords.{address_table_rva, import_slots, is_last_record, lookup_offset}
 use Rattle.goblin_pe_import.specs.Imports.{NumberedImport}
-use Rattle.goblin_pe_import.specs.added.ImportWalks.{Origin, origin, GivesLibrary, IsNextCause, IsLaterCause, IsNamedCause, IsRecordCause, IsRecordsCause, addresses_of, bound_next, imports_next, is_skipped, one_if, walk_bound, imports_from_record}
+use Rattle.goblin_pe_import.specs.added.ImportWalks.{GivesLibrary, IsNextCause, IsLaterCause, IsNamedCause, IsRecordCause, IsRecordsCause, addresses_of, bound_next, imports_next, is_skipped, one_if, walk_bound, imports_from_record}
 use Rattle.goblin_pe_import.specs.added.ImportWalks.{imports_of_entries, record_index, later_items, library_items, library_name, pending_table}
 use Rattle.goblin_pe_import.specs.KeptEntries.{IsEntriesCause, KeptValue, entries_from, slots_bound}
 use Rattle.goblin_pe_import.proofs.LookupWalk.{in_two, lookup_walked}
@@ -160,10 +160,10 @@ module _ (strict : Bool) (format : Format EntryValue) (addressing : Addressing)
       (IsRecordsCause strict format addressing bytes next)) e
 
   -- what is left of a walk of these parts
-  abbrev pub parts_left : Origin → ℕ → ℕ → Option ℕ → Option ℕ → List (Option NumberedImport)
-  parts_left from rva o at pending =
+  abbrev pub parts_left : ℕ → List ℕ → ℕ → ℕ → Option ℕ → Option ℕ → List (Option NumberedImport)
+  parts_left i dll rva o at pending =
       until_refused
-      (imports_of_entries strict format addressing bytes from rva o at
+      (imports_of_entries strict format addressing bytes i dll rva o at
       ++ later_items strict format addressing bytes pending first (Some next))
 
   abbrev pub IsPartsCause : ℕ → Option ℕ → Option ℕ → ErrorOf → Type 0
@@ -174,11 +174,11 @@ module _ (strict : Bool) (format : Format EntryValue) (addressing : Addressing)
       (λ _. IsLaterCause strict format addressing bytes pending (Some next)) e
 
   pub walk-left_out : is_skipped strict format addressing bytes r ≡ true
-      → (from : Origin) (rva o : ℕ)
-      → (parts_left from rva o None None ≡ whole)
+      → (i : ℕ) (dll : List ℕ) (rva o : ℕ)
+      → (parts_left i dll rva o None None ≡ whole)
       × ((e : ErrorOf) → IsPartsCause o None None e → (strict ≡ true) × IsWholeCause e)
   unfolding entries_from library_items imports_next
-  walk-left_out out from rva o = (
+  walk-left_out out i dll rva o = (
     rw out refl,
     λ e fault.
         let is = permissive_by strict _ out in
@@ -202,7 +202,7 @@ module _ (strict : Bool) (format : Format EntryValue) (addressing : Addressing)
   module _ (dll : List ℕ) (named : name.value bytes ≡ Some dll)
       (kept : is_skipped strict format addressing bytes r ≡ false) where
     -- a library that is walked over
-    pub entered : (parts_left (origin index dll) r.import_address_table_rva (unwrap_or at 0) at
+    pub entered : (parts_left index dll r.import_address_table_rva (unwrap_or at 0) at
         (Some (address_table_rva r)) ≡ whole)
         × ((e : ErrorOf)
         → IsPartsCause (unwrap_or at 0) at (Some (address_table_rva r)) e
@@ -210,7 +210,7 @@ module _ (strict : Bool) (format : Format EntryValue) (addressing : Addressing)
     unfolding library_items imports_next
     entered =
         let imports =
-        imports_of_entries strict format addressing bytes (origin index dll) r.import_address_table_rva (unwrap_or at 0)
+        imports_of_entries strict format addressing bytes index dll r.import_address_table_rva (unwrap_or at 0)
         at in
         let table = pending_table strict format addressing (Some (address_table_rva r)) in (
           rw (kept, named)

@@ -28,32 +28,22 @@ use Rattle.goblin_pe_import.specs.KeptEntries.{KeptValue, entries_from, IsEntrie
 
 -- ---- the entries of a lookup table
 
--- what an import is from: the index of the library's import descriptor in the directory, and the
--- library's name
-pub record Origin : Type 0 where
-  pub index : ℕ
-  pub dll : List ℕ
-
-abbrev pub origin : ℕ → List ℕ → Origin
-origin index dll = record { index = index; dll = dll }
-
 -- an import that a walk yields
 abbrev pub walked_value : WalkedImport → NumberedImport
 walked_value x =
     at_library x.library (import_of x.dll.now x.slot x.slot_rva x.size (entry_model x.entry))
 
--- the import of an entry that the lookup table at o keeps, of a library whose address table is at
--- `rva` and has entries of `width` bytes
-abbrev pub kept_import : ℕ → Origin → ℕ → ℕ → KeptValue → NumberedImport
-kept_import width from rva o kept =
-    at_library from.index
-    (import_of from.dll kept.slot (rva + (kept.place - o)) width kept.entry)
+-- the import of an entry that the lookup table at o keeps, of the library of this name whose import
+-- descriptor has this index, and whose address table is at `rva` and has entries of `width` bytes
+abbrev pub kept_import : ℕ → ℕ → List ℕ → ℕ → ℕ → KeptValue → NumberedImport
+kept_import width index dll rva o kept =
+    at_library index (import_of dll kept.slot (rva + (kept.place - o)) width kept.entry)
 
 -- the imports of the entries from a place on
-abbrev pub imports_of_entries : Bool → Format EntryValue → Addressing → List ℕ → Origin → ℕ → ℕ
-    → Option ℕ → List (Option NumberedImport)
-imports_of_entries strict format addressing bytes from rva o place =
-    map (option_map (kept_import format.width from rva o))
+abbrev pub imports_of_entries : Bool → Format EntryValue → Addressing → List ℕ → ℕ → List ℕ → ℕ
+    → ℕ → Option ℕ → List (Option NumberedImport)
+imports_of_entries strict format addressing bytes index dll rva o place =
+    map (option_map (kept_import format.width index dll rva o))
     (entries_from strict format addressing bytes o place)
 
 -- the name of a descriptor's library
@@ -81,7 +71,7 @@ named_items strict format addressing bytes index r None = None ∷ []
 named_items strict format addressing bytes index r (Some dll) =
     let table = lookup_offset addressing r in
     let addresses = pending_table strict format addressing (Some (address_table_rva r)) in
-    imports_of_entries strict format addressing bytes (origin index dll) r.import_address_table_rva
+    imports_of_entries strict format addressing bytes index dll r.import_address_table_rva
     (unwrap_or table 0) table
     ++ refusal_of (addresses.value bytes)
 
@@ -200,7 +190,7 @@ abbrev pub items_left : Bool → Format EntryValue → Addressing → List ℕ �
     → List (Option NumberedImport)
 items_left strict format addressing bytes dll c =
     until_refused
-    (imports_of_entries strict format addressing bytes (origin c.library dll) c.rva c.table_offset
+    (imports_of_entries strict format addressing bytes c.library dll c.rva c.table_offset
     c.place
     ++ later_items strict format addressing bytes c.pending c.first_record c.next_record)
 

@@ -26,7 +26,7 @@ ghost use Rattle.goblin_pe_import.specs.added.ImportWalks.{imports_bytes, import
 ghost use Rattle.goblin_pe_import.specs.added.ImportWalks.{imports_left, kept_import, no_imports};
 ghost use Rattle.goblin_pe_import.specs.KeptEntries.{kept_value, slots_bound};
 ghost use Rattle.goblin_pe_import.specs.added.ImportWalks.{later_items, library_items};
-ghost use Rattle.goblin_pe_import.specs.added.ImportWalks.{library_name, one_if, origin};
+ghost use Rattle.goblin_pe_import.specs.added.ImportWalks.{library_name, one_if};
 ghost use Rattle.goblin_pe_import.specs.added.ImportWalks.{finder_of, ascii_at};
 ghost use Rattle.goblin_pe_import.specs.added.ImportWalks.{ascii_walk, walk_answer, walk_at};
 ghost use Rattle.goblin_pe_import.specs.added.ImportWalks.{record_index};
@@ -233,7 +233,7 @@ fn import_of<'a, T: Bitfield<'a>>(
 ) -> WalkedImport<'a>
     requires { kept.place < 2 ^ 63 }
     ensures { walked_value result
-        ≡ kept_import T.format.width (origin library dll.now) rva table_offset
+        ≡ kept_import T.format.width library dll.now rva table_offset
         (kept_value kept.entry) }
 {
     let KeptEntry { slot, place, entry } = kept;

@@ -16,7 +16,7 @@ returns-then-is_out-clause-counted g c =
 pub returns-then-is_out-clause-gives : goal.returns-then-is_out-clause-gives
 returns-then-is_out-clause-gives g c =
     let out = sym (rw c.address_map.ensures at c.is_skipped-is_out.ensures.out) ∙ c.if-is_out.true in
-    walk-left_out _ _ _ _ _ _ _ _ out _ _ _
+    walk-left_out _ _ _ _ _ _ _ _ out _ _ _ _
 
 pub returns-in_err-self-clause-gives : goal.returns-in_err-self-clause-gives
 returns-in_err-self-clause-gives g c =
