@@ -20,7 +20,7 @@ ghost use Rattle.goblin_pe_import.specs.added.ImportCursors.{first_import};
 ghost use Rattle.goblin_pe_import.specs.ImportReadings.{numbered_data};
 ghost use Rattle.goblin_pe_import.specs.Imports.{numbered_imports};
 ghost use Rattle.goblin_pe.specs.added.LayoutTables.{layout_table};
-ghost use Rattle.goblin_pe.specs.added.Damages.{exports_left_out, imports_left_out_at, left_out_of};
+ghost use Rattle.goblin_pe.specs.added.Damages.{exports_left_out, left_out_of};
 ghost use Rattle.goblin_pe.specs.added.DirectoryParts.{directory_data, directory_part};
 ghost use Rattle.goblin_pe.specs.added.LayoutCursors.{GivesFirst, IsFileCursorCause};
 ghost use Rattle.goblin_pe.specs.added.LayoutCursors.{IsImportWalkAt, StartsAt};
@@ -353,20 +353,8 @@ impl<'a> Layout<'a> {
     /// # Errors
     /// In strict mode as [`Exports::of`](crate::added::Exports::of).
     #[inline(always)]
-    pub fn exports<'m>(&'m self) -> Result<Part<Exports<'a, 'm>>>
-        ensures value { Reads (part_map walked_exports) result
-            (layout_table export_part self.now) (layout_bytes self.now) }
-        ensures walk { IfOk result
-            (IfRead (IsExportWalk (layout_map self.now) (layout_bytes self.now))) }
-    {
-        self.exports_by(self.finder())
-    }
-
-    // The exports, with a finder of this layout.
-    #[inline(always)]
     #[tactic(auto, unfolding(crate::specs::Whole::export_part))]
-    fn exports_by<'m>(&self, finder: Finder<'m>) -> Result<Part<Exports<'a, 'm>>>
-        requires { map_of finder ≡ layout_map self.now }
+    pub fn exports<'m>(&'m self) -> Result<Part<Exports<'a, 'm>>>
         ensures value { Reads (part_map walked_exports) result
             (layout_table export_part self.now) (layout_bytes self.now) }
         ensures walk { IfOk result
@@ -375,8 +363,10 @@ impl<'a> Layout<'a> {
         let Some(directory) = self.places.directory(EXPORT_TABLE) else {
             return Ok(Part::Absent);
         };
-        let opts = *finder.opts();
-        part_of(Exports::by(self.bytes, directory, finder), &opts)
+        part_of(
+            Exports::by(self.bytes, directory, self.finder()),
+            self.address_map.opts(),
+        )
     }
 
     /// The export directory without the names of the exports: its export directory table, the name
@@ -398,10 +388,9 @@ impl<'a> Layout<'a> {
         let Some(directory) = self.places.directory(EXPORT_TABLE) else {
             return Ok(Part::Absent);
         };
-        let opts = *self.address_map.opts();
         part_of(
             Exports::addresses_of(self.bytes, directory, &self.address_map),
-            &opts,
+            self.address_map.opts(),
         )
     }
 
@@ -470,15 +459,20 @@ impl<'a> Layout<'a> {
     }
 
     /// How much is left out of the imports. All counts are 0 if the options ask for no imports.
-    #[tactic(auto, unfolding(crate::specs::added::Damages::left_out_of))]
+    #[tactic(auto, unfolding(crate::specs::added::Damages::left_out_of, crate::specs::Whole::entry_format))]
     pub fn left_out(&self) -> LeftOut
         ensures { let m = layout_map self.now in
             result ≡ left_out_of m.opts m.addressing (layout_places self.now)
             (layout_bytes self.now) }
     {
-        let opts = self.address_map.opts();
         match self.places.directory(IMPORT_TABLE) {
-            Some(directory) if opts.parse_imports => self.imports_left_out_at(directory),
+            Some(directory) if self.address_map.opts().parse_imports => {
+                if self.places.has_narrow_entries() {
+                    LeftOut::of::<u32>(self.bytes, directory, &self.address_map)
+                } else {
+                    LeftOut::of::<u64>(self.bytes, directory, &self.address_map)
+                }
+            }
             _ => LeftOut::default(),
         }
     }
@@ -528,20 +522,6 @@ impl<'a> Layout<'a> {
         } else {
             let imports = Imports::<u64>::of(self.bytes, directory, &self.address_map)?;
             Ok(FileImports::Wide(imports))
-        }
-    }
-
-    #[tactic(auto, unfolding(crate::specs::Whole::entry_format))]
-    fn imports_left_out_at(&self, directory: DataDirectory) -> LeftOut
-        ensures { let format = entry_format (layout_places self.now).magic in
-            result
-            ≡ imports_left_out_at format (layout_map self.now).addressing (layout_bytes self.now)
-            (Some directory) }
-    {
-        if self.places.has_narrow_entries() {
-            LeftOut::of::<u32>(self.bytes, directory, &self.address_map)
-        } else {
-            LeftOut::of::<u64>(self.bytes, directory, &self.address_map)
         }
     }
 }

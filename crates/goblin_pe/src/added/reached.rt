@@ -16,30 +16,20 @@ use goblin_pe_export::added::add_exports;
 use goblin_pe_import::laws::add_imports;
 
 impl Layout<'_> {
-    // Marks what the import data of a directory reaches.
-    #[tactic(auto, unfolding(crate::specs::Whole::entry_format), using(crate::proofs::added::TablesReached::numbered_marked))]
-    fn mark_import_data(&self, marks: &mut Marks, rva: u32)
-        ensures { let m = layout_map self.now in
-            let format = entry_format (layout_places self.now).magic in
-            let read = numbered_data (reads_strictly m) format m.addressing rva in
-            marks.new ≡ marked marks.old (read.reaches (layout_bytes self.now)) }
-    {
-        if self.places.has_narrow_entries() {
-            add_imports::<u32>(marks, self.bytes(), rva, &self.address_map)
-        } else {
-            add_imports::<u64>(marks, self.bytes(), rva, &self.address_map)
-        }
-    }
-
     // Marks what the imports reach, if they are asked for and there is a directory for them.
-    #[tactic(auto, unfolding(crate::specs::Whole::numbered_data_part), using(goblin_base::proofs::Marks::marking))]
+    #[tactic(auto, unfolding(crate::specs::Whole::numbered_data_part, crate::specs::Whole::entry_format), using(goblin_base::proofs::Marks::marking, crate::proofs::added::TablesReached::numbered_marked))]
     fn mark_imports(&self, marks: &mut Marks)
         ensures { let read = layout_table numbered_data_part self.now in
             marks.new ≡ marked marks.old (read.reaches (layout_bytes self.now)) }
     {
         match self.places.directory(IMPORT_TABLE) {
             Some(directory) if self.address_map.opts().parse_imports => {
-                self.mark_import_data(marks, directory.virtual_address)
+                let rva = directory.virtual_address;
+                if self.places.has_narrow_entries() {
+                    add_imports::<u32>(marks, self.bytes(), rva, &self.address_map)
+                } else {
+                    add_imports::<u64>(marks, self.bytes(), rva, &self.address_map)
+                }
             }
             _ => (),
         }
