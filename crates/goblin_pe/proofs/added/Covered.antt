@@ -6,32 +6,11 @@ use Rattle.goblin_base.specs.Reading.{IsInFile}
 use Rattle.goblin_base.proofs.Footprints.{same-bytes, slice-covers}
 use Rattle.goblin_pe.specs.added.Keys.{HasKeptRange, kept_range}
 
--- those of two lists of ranges
-pub covers-append : (xs ys : List Range) (p : ℕ) → Covers (xs ++ ys) p → Covers xs p ⊎ Covers ys p
-covers-append [] ys p h = inr h
-covers-append (x ∷ xs) ys p (inl h) = inl (inl h)
-covers-append (x ∷ xs) ys p (inr h) = elim (covers-append xs ys p h) [ inl own ↦ inl (inr own) | inr other ↦ inr other ]
-
--- those of a slice
-pub covers-slice : (bytes : List ℕ) (p n q : ℕ) → Covers (slice_footprint bytes p n) q → (p ≤ q) × (q < p + n)
-covers-slice bytes p n q h = let is = slice-covers bytes p n q h in (is.1, is.2)
-
--- those of the range at an index
+-- the positions of the range at an index
 pub covers-at : (ranges : List Range) (i : ℕ) (d : Range) (p : ℕ) → i < length ranges → (get_or ranges i d).0 ≤ p → p < (get_or ranges i d).1 → Covers ranges p
 covers-at [] i d p lt low high = absurd (omega arith)
 covers-at (r ∷ rs) zero d p lt low high = inl (low, high)
 covers-at (r ∷ rs) (suc i) d p lt low high = inr (covers-at rs i d p (omega arith) low high)
-
--- those of the first ranges and one more, as a loop by an index has them
-pub covers-more : (ranges : List Range) (i : ℕ) (d : Range) (p : ℕ) → Covers (take (i + 1) ranges) p → Covers (take i ranges) p ⊎ (((get_or ranges i d).0 ≤ p) × (p < (get_or ranges i d).1))
-covers-more ranges i d p h = one-more ranges i (rw add-one at h)
-  where
-    one-more : (ranges : List Range) (i : ℕ) → Covers (take (suc i) ranges) p → Covers (take i ranges) p ⊎ (((get_or ranges i d).0 ≤ p) × (p < (get_or ranges i d).1))
-    one-more [] i h = absurd h
-    one-more (r ∷ rs) zero (inl own) = inr own
-    one-more (r ∷ rs) zero (inr h) = absurd h
-    one-more (r ∷ rs) (suc i) (inl own) = inl (inl own)
-    one-more (r ∷ rs) (suc i) (inr later) = elim (one-more rs i later) [ inl before ↦ inl (inr before) | inr here ↦ inr here ]
 
 byte-in : (bytes : List ℕ) (b e p : ℕ) → b ≤ p → p < e → slice_index (slice_range bytes b e) (p - b) ≡ slice_index bytes p
 byte-in bytes b e p low high =
