@@ -6,7 +6,6 @@ ghost use Rattle.goblin_pe_sect.specs.Options.{is_strict};
 ghost use Rattle.goblin_pe_head.specs.HeaderReadings.{pe_header};
 ghost use Rattle.goblin_pe_head.specs.PeHeader.{header_value};
 ghost use Rattle.goblin_pe_sect.specs.declared.options.View.TheVariants.{Sections};
-ghost use Rattle.goblin_pe_import.specs.added.ImportWalks.{IsImportsCause, imports_left};
 ghost use Rattle.goblin_pe.specs.added.LayoutTables.{layout_table};
 ghost use Rattle.goblin_pe.specs.added.Damages.{AreDamaged, IsDamage, IsDamageOf, IsReadByBoth};
 ghost use Rattle.goblin_pe.specs.added.Damages.{IsSound, TellsDamage};
@@ -16,8 +15,7 @@ ghost use Rattle.goblin_pe.specs.added.TakenMemory.{TakesIndex};
 ghost use Rattle.goblin_pe.specs.Whole.{import_list, sections_after, whole_in};
 
 use crate::added::layout::section_records_of;
-use crate::added::{FileImports, Imports, Layout, LeftOut};
-use crate::import::Bitfield;
+use crate::added::{FileImports, Layout, LeftOut};
 use crate::whole::{Part, Whole};
 use goblin_base::{Error, ErrorOf, Result};
 use goblin_pe_head::header::{DosStub, Header};
@@ -51,10 +49,10 @@ pub struct Damage {
     pub left_out_exports: usize,
 }
 
-// The error that ends a walk, if one does.
-fn refusal_of<'a, 'm, 'e, T: Bitfield<'a>>(imports: Imports<'a, 'm, 'e, T>) -> Option<ErrorOf<'e>>
-    ensures { IsDamageOf (all_of (imports_left T.format imports.entry))
-        (IsImportsCause T.format imports.entry) result }
+// The error that ends a walk over a file's imports, if one does.
+fn refusal_of<'a, 'm, 'e>(imports: FileImports<'a, 'm, 'e>) -> Option<ErrorOf<'e>>
+    ensures { IsDamageOf (all_of (file_imports_left imports.entry))
+        (IsFileImportsCause imports.entry) result }
 {
     'imports: for import in imports {
         match import {
@@ -65,23 +63,12 @@ fn refusal_of<'a, 'm, 'e, T: Bitfield<'a>>(imports: Imports<'a, 'm, 'e, T>) -> O
     None
 }
 
-// The error that ends a walk over a file's imports, if one does.
-fn file_refusal_of<'a, 'm, 'e>(imports: FileImports<'a, 'm, 'e>) -> Option<ErrorOf<'e>>
-    ensures { IsDamageOf (all_of (file_imports_left imports.entry))
-        (IsFileImportsCause imports.entry) result }
-{
-    match imports {
-        FileImports::Narrow(imports) => refusal_of(imports),
-        FileImports::Wide(imports) => refusal_of(imports),
-    }
-}
-
 // Why the imports are refused, if they are.
 fn import_damage(layout: &Layout) -> Option<Error>
     ensures { IsDamage (layout_table import_list layout.now) (layout_bytes layout.now) result }
 {
     match layout.imports() {
-        Ok(Part::Read(imports)) => file_refusal_of(imports),
+        Ok(Part::Read(imports)) => refusal_of(imports),
         Ok(Part::Absent | Part::Refused) => None,
         Err(error) => Some(error),
     }
