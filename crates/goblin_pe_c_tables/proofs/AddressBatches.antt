@@ -1,5 +1,5 @@
 -- The entries of the export address table of a file, from an index on.
-use Rattle.std.proofs.Common.{◌≡◌, ◌∙◌, ◌+◌, ◌≤◌, ◌⊎◌, ℕ, List, [], Option, Some, None, ap, arith, drop, drop_of_length-le, inl, inr, length, slice_get, subst, sym, true, IsSomeAnd, option_map}
+use Rattle.std.proofs.Common.{◌≡◌, ◌∙◌, ◌+◌, ◌≤◌, ◌⊎◌, ℕ, List, [], Option, Some, None, ap, arith, drop_of_length-le, inl, inr, length, slice_get, subst, sym, true, IsSomeAnd, option_map}
 use Rattle.std.specs.List.{enumerate_from}
 use Rattle.std.proofs.lemmas.List.{length-map}
 use Rattle.std.proofs.lemmas.List.FromFn.{get_or-enumerate_from, length-enumerate_from}
@@ -16,10 +16,9 @@ use Rattle.goblin_pe.specs.Whole.{TablePlaces, part_map}
 use Rattle.goblin_pe.specs.declared.whole.Part.{Part}
 use Rattle.goblin_pe.specs.declared.whole.Part.TheVariants.{Absent, Refused}
 use Rattle.goblin_pe.specs.declared.whole.Part.TheVariants as part
-use Rattle.goblin_pe_c_headers.specs.Onward.{GivesOnward, unrefused}
+use Rattle.goblin_pe_c_headers.specs.Onward.{GivesOnward, row_table, unrefused}
 use Rattle.goblin_pe_c_headers.specs.declared.batch.PeBatch.{PeBatch}
-use Rattle.goblin_pe_c_headers.proofs.Batches.{items-end, items-stay, done-none}
-use Rattle.goblin_pe_c_headers.proofs.GivenOnward.{onward-start}
+use Rattle.goblin_pe_c_headers.proofs.Batches.{none-given}
 use Rattle.goblin_pe_c_tables.specs.Batches.{AddressBatch, GivesAddresses, addresses_in, at_room}
 use Rattle.goblin_pe_c_tables.specs.ExportDirectories.{address_for_c, addresses_for_c}
 
@@ -64,11 +63,7 @@ module _ (addressing : Addressing) (tables : ExportTables) where
 pub onward-none : {W : Type 0} (items : List W) (from : ℕ) (old : List W) → length items ≤ from
     → GivesOnward items (record { position = from; records = old }) (record { position = from; records = old }) (at_room (length old) 0 true)
 onward-none {W} items from old past =
-    let start = onward-start (λ (w : W). w) items from old in
-    let none : drop from items ≡ [] = drop_of_length-le items past in (
-      items-end start.at from (ap unrefused none) (ap (λ (xs : List W). Some (unrefused xs)) none) (items-stay start.at),
-      (done-none start.at (ap unrefused none), start.moved),
-    )
+    none-given (row_table (λ (w : W). w) items) ⊥ _ from old (ap (λ (xs : List W). Some (unrefused xs)) (drop_of_length-le items past)) (omega arith)
 
 -- ---- in a file
 

@@ -26,27 +26,21 @@ use Rattle.goblin_pe_c_tables.specs.declared.block.PeRelocationBlock.{PeRelocati
 use Rattle.goblin_pe_c_headers.specs.Items.{without_causes}
 use Rattle.goblin_pe_c_headers.specs.Onward.{IsRefusedNext, values_before}
 use Rattle.goblin_pe_c_tables.specs.Batches.{BlockBatch, GivesBlocksIn, GivesBlocks, IsBlockCause, IsBlocksFault, at_room, block_for_c, block_table, blocks_from, placed, relocations_begin}
-use Rattle.goblin_pe_c_headers.proofs.Batches.{AtItems, items-end, items-fault, items-full, items-more, items-refused, items-start, items-stay, items-taken, items-then, done-end, done-full, done-none, done-refused}
+use Rattle.goblin_pe_c_headers.proofs.Batches.{AtItems, items-end, items-fault, items-full, items-more, items-refused, items-start, items-stay, items-taken, items-then, done-end, done-full, done-refused, none-given}
 
 -- ---- a refusal is never Memory
 
 abbrev IsOther : Result Block ErrorOf → Type 0
 IsOther r = IfErr r (λ e. ¬ IsMemory e)
 
-words-other : (head : List ℕ) (p : ℕ) (words : Option (List ℕ)) → IsOther (with_words head p words)
-words-other head p None = λ h. h
-words-other head p (Some words) = tt
-
-sized-other : (t : Bool) (n : ℕ) (r : Result Block ErrorOf) → IsOther r
-    → IsOther (cond t (Err (Malformed (BlockSize n))) r)
-sized-other true n r other = λ h. h
-sized-other false n r other = other
-
 head-other : (directory : List ℕ) (p : ℕ) (head : Option (List ℕ)) → IsOther (with_head directory p head)
 head-other directory p None = λ h. h
-head-other directory p (Some head) =
-    sized-other (nat_lt (number Little 4 head 4) 8) (number Little 4 head 4) (with_words head p (slice_at directory p (number Little 4 head 4 - 8)))
-    (words-other head p (slice_at directory p (number Little 4 head 4 - 8)))
+head-other directory p (Some head) = by (nat_lt (number Little 4 head 4) 8) (slice_at directory p (number Little 4 head 4 - 8))
+  where
+    by : (few : Bool) (words : Option (List ℕ)) → IsOther (cond few (Err (Malformed (BlockSize (number Little 4 head 4)))) (with_words head p words))
+    by true words = λ h. h
+    by false None = λ h. h
+    by false (Some words) = tt
 
 block-other : (directory : List ℕ) (p : ℕ) → IsOther (block_at directory p)
 unfolding block_at
@@ -213,19 +207,10 @@ module _ (m : MapOfAddresses) (places : TablePlaces) (bytes : List ℕ) (found :
 
 -- where there are none
 module _ (m : MapOfAddresses) (places : TablePlaces) (bytes : List ℕ) (x : ℕ) (old : List PeRelocationBlock) where
-  nothing : (p : Part (List ℕ)) → ((y : ℕ) → blocks_from (relocations_begin m.addressing places) p y ≡ [])
-      → GivesBlocksIn (relocations_begin m.addressing places) p (record { position = x; records = old }) (record { position = x; records = old }) (at_room (length old) 0 true)
-  nothing p none =
-      let begin = relocations_begin m.addressing places in
-      let start = items-start (block_table begin p) (blocks_from begin p) x x old refl in (
-        items-end start x (none x) (ap (λ (items : List (Option (ℕ × Block))). Some items) (none x)) (λ room. refl),
-        (done-none start (none x), omega arith),
-      )
-
   pub blocks-none : (found : Part RelocationData) → (relocation_part m.opts m.addressing places).value bytes ≡ Some (part_map relocation_bytes found)
       → (found ≡ Absent) ⊎ (found ≡ Refused)
       → GivesBlocks m places bytes (record { position = x; records = old }) (record { position = x; records = old }) (at_room (length old) 0 true)
   blocks-none found read none = elim none [
-    | inl is ↦ rw (read ∙ ap (λ (p : Part RelocationData). Some (part_map relocation_bytes p)) is) (nothing Absent (λ y. refl))
-    | inr is ↦ rw (read ∙ ap (λ (p : Part RelocationData). Some (part_map relocation_bytes p)) is) (nothing Refused (λ y. refl))
+    | inl is ↦ rw (read ∙ ap (λ (p : Part RelocationData). Some (part_map relocation_bytes p)) is) (none-given (block_table (relocations_begin m.addressing places) Absent) ⊥ _ x old refl (omega arith))
+    | inr is ↦ rw (read ∙ ap (λ (p : Part RelocationData). Some (part_map relocation_bytes p)) is) (none-given (block_table (relocations_begin m.addressing places) Refused) ⊥ _ x old refl (omega arith))
   ]

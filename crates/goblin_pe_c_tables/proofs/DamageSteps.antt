@@ -1,5 +1,6 @@
 -- A walk over all imports within a number of steps.
-use Rattle.std.proofs.Common.{◌≡◌, ◌⊎◌, ℕ, ◌≤◌, Bool, true, false, ◌&&◌, List, Option, None, Some, ap, arith, inl, inr, is_none, refl}
+use Rattle.std.proofs.Common.{◌≡◌, ◌⊎◌, ℕ, ◌≤◌, true, false, ◌&&◌, List, Option, None, Some, ap, arith, inl, inr, refl}
+use Rattle.std.proofs.lemmas.Bool.{cases_Bool}
 use Rattle.goblin_pe_import.specs.declared.added.imports.ImportCursor.{ImportCursor}
 use Rattle.goblin_pe_import.specs.added.ImportWalks.{no_imports}
 use Rattle.goblin_pe_import.specs.Steps.{AreCounted, HasNotGrown}
@@ -10,6 +11,7 @@ use Rattle.goblin_pe.specs.declared.added.file_imports.FileImports.{FileImports}
 use Rattle.goblin_pe.specs.declared.added.file_imports.FileImports.TheVariants.{Narrow, Wide}
 use Rattle.goblin_pe_c_tables.specs.Batches.{is_over}
 use Rattle.goblin_pe_c_tables.specs.Damages.{ImportSteps}
+use Rattle.goblin_pe_c_tables.proofs.ImportBatches.{over-is}
 
 -- the map of a walk
 pub walk-map : (m : MapOfAddresses) (magic : ℕ) (bytes : List ℕ) (imports : FileImports) → IsImportWalk m magic bytes imports → file_map imports ≡ m
@@ -23,17 +25,13 @@ counted-then steps a b c (Some p) None h more = absurd more
 counted-then steps a b c (Some p) (Some q) h more = omega (arith, h, more)
 
 -- nothing is ahead at a cursor that is over
-module _ (m : MapOfAddresses) (magic : ℕ) (bytes : List ℕ) where
-  over-ahead : (c : ImportCursor) (place next pending : Option ℕ) → c.place ≡ place → c.next_record ≡ next → c.pending ≡ pending
-      → (is_none place && is_none next && is_none pending) ≡ true → (strict : Bool) → reads_strictly m ≡ strict → file_cursor_ahead m magic bytes c ≡ 0
-  over-ahead c None None None is1 is2 is3 over true mode = rw (is1, is2, is3, mode) refl
-  over-ahead c None None None is1 is2 is3 over false mode = rw (is1, is2, is3, mode) refl
-  over-ahead c (Some x) next pending is1 is2 is3 over strict mode = absurd (cc over)
-  over-ahead c None (Some x) pending is1 is2 is3 over strict mode = absurd (cc over)
-  over-ahead c None None (Some x) is1 is2 is3 over strict mode = absurd (cc over)
-
-  pub none-ahead : (c : ImportCursor) → is_over c ≡ true → file_cursor_ahead m magic bytes c ≡ 0
-  none-ahead c over = over-ahead c c.place c.next_record c.pending refl refl refl over (reads_strictly m) refl
+pub none-ahead : (m : MapOfAddresses) (magic : ℕ) (bytes : List ℕ) (c : ImportCursor) → is_over c ≡ true → file_cursor_ahead m magic bytes c ≡ 0
+none-ahead m magic bytes c over =
+    let none = over-is c over in
+    elim (cases_Bool (reads_strictly m)) [
+      | inl strict ↦ rw (none.0, none.1, none.2, strict) refl
+      | inr permissive ↦ rw (none.0, none.1, none.2, permissive) refl
+    ]
 
 -- the walk has come to its end
 pub steps-end : (n steps ahead now next : ℕ) (limit left : Option ℕ) → AreCounted (Some steps) limit ahead now → AtSteps n limit left now next → next ≡ 0

@@ -18,10 +18,10 @@ use Rattle.goblin_pe.specs.declared.whole.Part.{Part}
 use Rattle.goblin_pe.specs.declared.whole.Part.TheVariants.{Absent, Refused}
 use Rattle.goblin_pe.specs.declared.whole.Part.TheVariants as part
 use Rattle.goblin_pe_c_tables.specs.declared.export.PeExport.{PeExport}
-use Rattle.goblin_pe_c_tables.specs.Batches.{GivesExports, at_room, export_table, export_walk, exports_in}
+use Rattle.goblin_pe_c_tables.specs.Batches.{GivesExports, LooksAtPointers, at_room, export_table, export_walk}
 use Rattle.goblin_pe_c_tables.specs.Exports.{export_for_c, export_model}
 use Rattle.goblin_pe_c_headers.specs.Onward.{FillsFrom, IsRefusedNext, unrefused}
-use Rattle.goblin_pe_c_headers.proofs.Batches.{AtItems, fills-by, items-cut, items-end, items-full, items-more, items-start, done-at_room, done-none}
+use Rattle.goblin_pe_c_headers.proofs.Batches.{AtItems, fills-by, items-cut, items-end, items-more, items-start, done-at_room, none-given}
 
 -- nothing comes once no name pointer is left
 none-left : (s : Exports) → pointer_count s ≤ exports_position s → exports_left s ≡ []
@@ -75,10 +75,6 @@ module _ {start : Exports} {old : List PeExport} {end : ℕ} {now : Exports} {re
   AreGiven next =
       FillsFrom export_walk ((end < pointer_count start) × (end ≤ exports_position next)) (to_come start)
       (record { position = start; records = old }) (record { position = next; records = records }) count
-
-  -- there is no more room
-  pub exports-full : length records ≤ count → AreGiven now
-  exports-full full = items-full h.at full
 
   -- nothing more comes before the end
   pub exports-ended : (next : Exports) → count < length records → GivesExportBefore end now None next → AreGiven next
@@ -171,18 +167,11 @@ module _ (m : MapOfAddresses) (places : TablePlaces) (bytes : List ℕ) (found :
           ),
         )
 
-  nothing : (steps : ℕ) (p : Part (ExportTables × List NumberedExport)) → ((y : ℕ) → exports_in m bytes y p ≡ [])
-      → (export_part m.opts m.addressing places).value bytes ≡ Some p
-      → GivesExports m places bytes steps steps (record { position = x; records = old }) (record { position = x; records = old }) (at_room (length old) 0 true)
-  nothing steps p none is =
-      let left : ℕ → List (Option NumberedExport) = λ y. unrefused (exports_in m bytes y p) in
-      let start = items-start (export_table m bytes p) left x x old refl in
-      rw is (
-        items-end start x (ap unrefused (none x)) (ap (λ (items : List NumberedExport). Some (unrefused items)) (none x)) (λ room. refl),
-        (done-none start (ap unrefused (none x)), record { further = omega arith; within = omega arith; looked = refl }),
-      )
-
   pub exports-none : (steps : ℕ) → (found ≡ Absent) ⊎ (found ≡ Refused)
       → GivesExports m places bytes steps steps (record { position = x; records = old }) (record { position = x; records = old }) (at_room (length old) 0 true)
-  exports-none steps (inl none) = nothing steps Absent (λ y. refl) (read ∙ ap (λ (p : Part Exports). Some (part_map walked_exports p)) none)
-  exports-none steps (inr none) = nothing steps Refused (λ y. refl) (read ∙ ap (λ (p : Part Exports). Some (part_map walked_exports p)) none)
+  exports-none steps none =
+      let looks : LooksAtPointers steps steps 0 x x = record { further = omega arith; within = omega arith; looked = refl } in
+      elim none [
+        | inl is ↦ rw (read ∙ ap (λ (p : Part Exports). Some (part_map walked_exports p)) is) (none-given (export_table m bytes Absent) (steps ≡ 0) (λ left. LooksAtPointers steps steps 0 x x) x old refl looks)
+        | inr is ↦ rw (read ∙ ap (λ (p : Part Exports). Some (part_map walked_exports p)) is) (none-given (export_table m bytes Refused) (steps ≡ 0) (λ left. LooksAtPointers steps steps 0 x x) x old refl looks)
+      ]

@@ -1,5 +1,6 @@
 -- A loop that fills records with the imports of a file from a position on.
 use Rattle.std.proofs.Common.{◌≡◌, ◌≢◌, append-nil, ℕ, ◌+◌, ◌-◌, ◌<◌, ◌≤◌, List, [], ◌∷◌, ◌++◌, length, drop, set, ap, subst, sym, refl, arith, ◌∙◌, inl, inr, is_none, is_some, Bool, true, false, ◌&&◌, Option, None, Some, Ok, Err, option_map, unwrap_or}
+use Rattle.std.proofs.lemmas.Bool.{and_parts}
 use Rattle.std.proofs.lemmas.List.{append_assoc, length-append}
 use Rattle.goblin_base.specs.declared.error.ErrorOf.{ErrorOf}
 use Rattle.goblin_pe_import.specs.declared.added.imports.ImportCursor.{ImportCursor}
@@ -26,12 +27,23 @@ use Rattle.goblin_pe_c_headers.proofs.Batches.{AtItems, batch-more, items-cut, i
 
 -- ---- the numbers of a cursor
 
-number-said : (o : Option ℕ) → option_from_c (is_some o) (unwrap_or o 0) ≡ o
-number-said None = refl
-number-said (Some n) = refl
+option-from_for : (o : Option ℕ) → option_from_c (is_some o) (unwrap_or o 0) ≡ o
+option-from_for None = refl
+option-from_for (Some n) = refl
 
-pub said-again : (c : ImportCursor) → cursor_from_c (cursor_for_c c) ≡ c
-said-again c = rw (number-said c.next_record, number-said c.place, number-said c.pending) refl
+pub cursor-from_for : (c : ImportCursor) → cursor_from_c (cursor_for_c c) ≡ c
+cursor-from_for c = rw (option-from_for c.next_record, option-from_for c.place, option-from_for c.pending) refl
+
+pub none-is : {A : Type 0} (o : Option A) → is_none o ≡ true → o ≡ None
+none-is None is = refl
+none-is (Some x) is = absurd (cc is)
+
+-- a cursor that is over
+pub over-is : (c : ImportCursor) → is_over c ≡ true → (c.place ≡ None) × (c.next_record ≡ None) × (c.pending ≡ None)
+over-is c over =
+    let last = and_parts (is_none c.place && is_none c.next_record) (is_none c.pending) over in
+    let both = and_parts (is_none c.place) (is_none c.next_record) last.0 in
+    (none-is c.place both.0, none-is c.next_record both.1, none-is c.pending last.1)
 
 -- ---- a walk goes on
 
@@ -43,21 +55,17 @@ module _ (m : MapOfAddresses) (places : TablePlaces) (bytes : List ℕ) where
   goes-at p c imports walk left at numbers = record {
     walk = walk;
     ahead = ap (position_ahead m places bytes) numbers
-        ∙ ap (λ (at : ImportCursor). file_cursor_ahead m places.magic bytes at) (said-again c)
+        ∙ ap (λ (at : ImportCursor). file_cursor_ahead m places.magic bytes at) (cursor-from_for c)
         ∙ sym (walk-ahead m places.magic bytes c imports (walk, at));
     left = ap ((import_table m places bytes).from) numbers
-        ∙ ap (λ (at : ImportCursor). Some (file_cursor_left m places.magic bytes at)) (said-again c)
+        ∙ ap (λ (at : ImportCursor). Some (file_cursor_left m places.magic bytes at)) (cursor-from_for c)
         ∙ ap (λ (items : List (Option NumberedImport)). Some items) (sym left);
   }
 
   -- nothing is left at a cursor that is over
-  pub over-left : (c : ImportCursor) (place next pending : Option ℕ) → c.place ≡ place → c.next_record ≡ next → c.pending ≡ pending
-      → (is_none place && is_none next && is_none pending) ≡ true → file_cursor_left m places.magic bytes c ≡ []
+  over-left : (c : ImportCursor) → is_over c ≡ true → file_cursor_left m places.magic bytes c ≡ []
   unfolding entries_from imports_next
-  over-left c None None None is1 is2 is3 over = rw (is1, is2, is3) refl
-  over-left c (Some x) next pending is1 is2 is3 over = absurd (cc over)
-  over-left c None (Some x) pending is1 is2 is3 over = absurd (cc over)
-  over-left c None None (Some x) is1 is2 is3 over = absurd (cc over)
+  over-left c over = let none = over-is c over in rw (none.0, none.1, none.2) refl
 
   -- where a batch begins
   pub goes-start : (p : PeImportCursor) (c : ImportCursor) (imports : FileImports) → (import_cursor m places p).value bytes ≡ Some c
@@ -72,29 +80,31 @@ module _ (m : MapOfAddresses) (places : TablePlaces) (bytes : List ℕ) where
 -- ---- the imports of a library
 
 -- it gave the values that the records hold
-record AreGivenIn (s t : FileImports) (Holds : List NumberedImport → Type 0) : Type 0 where
+pub record AreGivenIn (s t : FileImports) (Holds : List NumberedImport → Type 0) : Type 0 where
   values : List NumberedImport
   held : Holds values
   ahead : file_ahead s ≡ length values + file_ahead t
   yielded : file_imports_left s ≡ unrefused values ++ file_imports_left t
+  -- it keeps what is walked over
+  pub kept : (m : MapOfAddresses) (magic : ℕ) (bytes : List ℕ) → IsImportWalk m magic bytes s → IsImportWalk m magic bytes t
 
-library-given : (s t : FileImports) (Holds : List NumberedImport → Type 0) → GivesInFile s t Holds → AreGivenIn s t Holds
-library-given (Narrow s) (Narrow t) Holds gives =
-    record { values = gives.values; held = gives.held; ahead = gives.ahead; yielded = gives.yielded }
-library-given (Wide s) (Wide t) Holds gives =
-    record { values = gives.values; held = gives.held; ahead = gives.ahead; yielded = gives.yielded }
+pub library-given : (s t : FileImports) (Holds : List NumberedImport → Type 0) → GivesInFile s t Holds → AreGivenIn s t Holds
+library-given (Narrow s) (Narrow t) Holds gives = record {
+  values = gives.values;
+  held = gives.held;
+  ahead = gives.ahead;
+  yielded = gives.yielded;
+  kept = λ m magic bytes walk. (walk.0, (gives.over.0 ∙ walk.1.0, gives.over.1 ∙ walk.1.1), gives.kept walk.2);
+}
+library-given (Wide s) (Wide t) Holds gives = record {
+  values = gives.values;
+  held = gives.held;
+  ahead = gives.ahead;
+  yielded = gives.yielded;
+  kept = λ m magic bytes walk. (walk.0, (gives.over.0 ∙ walk.1.0, gives.over.1 ∙ walk.1.1), gives.kept walk.2);
+}
 library-given (Narrow s) (Wide t) Holds gives = absurd gives
 library-given (Wide s) (Narrow t) Holds gives = absurd gives
-
--- it keeps what is walked over
-pub library-kept : (m : MapOfAddresses) (magic : ℕ) (bytes : List ℕ) (s t : FileImports) (Holds : List NumberedImport → Type 0)
-    → GivesInFile s t Holds → IsImportWalk m magic bytes s → IsImportWalk m magic bytes t
-library-kept m magic bytes (Narrow s) (Narrow t) Holds gives walk =
-    (walk.0, (gives.over.0 ∙ walk.1.0, gives.over.1 ∙ walk.1.1), gives.kept walk.2)
-library-kept m magic bytes (Wide s) (Wide t) Holds gives walk =
-    (walk.0, (gives.over.0 ∙ walk.1.0, gives.over.1 ∙ walk.1.1), gives.kept walk.2)
-library-kept m magic bytes (Narrow s) (Wide t) Holds gives walk = absurd gives
-library-kept m magic bytes (Wide s) (Narrow t) Holds gives walk = absurd gives
 
 -- nothing was filled, and one record more
 pub filled-none : (records : List PeImport) (first : ℕ) → Fills records records first first []
@@ -220,7 +230,7 @@ module _ {m : MapOfAddresses} {places : TablePlaces} {bytes : List ℕ} {steps :
     imports-end true ends =
         let none : file_imports_left next ≡ [] =
         walk-left m places.magic bytes (file_cursor next) next (goes.walk, refl)
-        ∙ over-left m places bytes (file_cursor next) (file_cursor next).place (file_cursor next).next_record (file_cursor next).pending refl refl refl (sym ends) in
+        ∙ over-left m places bytes (file_cursor next) (sym ends) in
         items-gives h.at (Says q rest true) q
         (items-end h.at q (given.steps.0 ∙ none) (goes.left ∙ ap (λ (items : List (Option NumberedImport)). Some items) none) stays)
         (done-end h.at (given.steps.0 ∙ none) within, looked)

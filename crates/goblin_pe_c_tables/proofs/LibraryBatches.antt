@@ -16,7 +16,7 @@ use Rattle.goblin_pe_c_headers.specs.Onward.{IsRefusedNext, TellsEnd, values_bef
 use Rattle.goblin_pe_import.specs.declared.added.library_walk.WalkedLibrary.{WalkedLibrary}
 use Rattle.goblin_pe_c_tables.specs.declared.library.PeLibrary.{PeLibrary}
 use Rattle.goblin_pe_c_headers.proofs.Batches.{AtItems, items-end, items-fault, items-full, items-gives, items-more, items-refused, items-start, items-taken, items-then, done-end, done-full, done-refused}
-use Rattle.goblin_pe_c_tables.proofs.ImportBatches.{said-again}
+use Rattle.goblin_pe_c_tables.proofs.ImportBatches.{cursor-from_for}
 
 module _ (m : MapOfAddresses) (places : TablePlaces) (bytes : List ℕ) where
   abbrev comes : ImportCursor → List (Option LibraryValue)
@@ -36,7 +36,7 @@ module _ (m : MapOfAddresses) (places : TablePlaces) (bytes : List ℕ) where
       → (library_table m places bytes).from p ≡ Some (comes c)
   at-numbers p c numbers =
       ap (library_table m places bytes).from numbers
-      ∙ ap (λ (at : ImportCursor). Some (comes at)) (said-again c)
+      ∙ ap (λ (at : ImportCursor). Some (comes at)) (cursor-from_for c)
 
   pub goes-on : (p : PeImportCursor) (it : Libraries) → AreLibrariesOver m (entry_format places.magic) bytes it
       → p ≡ cursor_for_c (libraries_cursor it) → (library_table m places bytes).from p ≡ Some (libraries_left it)

@@ -17,7 +17,7 @@ use Rattle.goblin_pe_import.proofs.added.LeftOutLibraries.{library_left_out}
 use Rattle.goblin_pe.specs.added.LayoutCursors.{file_cursor_left}
 use Rattle.goblin_pe.specs.Whole.{TablePlaces, entry_format}
 use Rattle.goblin_pe_c_tables.specs.Libraries.{LibrariesEnd}
-use Rattle.goblin_pe_c_tables.proofs.ImportBatches.{said-again}
+use Rattle.goblin_pe_c_tables.proofs.ImportBatches.{cursor-from_for}
 
 -- a name that is needed, and there
 named : (strict : Bool) (v : Option (List ℕ)) → IsSome (in_its_place strict [] v) → in_its_place strict [] v ≡ Some (unwrap_or v [])
@@ -64,5 +64,5 @@ pub libraries_end : LibrariesEnd
 unfolding LibrariesEnd
 libraries_end m places bytes first p r behind there =
     let c = inside_library (reads_strictly m) m.addressing (library m places bytes first p r behind) in
-    ap (λ (at : ImportCursor). Some (file_cursor_left m places.magic bytes at)) (said-again c)
+    ap (λ (at : ImportCursor). Some (file_cursor_left m places.magic bytes at)) (cursor-from_for c)
     ∙ ap (λ (items : List (Option NumberedImport)). Some items) (by-out m places bytes first p r behind _ refl there)

@@ -1,18 +1,17 @@
 -- Both modes walk alike over an image without damage.
-use Rattle.std.proofs.Common.{◌≡◌, ◌∙◌, ◌<◌, ◌^◌, ℕ, true, List, Option, None, Some, IsSomeAnd, ap, arith, is_none, min, refl, subst, eqb-true}
+use Rattle.std.proofs.Common.{◌≡◌, ◌∙◌, ◌<◌, ◌^◌, ℕ, true, List, Option, None, Some, IsSomeAnd, ap, arith, min, subst, eqb-true}
 use Rattle.std.proofs.Math.Nat.{min-eq_left}
 use Rattle.std.proofs.lemmas.Bool.{and_parts}
 use Rattle.goblin_base.proofs.Steps.{mapped, step}
-use Rattle.goblin_pe_sect.specs.Addresses.{MapOfAddresses, map_in, with_longest}
+use Rattle.goblin_pe_sect.specs.Addresses.{MapOfAddresses, with_longest}
 use Rattle.goblin_pe_sect.specs.Options.{is_strict}
 use Rattle.goblin_pe_sect.specs.SectionTable.{Section}
 use Rattle.goblin_pe_head.specs.CoffHeader.{symbols_end}
 use Rattle.goblin_pe_head.specs.CoffReadings.{sections_at}
 use Rattle.goblin_pe_head.specs.HeaderReadings.{pe_header, stub_at}
 use Rattle.goblin_pe_head.specs.PeHeader.{PeHeader}
-use Rattle.goblin_pe_head.specs.declared.optional_header.OptionalHeader.{OptionalHeader}
 use Rattle.goblin_pe.specs.added.Damages.{IsDamage, IsDamaged, IsSound, left_out_of}
-use Rattle.goblin_pe.specs.Whole.{TablePlaces, layout, mapped_in, places_in, section_table_offset, sections_after}
+use Rattle.goblin_pe.specs.Whole.{TablePlaces, layout, places_in, section_table_offset, sections_after}
 use Rattle.goblin_pe.specs.declared.added.damage.Damage.{Damage}
 use Rattle.goblin_pe.proofs.added.SoundFiles.{sound_made}
 use Rattle.goblin_pe_c_headers.specs.Options.{header_options, longest_of, options_at, view_of}
@@ -21,26 +20,13 @@ use Rattle.goblin_pe_c_headers.specs.declared.image.PeImage.{PeImage}
 use Rattle.goblin_pe_c_headers.specs.declared.options.PeOptions.{PeOptions}
 use Rattle.goblin_pe_c_headers.specs.declared.places.PePlaces.{PePlaces}
 use Rattle.goblin_pe_c_tables.specs.Damages.{IsDamagedBy, damage_map, image_names, is_sound}
-use Rattle.goblin_pe_c_tables.specs.Places.{map_at, places_record, places_from_c}
-use Rattle.goblin_pe_c_tables.specs.ReadImages.{image_of}
+use Rattle.goblin_pe_c_tables.specs.Places.{file_map_of, map_at, places_record, places_from_c}
+use Rattle.goblin_pe_c_tables.specs.ReadImages.{ImageLeadsBack, image_of}
 use Rattle.goblin_pe_c_tables.specs.Walked.{SoundIsWalkedAlike, walked_of}
-use Rattle.goblin_pe_c_tables.proofs.Placed.{leads_back}
-
--- the places of an image are those of its header
-places-by : (o : PeOptions) (h : PeHeader) (image : PeImage) (x : Option OptionalHeader) → h.optional_header ≡ x
-    → image_places (image_of o h image) ≡ places_record h
-unfolding places_in
-places-by o h image None is = rw is refl
-places-by o h image (Some y) is = rw is refl
-
-image-places : (o : PeOptions) (h : PeHeader) (image : PeImage) → image_places (image_of o h image) ≡ places_record h
-image-places o h image = places-by o h image h.optional_header refl
+use Rattle.goblin_pe_c_tables.proofs.ImportBatches.{none-is}
+use Rattle.goblin_pe_c_tables.proofs.Placed.{image_leads_back, leads_back}
 
 -- a damage that says that the image is sound
-none-is : {A : Type 0} (o : Option A) → is_none o ≡ true → o ≡ None
-none-is None is = refl
-none-is (Some x) is = absurd (cc is)
-
 sound-is : (d : Damage) → is_sound d ≡ true → IsSound d
 sound-is d is =
     let stub = and_parts _ _ is in
@@ -70,11 +56,9 @@ module _ (image : PeImage) (h : PeHeader) (s : List Section) (d : Damage) (whole
   abbrev places : TablePlaces
   places = places_in h.optional_header
 
-  abbrev map_whole : MapOfAddresses
-  map_whole = map_in (options_at o places.file_alignment) (mapped_in (view_of o) h s) places.file_alignment
-
   places-are : image_places image ≡ places_record h
-  places-are = ap image_places is ∙ image-places image.options h image
+  unfolding ImageLeadsBack
+  places-are = (image_leads_back image h is).0
 
   names-are : IsDamage (image_names image) bytes d.section_names → IsDamage (sections_after true h) bytes d.section_names
   unfolding sections_after
@@ -83,14 +67,14 @@ module _ (image : PeImage) (h : PeHeader) (s : List Section) (d : Damage) (whole
       subst (λ (n : ℕ). IsDamage (sections_at true (symbols_end h.coff_header) n (section_table_offset h)) bytes d.section_names) count
       (subst (λ (i : PeImage). IsDamage (image_names i) bytes d.section_names) is damaged)
 
-  by-map : (found : List Section) → map_at o (places_record h) found ≡ with_longest (longest_of o) map_whole
+  by-map : (found : List Section) → map_at o (places_record h) found ≡ with_longest (longest_of o) (file_map_of o h s)
       → IsDamagedBy image (damage_map image found) (places_from_c (image_places image)) bytes d
       → IsDamaged (view_of o) (options_at o places.file_alignment) h s bytes d
   by-map found map damaged =
-      let m : damage_map image found ≡ with_longest None map_whole =
-      ap (λ (p : PePlaces). map_at o p found) places-are ∙ map ∙ ap (λ (l : Option ℕ). with_longest l map_whole) whole in
+      let m : damage_map image found ≡ with_longest None (file_map_of o h s) =
+      ap (λ (p : PePlaces). map_at o p found) places-are ∙ map ∙ ap (λ (l : Option ℕ). with_longest l (file_map_of o h s)) whole in
       let at : places_from_c (image_places image) ≡ places = ap places_from_c places-are ∙ (leads_back h).tables in
-      let moved = subst (λ (p : TablePlaces). IsDamagedBy image (with_longest None map_whole) p bytes d) at
+      let moved = subst (λ (p : TablePlaces). IsDamagedBy image (with_longest None (file_map_of o h s)) p bytes d) at
       (subst (λ (m : MapOfAddresses). IsDamagedBy image m (places_from_c (image_places image)) bytes d) m damaged) in
       record {
         dos_stub = subst (λ (i : PeImage). IsDamage (stub_at i.dos_header.pe_pointer) bytes d.dos_stub) is moved.dos_stub;

@@ -6,7 +6,7 @@ use Rattle.goblin_base.specs.Tables.{Format}
 use Rattle.goblin_base.proofs.Steps.{mapped, same_value, step}
 use Rattle.readings.specs.Reads.{given, or_else, pair_of, pick}
 use Rattle.goblin_pe_sect.specs.AddressReadings.{offset_at}
-use Rattle.goblin_pe_sect.specs.Addresses.{MapOfAddresses, reads_strictly, with_longest, map_in}
+use Rattle.goblin_pe_sect.specs.Addresses.{MapOfAddresses, reads_strictly, with_longest}
 use Rattle.goblin_pe_sect.specs.Options.{is_strict}
 use Rattle.goblin_pe_sect.specs.SectionTable.{Section}
 use Rattle.goblin_pe_sect.specs.declared.data_directories.DataDirectory.{DataDirectory}
@@ -41,7 +41,7 @@ use Rattle.goblin_pe_c_headers.specs.Onward.{unrefused}
 use Rattle.goblin_pe_c_headers.specs.Options.{alignment_by, alignment_in, header_options, longest_of, options_at, options_in, view_of}
 use Rattle.goblin_pe_c_headers.specs.declared.options.PeOptions.{PeOptions}
 use Rattle.goblin_pe_c_tables.specs.Batches.{exports_in, import_table}
-use Rattle.goblin_pe_c_tables.specs.Places.{map_at, places_record, places_from_c}
+use Rattle.goblin_pe_c_tables.specs.Places.{file_map_of, map_at, places_record, places_from_c}
 use Rattle.goblin_pe_c_headers.specs.Places.{placed_sections}
 use Rattle.goblin_pe_c_headers.proofs.Named.{some-weaker}
 use Rattle.goblin_pe_c_tables.specs.Walked.{AreItems, AreWalked, WalksGive, items_in, walked_of, walked_tables}
@@ -232,13 +232,10 @@ module _ (o : PeOptions) (bytes : List ℕ) (octets : IsBytes bytes) (short : le
   unfolding alignment_in
   alignment-is = rw header (alignment-same h.optional_header)
 
-  abbrev map_whole : MapOfAddresses
-  map_whole = map_in (options_at o places.file_alignment) (mapped_in (view_of o) h s) places.file_alignment
-
-  are-items : AreItems (walked_tables h t) (with_longest (longest_of o) map_whole) places bytes
+  are-items : AreItems (walked_tables h t) (with_longest (longest_of o) (file_map_of o h s)) places bytes
   are-items =
-      subst (λ (longest : Option ℕ). AreItems (walked_tables h t) (with_longest longest map_whole) places bytes) (sym whole)
-      (items-given (with_longest None map_whole) places bytes octets short t (subst TablesBy alignment-is tables))
+      subst (λ (longest : Option ℕ). AreItems (walked_tables h t) (with_longest longest (file_map_of o h s)) places bytes) (sym whole)
+      (items-given (with_longest None (file_map_of o h s)) places bytes octets short t (subst TablesBy alignment-is tables))
 
   are-walked : AreWalked o bytes (walked_of h s t)
   unfolding layout
@@ -246,7 +243,7 @@ module _ (o : PeOptions) (bytes : List ℕ) (octets : IsBytes bytes) (short : le
     read = rw (header, sections) refl;
     items =
         some-weaker ((placed_sections (places_record h)).value bytes)
-        (λ found. map_at o (places_record h) found ≡ with_longest (longest_of o) map_whole)
+        (λ found. map_at o (places_record h) found ≡ with_longest (longest_of o) (file_map_of o h s))
         (λ found. AreItems (walked_tables h t) (map_at o (places_record h) found) (places_from_c (places_record h)) bytes)
         (λ found is. subst (λ (m : MapOfAddresses). AreItems (walked_tables h t) m places bytes) (sym is) are-items)
         ((leads_back h).sections (is_strict (header_options o).parse_mode) bytes s sections o);

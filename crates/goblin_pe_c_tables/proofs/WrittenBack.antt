@@ -1,6 +1,8 @@
 -- A header that strict mode read is written back from its record.
-use Rattle.std.proofs.Common.{◌≡◌, ◌∙◌, ◌++◌, ◌+◌, ◌-◌, ◌≤◌, ◌==◌, ◌&&◌, ℕ, zero, suc, Bool, true, false, cond, length, List, [], ◌∷◌, map, drop, refl, sym, ap, arith, rules, tests, Option, Some, None, nat_le, nat_lt, slice_range, leb-true, length-drop, length-take, ne_eqb}
+use Rattle.std.proofs.Common.{◌≡◌, ◌∙◌, ◌++◌, ◌+◌, ◌-◌, ◌≤◌, ◌==◌, ◌&&◌, ℕ, zero, suc, true, false, length, List, [], ◌∷◌, map, drop, refl, sym, ap, arith, rules, tests, Option, Some, None, nat_le, nat_lt, slice_range, leb-true, length-drop, length-take, ne_eqb}
 use Rattle.std.proofs.lemmas.List.{nil_from_length}
+use Rattle.std.proofs.lemmas.Bool.{and_parts}
+use Rattle.std.proofs.lemmas.Option.{cond_some}
 use Rattle.std.specs.Option.{is_some}
 use Rattle.goblin_base.specs.declared.endian.Endian.TheVariants.{Little}
 use Rattle.goblin_base.specs.Parts.{bytes_between}
@@ -52,21 +54,17 @@ part-back image (Some h) fields has directories =
 
 -- ---- the stub
 
-both-true : (a b : Bool) (xs s : List ℕ) → cond (a && b) (Some xs) None ≡ Some s → (a ≡ true) × (b ≡ true) × (xs ≡ s)
-both-true true true xs s is = (refl, refl, same_value xs s is)
-both-true true false xs s is = absurd (cc is)
-both-true false b xs s is = absurd (cc is)
-
 -- the stub that strict mode read is in the file
 stub-there : (bytes : List ℕ) (p : ℕ) (stub : List ℕ) → bytes_between bytes 64 p ≡ Some stub
     → (nat_lt p 64 ≡ false) × ((pick (length stub == 0) (given []) (slice_at 64 (length stub))).value bytes ≡ Some stub)
 stub-there bytes p stub is =
-    let inside = both-true (nat_le 64 p) (nat_le p (length bytes)) (slice_range bytes 64 p) stub is in
-    let begins = leb-true 64 p inside.0 in
-    let ends = leb-true p (length bytes) inside.1 in
-    let size : length stub ≡ p - 64 = ap (λ (xs : List ℕ). length xs) (sym inside.2) ∙ omega (arith, length-take (p - 64) (drop 64 bytes), length-drop 64 bytes, ends) in
+    let inside = cond_some (nat_le 64 p && nat_le p (length bytes)) (slice_range bytes 64 p) stub is in
+    let both = and_parts (nat_le 64 p) (nat_le p (length bytes)) inside.0 in
+    let begins = leb-true 64 p both.0 in
+    let ends = leb-true p (length bytes) both.1 in
+    let size : length stub ≡ p - 64 = ap (λ (xs : List ℕ). length xs) (sym inside.1) ∙ omega (arith, length-take (p - 64) (drop 64 bytes), length-drop 64 bytes, ends) in
     let after : nat_lt p 64 ≡ false = search (rules, tests) in
-    (after, by (length stub) refl begins ends size inside.2)
+    (after, by (length stub) refl begins ends size inside.1)
   where
     by : (n : ℕ) → length stub ≡ n → 64 ≤ p → p ≤ length bytes → length stub ≡ p - 64 → slice_range bytes 64 p ≡ stub
         → (pick (length stub == 0) (given []) (slice_at 64 (length stub))).value bytes ≡ Some stub
@@ -79,10 +77,10 @@ stub-there bytes p stub is =
 -- ---- a header
 
 -- what a record says is written as the header that strict mode read
-said-back : (image : PeImage) (h : PeHeader) → (pe_header true).value image.bytes.now ≡ Some h → image ≡ image_of image.options h image
+record-written : (image : PeImage) (h : PeHeader) → (pe_header true).value image.bytes.now ≡ Some h → image ≡ image_of image.options h image
     → header_bytes Little (header_from_c image h.dos_stub) ≡ header_bytes Little h
 unfolding header_bytes header_parts
-said-back image h e is =
+record-written image h e is =
     let parts = parts_of true image.bytes.now h e in
     let signature : 0x4550 ≡ h.signature = same_value 0x4550 h.signature (sym (dos_of image.bytes.now h.dos_header parts.dos).signature ∙ parts.signature) in
     let fields = ap (λ (i : PeImage). i.optional_header) is in
@@ -100,4 +98,4 @@ image_back image h fits e is =
     let replaced = ap (λ (i : PeImage). i.is_dos_stub_replaced) is in
     let size = ap (λ (i : PeImage). i.dos_stub_size) is in
     let there : (image_stub image).value image.bytes.now ≡ Some h.dos_stub = rw (replaced, stub.0, size) stub.1 in
-    rw there (said-back image h e is ∙ (header_back image.bytes.now h fits e).1)
+    rw there (record-written image h e is ∙ (header_back image.bytes.now h fits e).1)

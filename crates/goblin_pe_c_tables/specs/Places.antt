@@ -55,6 +55,13 @@ abbrev pub TakesIndexAt : PePlaces → List ℕ → Type 0
 TakesIndexAt p bytes =
     IsSomeAnd ((placed_sections p).value bytes) (λ sections. AreMany (length sections))
 
+-- how addresses of a file with this header and these sections are mapped, in the view of the
+-- options, by its own file alignment
+abbrev pub file_map_of : PeOptions → PeHeader → List Section → MapOfAddresses
+file_map_of o h sections =
+    let alignment = (places_in h.optional_header).file_alignment in
+    map_in (options_at o alignment) (mapped_in (view_of o) h sections) alignment
+
 -- The places of a header lead back to its file: its tables lie there, and addresses are mapped by
 -- the sections after it, and in the loader's view by its front. Names are read up to the limit.
 pub record LeadsBack (h : PeHeader) : Type 0 where
@@ -62,7 +69,4 @@ pub record LeadsBack (h : PeHeader) : Type 0 where
   pub sections : (strict : Bool) (bytes : List ℕ) (sections : List Section)
       → (sections_after strict h).value bytes ≡ Some sections → (o : PeOptions)
       → IsSomeAnd ((placed_sections (places_record h)).value bytes) (λ found.
-      let alignment = (places_in h.optional_header).file_alignment in
-      map_at o (places_record h) found
-      ≡ with_longest (longest_of o)
-      (map_in (options_at o alignment) (mapped_in (view_of o) h sections) alignment))
+      map_at o (places_record h) found ≡ with_longest (longest_of o) (file_map_of o h sections))

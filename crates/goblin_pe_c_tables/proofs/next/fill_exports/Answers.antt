@@ -1,7 +1,8 @@
 use Rattle.std.proofs.Common.{arith, subst, sym}
 use Rattle.std.proofs.lemmas.List.{length-set}
 use Rattle.goblin_pe_export.specs.declared.added.exports.Exports.{Exports}
-use Rattle.goblin_pe_c_tables.proofs.ExportBatches.{AtExports, exports-ended, exports-filled, exports-full, exports-more, exports-start, exports-through}
+use Rattle.goblin_pe_c_headers.proofs.Batches.{items-full}
+use Rattle.goblin_pe_c_tables.proofs.ExportBatches.{AtExports, exports-ended, exports-filled, exports-more, exports-start, exports-through}
 use Rattle.goblin_pe_c_tables.proofs.next.fill_exports.Goals as goal
 
 pub exports-init : goal.exports-init
@@ -49,7 +50,7 @@ pub returns : goal.returns
 returns c =
     let before = c.exports.invariant in
     record {
-      filled = exports-full before c.exports-test.false;
+      filled = items-full before.at c.exports-test.false;
       over = before.over;
       further = before.further;
       within = before.within;

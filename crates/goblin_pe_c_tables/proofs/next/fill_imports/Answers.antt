@@ -3,7 +3,7 @@ use Rattle.goblin_base.specs.declared.error.ErrorOf.{ErrorOf}
 use Rattle.goblin_pe_import.specs.declared.added.imports.WalkedImport.{WalkedImport}
 use Rattle.goblin_pe.specs.added.LayoutCursors.{GivesFileWithin}
 use Rattle.goblin_pe.specs.added.Layouts.{layout_map, layout_places}
-use Rattle.goblin_pe_c_tables.proofs.ImportBatches.{goes-at, imports-end, imports-fault, imports-full, imports-refused, imports-start, library-kept, library-more}
+use Rattle.goblin_pe_c_tables.proofs.ImportBatches.{goes-at, imports-end, imports-fault, imports-full, imports-refused, imports-start, library-given, library-more}
 use Rattle.goblin_pe_c_tables.specs.Batches.{is_over}
 use Rattle.goblin_pe_c_tables.proofs.next.fill_imports.Goals as goal
 
@@ -26,7 +26,7 @@ imports-preserved c =
     let is = subst (λ (r : Result WalkedImport ErrorOf). GivesFileWithin now (Some c.imports.left) (Some r) next c.next_within.new.steps) c.in-Some-Ok.field-0-is c.in-Some-Ok.ensures in
     let kept = is.walk m places.magic bytes c.imports.invariant.goes.walk in
     let filled = c.fill_library-count.ensures in
-    let there = library-kept m places.magic bytes next last _ filled.filled kept in
+    let there = (library-given next last _ filled.filled).kept m places.magic bytes kept in
     let goes = goes-at m places bytes c.cursor_for_c.result c.cursor.result last there (c.cursor.ensures.left m places.magic bytes there) (sym c.cursor.ensures.is) c.cursor_for_c.ensures in
     library-more c.imports.invariant x next last c.cursor_for_c.result c.next_within.new.steps c.unwrap_or-left.result c.fill_library-count.new.left c.import_record.result c.fill_library-count.new.records c.fill_library-count.result
     is c.unwrap_or-left.ensures c.imports-test.true c.import_record.ensures filled.filled filled.counted goes
