@@ -19,7 +19,7 @@ ghost use Rattle.goblin_pe_c_tables.specs.PartialImages.{partial_image, stub_siz
 use crate::read::rich_record;
 use goblin_pe::added::{HeaderParts, section_records_of, unnamed_records};
 use goblin_pe::header::{CoffHeader, DosHeader, DosStub, Header, RichHeader};
-use goblin_pe::optional_header::{OptionalHeader, StandardFields, WindowsFields};
+use goblin_pe::optional_header::OptionalHeader;
 use goblin_pe::options::ParseOptions;
 use goblin_pe::section_table::SectionRecords;
 use goblin_pe::{Places, Result};
@@ -207,10 +207,7 @@ fn has_fields(parts: &HeaderParts) -> bool
 fn optional_record(header: &Option<OptionalHeader>) -> PeOptionalHeader
     ensures { result ≡ optional_record header.now }
 {
-    let mut fields = PeOptionalHeader {
-        standard_fields: StandardFields::default(),
-        windows_fields: WindowsFields::default(),
-    };
+    let mut fields = PeOptionalHeader::default();
     fill_optional(&mut fields, header);
     fields
 }

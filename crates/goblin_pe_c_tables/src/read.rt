@@ -34,14 +34,7 @@ pub(crate) fn rich_record(rich: &Option<RichHeader>) -> PeRichHeader
             is_present: true,
             reserved: [0; 3],
         },
-        None => PeRichHeader {
-            key: 0,
-            start_offset: 0,
-            end_offset: 0,
-            padding_size: 0,
-            is_present: false,
-            reserved: [0; 3],
-        },
+        None => PeRichHeader::default(),
     }
 }
 
