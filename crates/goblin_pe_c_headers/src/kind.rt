@@ -108,23 +108,10 @@ fn kind_with(magic: u16) -> Kind
 fn has_u64(bytes: &[u8], offset: usize, number: u64) -> bool
     ensures { result ≡ has_number 8 bytes.now offset number }
 {
-    match pread_u64(bytes, offset, Endian::Little) {
-        Ok(found) => found == number,
-        Err(_) => false,
-    }
+    matches!(pread_u64(bytes, offset, Endian::Little), Ok(found) if found == number)
 }
 
-// Whether a file begins as import objects and big objects do.
-fn is_anonymous(bytes: &[u8]) -> bool
-    ensures { result ≡ has_number 4 bytes.now 0 0xFFFF0000 }
-{
-    match pread_u32(bytes, 0, Endian::Little) {
-        Ok(found) => found == ANONYMOUS,
-        Err(_) => false,
-    }
-}
-
-// What a file is that begins so.
+// What a file is that begins as import objects and big objects do.
 fn anonymous_kind(bytes: &[u8]) -> Kind
     ensures { result ≡ anonymous_kind bytes.now }
 {
@@ -143,7 +130,7 @@ pub fn kind_of(bytes: &[u8]) -> Kind
     if has_u64(bytes, 0, ARCHIVE) {
         return Kind::Archive;
     }
-    if is_anonymous(bytes) {
+    if matches!(pread_u32(bytes, 0, Endian::Little), Ok(ANONYMOUS)) {
         return anonymous_kind(bytes);
     }
     match pread_u16(bytes, 0, Endian::Little) {

@@ -300,32 +300,6 @@ fn region_in(bytes: &[u8], mapped: &Mapped, section: &SectionTable, rva: usize) 
     }
 }
 
-// The first `size` bytes from an RVA on, by the section of this index that holds it.
-fn memory_held<'a>(
-    bytes: &'a [u8],
-    mapped: &Mapped,
-    outside: usize,
-    rva: usize,
-    size: usize,
-    index: usize,
-    section: &SectionTable,
-) -> PeMemory<'a>
-    ensures { memory_model result
-        ≡ memory_by (mapped_model mapped.now) bytes.now outside rva size index (Some section.now) }
-{
-    let found = memory_of(bytes, mapped, section, rva, size);
-    let missing = size - (found.0.len() + found.1);
-    if index == outside {
-        return known(found, missing, index, Region::Headers);
-    }
-    known(
-        found,
-        missing,
-        index,
-        region_in(bytes, mapped, section, rva),
-    )
-}
-
 // The first `size` bytes from an RVA on, by what holds it.
 fn memory_by<'a>(
     bytes: &'a [u8],
@@ -339,12 +313,16 @@ fn memory_by<'a>(
         ≡ memory_by m bytes.now outside rva size (unwrap_or (holder_index m rva) outside)
         (holder m rva) }
 {
-    match holder(mapped, rva) {
-        Some((index, section)) => {
-            memory_held(bytes, mapped, outside, rva, size, index, &section)
-        }
-        None => unknown(bytes, size, outside),
+    let Some((index, section)) = holder(mapped, rva) else {
+        return unknown(bytes, size, outside);
+    };
+    let found = memory_of(bytes, mapped, &section, rva, size);
+    let missing = size - (found.0.len() + found.1);
+    if index == outside {
+        return known(found, missing, index, Region::Headers);
     }
+    let region = region_in(bytes, mapped, &section, rva);
+    known(found, missing, index, region)
 }
 
 // The first `size` bytes from an offset on, where RVAs are offsets.
