@@ -3,7 +3,7 @@
 ghost use Rattle.std.specs.Prelude.{◌≡◌, ◌+◌, ◌^◌, ◌<◌, ◌≤◌, Some, length, option_map};
 ghost use Rattle.std.specs.Option.{unwrap_or};
 ghost use Rattle.goblin_pe_c_headers.specs.Addresses.{mapped_model};
-ghost use Rattle.goblin_pe_c_headers.specs.Memory.{SeesFile, available, contents_in, front_at};
+ghost use Rattle.goblin_pe_c_headers.specs.Memory.{SeesFile, available, front_at};
 ghost use Rattle.goblin_pe_c_headers.specs.Memory.{holder, holder_index, is_among, is_unstored};
 ghost use Rattle.goblin_pe_c_headers.specs.Memory.{known, memory_at, memory_by, memory_in_file};
 ghost use Rattle.goblin_pe_c_headers.specs.Memory.{memory_length, memory_of, memory_size};
@@ -148,26 +148,6 @@ fn zeros_after(section: &SectionTable, mapping: Mapping) -> usize
     memory_size(section).saturating_sub(stored_size(section, mapping))
 }
 
-// The raw data of a section as far as the file has it, and the zeros that follow if it has all.
-fn contents_in<'a>(
-    bytes: &'a [u8],
-    section: &SectionTable,
-    index: usize,
-    mapping: Mapping,
-) -> PeMemory<'a>
-    ensures { memory_model result ≡ contents_in mapping bytes.now index section.now }
-{
-    let stored = stored_size(section, mapping);
-    let begin = raw_begin(section, mapping) as usize;
-    let found = available(bytes, begin, stored, zeros_after(section, mapping));
-    let region = if stored == 0 {
-        Region::Zeros
-    } else {
-        Region::RawData
-    };
-    known(found, stored - found.0.len(), index, region)
-}
-
 /// The contents of a section of an image: its raw data, and the zeros that the loader adds up to
 /// the virtual size.
 pub fn section_data<'a>(
@@ -183,11 +163,18 @@ pub fn section_data<'a>(
     let index = section.index;
     let section = section_of(section);
     let mapping = view_of(options).mapping(&options_at(options, file_alignment));
-    if are_known(options) {
-        return contents_in(bytes, &section, index, mapping);
+    let stored = stored_size(&section, mapping);
+    let zeros = zeros_after(&section, mapping);
+    if !are_known(options) {
+        return unknown(bytes, stored + zeros, index);
     }
-    let missing = stored_size(&section, mapping) + zeros_after(&section, mapping);
-    unknown(bytes, missing, index)
+    let found = available(bytes, raw_begin(&section, mapping) as usize, stored, zeros);
+    let region = if stored == 0 {
+        Region::Zeros
+    } else {
+        Region::RawData
+    };
+    known(found, stored - found.0.len(), index, region)
 }
 
 // How many bytes the window of a section has.
