@@ -29,7 +29,7 @@ fn record_count(bytes: &[u8], cursor: &PeCoffRelocationCursor) -> Result<usize>
 }
 
 // The bytes of all relocations, 10 for each.
-#[tactic(auto, unfolding(crate::specs::Relocations::all_relocations))]
+#[tactic(auto, unfolding(crate::specs::Relocations::all_relocations, goblin_base::specs::Tables::records_in))]
 fn all_records<'a>(bytes: &'a [u8], cursor: &PeCoffRelocationCursor) -> Result<&'a [u8]>
     ensures value { Reads (λ table. relocations_in table.now) result (all_relocations cursor.now)
         bytes.now }
