@@ -25,7 +25,7 @@ pub(crate) struct Mapped<'a> {
     pub(crate) records: MappedRecords<'a>,
     // The file alignment of the raw data.
     pub(crate) file_alignment: u32,
-    // How these are mapped.
+    // How addresses are mapped by these.
     pub(crate) mapping: Mapping,
 }
 

@@ -40,11 +40,13 @@ impl RawPointerRule {
 #[derive(Debug, PartialEq, Copy, Clone)]
 pub enum View {
     /// The sections, as in goblin. The size of a window is measured from the raw pointer rounded
-    /// down to a multiple of 512. So if the raw data begins at a pointer as stored, the window may
-    /// reach past it, and past the next section's address.
+    /// down to a multiple of 512. So if the raw data begins at the pointer as stored, the window
+    /// may reach past the data, and past the next section's address.
     Sections,
-    /// The sections, as a loader maps them. If the file alignment is below 512, a window is as long
-    /// as the raw data, rounded up to the file alignment. Otherwise it is as long as in goblin.
+    /// The sections, with a loader's windows. If the file alignment is below 512, a window has no
+    /// more bytes than the raw data, rounded up to the file alignment. Otherwise it is as long as
+    /// in goblin; [`window_by`](crate::utils::window_by) has both sizes. No view says where raw
+    /// data begins: [`RawPointerRule`] does.
     LoadedSections,
     /// As [`View::LoadedSections`] and, for an address that no section's window holds, the front of
     /// the file, since the Windows loader maps the headers at the image's base. The window of the

@@ -130,8 +130,8 @@ impl<'a> Layout<'a> {
     ///
     /// - Raw pointers follow the file alignment ([`RawPointerRule::by_file_alignment`]), whatever
     ///   rule `opts` name.
-    /// - If the file alignment is below 512, a section's window is as long as its raw data, rounded
-    ///   up to that alignment.
+    /// - If the file alignment is below 512, a section's window has no more bytes than its raw
+    ///   data, rounded up to that alignment.
     /// - The front of the file is mapped at the image's base: as many bytes as the header says that
     ///   the headers have, in whole file blocks.
     ///

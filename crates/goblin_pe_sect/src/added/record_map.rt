@@ -38,7 +38,8 @@ fn listed<'e>(alloc: Global, records: MappedRecords) -> ResultOf<'e, Vec<Section
 }
 
 /// The file offset of the address `rva`, by these sections and, if it is mapped, the file's front
-/// after them: that of the first section whose window holds it. The call takes no memory.
+/// after them: that of the first section whose window holds it. The windows are those in the view
+/// of `mapping`; the view of `records` does not count. The call takes no memory.
 pub fn offset_by_records(
     records: MappedRecords,
     file_alignment: u32,
