@@ -61,11 +61,7 @@ pub(crate) fn mapped_by<'a>(
     let view = view_of(options);
     let front = view.front(places.size_of_headers);
     Some(Mapped {
-        records: MappedRecords {
-            records,
-            view,
-            front,
-        },
+        records: MappedRecords { records, front },
         file_alignment: places.file_alignment,
         mapping: view.mapping(&options_at(options, places.file_alignment)),
     })

@@ -53,13 +53,10 @@ pub fn layout_of<'a, 'e>(alloc: Global, image: &PeImage<'a>) -> ResultOf<'e, Lay
     let records = section_records(image.bytes, &places)?;
     let view = view_of(&image.options);
     let front = view.front(places.size_of_headers);
-    let mapped = MappedRecords {
-        records,
-        view,
-        front,
-    };
-    let opts = options_at(&image.options, places.file_alignment);
-    let mut address_map = AddressMap::of_records(alloc, mapped, places.file_alignment, &opts)?;
+    let mapped = MappedRecords { records, front };
+    let alignment = places.file_alignment;
+    let opts = options_at(&image.options, alignment);
+    let mut address_map = AddressMap::of_records(alloc, mapped, view, alignment, &opts)?;
     address_map.set_longest_name(longest_of(&image.options));
     let places = places_from_c(&places_of(image));
     Ok(Layout::by(image.bytes, places, records, address_map))

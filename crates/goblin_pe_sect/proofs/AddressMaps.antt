@@ -7,6 +7,7 @@ use Rattle.goblin_pe_sect.specs.SectionTable.{Section, mapped_of, mapped_section
 use Rattle.goblin_pe_sect.specs.WindowIndex.{Pieces, located}
 use Rattle.goblin_pe_sect.specs.declared.options.Mapping.{Mapping}
 use Rattle.goblin_pe_sect.specs.declared.options.ParseOptions.{ParseOptions}
+use Rattle.goblin_pe_sect.specs.declared.options.View.{View}
 use Rattle.goblin_pe_sect.specs.Options.{mapping_by, mapping_in}
 use Rattle.goblin_base.specs.declared.permissive.ParseMode.TheVariants.{Strict}
 use Rattle.goblin_pe_sect.specs.declared.address_map.Windows.{Windows}
@@ -30,16 +31,16 @@ pub same_map : (opts : ParseOptions) (sections : List Section) (alignment : ℕ)
 same_map opts sections alignment index mapped = ap (map_to opts) (fun_ext mapped)
 
 -- also by records without the file's front, or with it
-pub same_map_alone : (opts : ParseOptions) (records : MappedRecords) (alignment : ℕ) (index : Pieces) → records.front ≡ None → ((rva : ℕ) → located index rva ≡ file_offset (mapping_in records.view opts) (mapped_sections records) alignment rva)
-    → map_to opts (located index) ≡ map_in opts (mapped_of records) alignment
-same_map_alone opts records alignment index none mapped = ap (map_to opts) (fun_ext mapped) ∙ rw none refl
+pub same_map_alone : (opts : ParseOptions) (records : MappedRecords) (view : View) (alignment : ℕ) (index : Pieces) → records.front ≡ None → ((rva : ℕ) → located index rva ≡ file_offset (mapping_in view opts) (mapped_sections records) alignment rva)
+    → map_to opts (located index) ≡ map_in opts (mapped_of view records) alignment
+same_map_alone opts records view alignment index none mapped = ap (map_to opts) (fun_ext mapped) ∙ rw none refl
 
-pub same_map_with : (opts : ParseOptions) (records : MappedRecords) (alignment size : ℕ) (index : Pieces) → records.front ≡ Some size → ((rva : ℕ) → located index rva ≡ file_offset (mapping_in records.view opts) (mapped_sections records) alignment rva)
-    → map_to opts (without_null true (located index)) ≡ map_in opts (mapped_of records) alignment
-same_map_with opts records alignment size index some mapped = ap (λ (f : ℕ → Option ℕ). map_to opts (without_null true f)) (fun_ext mapped) ∙ rw some refl
+pub same_map_with : (opts : ParseOptions) (records : MappedRecords) (view : View) (alignment size : ℕ) (index : Pieces) → records.front ≡ Some size → ((rva : ℕ) → located index rva ≡ file_offset (mapping_in view opts) (mapped_sections records) alignment rva)
+    → map_to opts (without_null true (located index)) ≡ map_in opts (mapped_of view records) alignment
+same_map_with opts records view alignment size index some mapped = ap (λ (f : ℕ → Option ℕ). map_to opts (without_null true f)) (fun_ext mapped) ∙ rw some refl
 
 -- the mode changes no offset
 pub same_windows : (opts : ParseOptions) (w : Windows) → offset_by_windows (record opts { parse_mode = Strict }) w ≡ offset_by_windows opts w
-same_windows opts (Walked records alignment) = refl
+same_windows opts (Walked records view alignment) = refl
 same_windows opts (Indexed index) = refl
 same_windows opts (IndexedWithFront index) = refl

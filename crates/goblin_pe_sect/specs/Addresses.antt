@@ -58,14 +58,14 @@ map_in opts mapped file_alignment =
 
 -- the file offset of an address, by the windows of section headers or by an index
 abbrev pub offset_by_windows : ParseOptions → Windows → ℕ → Option ℕ
-offset_by_windows opts (Walked records file_alignment) =
-    table_offset (mapping_in records.view opts) (mapped_of records) file_alignment
+offset_by_windows opts (Walked records view file_alignment) =
+    table_offset (mapping_in view opts) (mapped_of view records) file_alignment
 offset_by_windows opts (Indexed index) = located index
 offset_by_windows opts (IndexedWithFront index) = without_null true (located index)
 
 -- windows are found with an index, and not with a walk
 abbrev pub AreIndexed : Windows → Type 0
-AreIndexed (Walked records file_alignment) = ⊥
+AreIndexed (Walked records view file_alignment) = ⊥
 AreIndexed (Indexed index) = ⊤
 AreIndexed (IndexedWithFront index) = ⊤
 
@@ -75,8 +75,8 @@ AreMany count = 96 < count
 
 -- if addresses are mapped by windows, a walk goes over few sections only
 abbrev pub WalksFew : ParseOptions → Windows → Type 0
-WalksFew opts (Walked records file_alignment) =
-    HasPieces (mapping_in records.view opts) file_alignment
+WalksFew opts (Walked records view file_alignment) =
+    HasPieces (mapping_in view opts) file_alignment
     → ¬ AreMany (length (recorded_sections records.records))
 WalksFew opts (Indexed index) = ⊤
 WalksFew opts (IndexedWithFront index) = ⊤

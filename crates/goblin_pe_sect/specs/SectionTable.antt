@@ -114,9 +114,8 @@ pub record MappedSections : Type 0 where
   pub front : Option ℕ
 
 -- the same, of section headers
-abbrev pub mapped_of : MappedRecords → MappedSections
-mapped_of r =
-    record { sections = recorded_sections r.records; view = r.view; front = r.front }
+abbrev pub mapped_of : View → MappedRecords → MappedSections
+mapped_of view r = record { sections = recorded_sections r.records; view = view; front = r.front }
 
 -- section headers keep only their bytes
 abbrev pub AreBytesAlone : Type 0

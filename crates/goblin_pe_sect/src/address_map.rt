@@ -27,9 +27,10 @@ use walk::find_in_records;
 // What an address map uses to find the window that holds an address.
 #[derive(Drop)]
 pub(crate) enum Windows<'s> {
-    // The section headers, with the file's front if it is mapped, and the file alignment. There are
-    // few sections, or the options or the alignment leave no window to find.
-    Walked(MappedRecords<'s>, u32),
+    // The section headers, with the file's front if it is mapped, the view of their windows, and
+    // the file alignment. There are few sections, or the options or the alignment leave no window
+    // to find.
+    Walked(MappedRecords<'s>, View, u32),
     // The index of the sections' windows.
     Indexed(WindowIndex),
     // The index of the windows of the sections and of the file's front.
@@ -145,8 +146,8 @@ impl<'s> AddressMap<'s> {
             (λ p. IsIndexed self.now ⊎ (offset_in_run run.new rva ≡ Some p)) }
     {
         match &self.windows {
-            Windows::Walked(records, file_alignment) => {
-                let mapping = records.view.mapping(&self.opts);
+            Windows::Walked(records, view, file_alignment) => {
+                let mapping = view.mapping(&self.opts);
                 find_in_records(*records, *file_alignment, mapping, rva, run)
             }
             Windows::IndexedWithFront(_) if rva == 0 => None,

@@ -16,6 +16,6 @@ pub mod utils;
 pub mod windows;
 
 pub use data_directories::{DataDirectories, DataDirectory, DataDirectoryType, Dirs};
-pub use options::{ParseMode, ParseOptions, RawPointerRule, View};
+pub use options::{Mapping, ParseMode, ParseOptions, RawPointerRule, View};
 pub use section_table::SectionTable;
 pub use windows::WindowIndex;

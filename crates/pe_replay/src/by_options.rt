@@ -85,10 +85,9 @@ fn layout_by<'a>(
 ) -> goblin_base::Result<Layout<'a>> {
     let mapped = MappedRecords {
         records,
-        view: View::Sections,
         front: None,
     };
-    let address_map = AddressMap::of_records(alloc, mapped, ALIGNMENT, opts)?;
+    let address_map = AddressMap::of_records(alloc, mapped, View::Sections, ALIGNMENT, opts)?;
     Ok(Layout::by(&[], Places::of(&None), records, address_map))
 }
 

@@ -191,12 +191,9 @@ impl<'a> Layout<'a> {
         let records = section_records_of(bytes, header, opts)?;
         let front = view.front(size_of_headers(&header.optional_header));
         let places = Places::of(&header.optional_header);
-        let mapped = MappedRecords {
-            records,
-            view,
-            front,
-        };
-        let address_map = AddressMap::of_records(alloc, mapped, places.file_alignment, opts)?;
+        let mapped = MappedRecords { records, front };
+        let alignment = places.file_alignment;
+        let address_map = AddressMap::of_records(alloc, mapped, view, alignment, opts)?;
         Ok(Layout::by(bytes, places, records, address_map))
     }
 

@@ -12,7 +12,7 @@ ghost use Rattle.goblin_pe_sect.specs.SectionTable.{mapped_of, mapped_sections, 
 use crate::address_map::run::Run;
 use crate::address_map::walk::find_by_sections;
 use crate::address_map::{AddressMap, MappedRecords, Windows, index_of};
-use crate::options::{Mapping, ParseMode, ParseOptions};
+use crate::options::{Mapping, ParseMode, ParseOptions, View};
 use crate::section_table::SectionTable;
 use goblin_base::ResultOf;
 use std::alloc::Global;
@@ -38,8 +38,7 @@ fn listed<'e>(alloc: Global, records: MappedRecords) -> ResultOf<'e, Vec<Section
 }
 
 /// The file offset of the address `rva`, by these sections and, if it is mapped, the file's front
-/// after them: that of the first section whose window holds it. The windows are those in the view
-/// of `mapping`; the view of `records` does not count. The call takes no memory.
+/// after them: that of the first section whose window holds it. The call takes no memory.
 pub fn offset_by_records(
     records: MappedRecords,
     file_alignment: u32,
@@ -66,18 +65,19 @@ impl<'s> Windows<'s> {
     fn of_many<'e>(
         alloc: Global,
         records: MappedRecords<'s>,
+        view: View,
         file_alignment: u32,
         opts: &ParseOptions,
     ) -> ResultOf<'e, Windows<'s>>
         ensures made { GivesOrMemory (map_with opts.now) result
-            (map_in opts.now (mapped_of records.entry) file_alignment) }
+            (map_in opts.now (mapped_of view records.entry) file_alignment) }
         ensures few { IfOk result (WalksFew opts.now) }
     {
         if !opts.resolve_rva || !file_alignment.is_power_of_two() {
-            return Ok(Windows::Walked(records, file_alignment));
+            return Ok(Windows::Walked(records, view, file_alignment));
         }
         let sections = listed(alloc, records)?;
-        let mapping = records.view.mapping(opts);
+        let mapping = view.mapping(opts);
         let index = index_of(alloc, &sections, file_alignment, mapping)?;
         let Some(_) = records.front else {
             return Ok(Windows::Indexed(index));
@@ -88,7 +88,7 @@ impl<'s> Windows<'s> {
 
 impl<'s> AddressMap<'s> {
     /// Prepares a map of these section headers and, if it is mapped, of the file's front after
-    /// them. With the front, address 0 has no offset, because address 0 in a table means that there
+    /// them, with windows as long as in `view`. With the front, address 0 has no offset, because address 0 in a table means that there
     /// is nothing.
     ///
     /// With at most 96 sections the map takes no memory, and walks over their windows for each
@@ -101,21 +101,23 @@ impl<'s> AddressMap<'s> {
     pub fn of_records<'e>(
         alloc: Global,
         records: MappedRecords<'s>,
+        view: View,
         file_alignment: u32,
         opts: &ParseOptions,
     ) -> ResultOf<'e, AddressMap<'s>>
         ensures made { GivesOrMemory map_of result
-            (map_in opts.now (mapped_of records.entry) file_alignment) }
+            (map_in opts.now (mapped_of view records.entry) file_alignment) }
         ensures few { IfOk result (λ m. WalksFew m.opts m.windows) }
         ensures walked { let count = length (recorded_sections records.entry.records) in
-            IfOk result (λ m. ¬ AreMany count → m.windows ≡ Walked records.entry file_alignment) }
+            IfOk result
+            (λ m. ¬ AreMany count → m.windows ≡ Walked records.entry view file_alignment) }
         ensures grown { let count = length (recorded_sections records.entry.records) in
             IfErr result (λ e. AreMany count) }
     {
         let windows = if MOST_WITHOUT_INDEX < records.records.len() {
-            Windows::of_many(alloc, records, file_alignment, opts)?
+            Windows::of_many(alloc, records, view, file_alignment, opts)?
         } else {
-            Windows::Walked(records, file_alignment)
+            Windows::Walked(records, view, file_alignment)
         };
         Ok(AddressMap {
             opts: *opts,

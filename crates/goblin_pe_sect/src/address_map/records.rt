@@ -6,7 +6,6 @@ ghost use Rattle.std.specs.Fn.{FnReturnsAt};
 ghost use Rattle.readings.specs.Tests.{IsTest};
 ghost use Rattle.goblin_pe_sect.specs.SectionTable.{Section, front_section, mapped_sections};
 
-use crate::options::View;
 use crate::section_table::{SectionRecords, SectionTable};
 
 /// What maps addresses: the sections and, after them, the front of the file if it is mapped.
@@ -14,8 +13,6 @@ use crate::section_table::{SectionRecords, SectionTable};
 pub struct MappedRecords<'a> {
     /// The section headers.
     pub records: SectionRecords<'a>,
-    /// The view in which they are mapped: how long their windows are.
-    pub view: View,
     /// The size of the headers, in bytes, if the front of the file is mapped at the image's base;
     /// `None` if it is not. The front is mapped as [`front_section`] says.
     pub front: Option<u32>,

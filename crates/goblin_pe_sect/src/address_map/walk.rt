@@ -138,9 +138,10 @@ pub(super) fn find_in_records(
     run: &mut Run,
 ) -> Option<usize>
     requires { rva < 2 ^ 32 }
-    ensures value { result
-        ≡ table_offset mapping (mapped_of records.entry) file_alignment rva }
-    ensures is { let offset_of = table_offset mapping (mapped_of records.entry) file_alignment in
+    ensures value { let mapped = mapped_of mapping.view records.entry in
+        result ≡ table_offset mapping mapped file_alignment rva }
+    ensures is { let mapped = mapped_of mapping.view records.entry in
+        let offset_of = table_offset mapping mapped file_alignment in
         IsRun offset_of run.old → IsRun offset_of run.new }
     ensures about { IfSome result (λ p. offset_in_run run.new rva ≡ Some p) }
 {
