@@ -112,7 +112,8 @@ pub fn next_entries(
     records: &mut [RichMetadata],
     batch: &mut PeBatch,
 ) -> Result<()>
-    ensures given { let old : RichBatch = record { position = position.old; records = records.old } in
+    ensures given { let at = position.old in
+        let old : RichBatch = record { position = at; records = records.old } in
         let new : RichBatch = record { position = position.new; records = records.new } in
         GivesEntries image.now old new batch.new result }
 

@@ -88,8 +88,8 @@ impl<'s> Windows<'s> {
 
 impl<'s> AddressMap<'s> {
     /// Prepares a map of these section headers and, if it is mapped, of the file's front after
-    /// them, with windows as long as in `view`. With the front, address 0 has no offset, because address 0 in a table means that there
-    /// is nothing.
+    /// them, with windows as long as in `view`. With the front, address 0 has no offset, because
+    /// address 0 in a table means that there is nothing.
     ///
     /// With at most 96 sections the map takes no memory, and walks over their windows for each
     /// address. With more sections it lists them and makes an index, except if `opts` says that
