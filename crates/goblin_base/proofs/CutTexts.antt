@@ -1,5 +1,5 @@
 -- A text that is cut behind its first character that reaches past a limit.
-use Rattle.std.proofs.Common.{◌≡◌, ◌<◌, ◌≤◌, ℕ, ◌+◌, ◌-◌, min, List, length, drop, take, take_all, refl, inl, inr, add-zero, ap, sym, ◌∙◌, arith, slice_range, position, Some, None, nat_lt, length-drop, length-take}
+use Rattle.std.proofs.Common.{◌≡◌, ◌<◌, ◌≤◌, ℕ, ◌+◌, ◌-◌, min, List, length, drop, take, take_all, refl, inl, inr, add-zero, ap, sym, ◌∙◌, arith, slice_range, position, Some, None, nat_lt, length-drop, length-take, Bool, true, false, cond, not, ◌==◌, Option, option_and_then, take-take, get_or-take, slice_index}
 use Rattle.std.specs.List.{position_or_len}
 use Rattle.std.proofs.lemmas.Bool.{cases_lt, le-ltb, lt-ltb, ltb-false, ltb-true}
 use Rattle.std.proofs.lemmas.Option.{cond_some}
@@ -7,8 +7,8 @@ use Rattle.goblin_base.specs.Bytes.{IsTextTo, before_nul, begins_character, cut_
 use Rattle.goblin_base.specs.Footprints.{positions, stretch_footprint, Agree}
 use Rattle.goblin_base.specs.Parts.{moved_by, text_footprint}
 use Rattle.goblin_base.proofs.Numbers.{rest_is_drop}
+use Rattle.goblin_base.proofs.Ranges.{moved-positions}
 use Rattle.goblin_base.proofs.Texts.{test_fails}
-use Rattle.std.proofs.Common.{Bool, true, false, cond, not, ◌==◌, Option, option_and_then, take-take, get_or-take, slice_index}
 use Rattle.std.specs.Str.{is_utf8}
 use Rattle.goblin_base.proofs.TextEnds.{stretch_ends}
 use Rattle.std.proofs.lemmas.List.{nil_from_length}
@@ -79,12 +79,7 @@ pub ruleset window = (window_all, window_part, window_none)
 
 -- positions that are counted from a place
 pub moved_to : (p m : ℕ) → moved_by p (positions 0 m) ≡ positions p (p + m)
-unfolding positions
-moved_to p m =
-    elim (cases_lt 0 m) [
-      | inl lt ↦ rw (lt-ltb 0 m lt, lt-ltb p (p + m) (omega (arith, lt)), add-zero p) refl
-      | inr none ↦ rw (le-ltb 0 m none, le-ltb p (p + m) (omega (arith, none))) refl
-    ]
+moved_to p m = moved-positions p 0 m ∙ ap (λ (k : ℕ). positions k (p + m)) (add-zero p)
 
 -- what a text at the front reaches, counted from a place
 pub moved_stretch : (w : List ℕ) (p m : ℕ) → m ≡ min (length w) (length (before_nul w) + 1)

@@ -40,10 +40,6 @@ agree-moved p ranges a b h = record {
       ∙ sym (get_or-drop p b i 0);
 }
 
-length-slice : (bytes : List ℕ) (begin end : ℕ)
-    → length (slice_range bytes begin end) ≤ end - begin
-length-slice bytes begin end = omega (arith, length-take (end - begin) (drop begin bytes))
-
 byte_of_slice : (bytes : List ℕ) (begin end i : ℕ) → i < end - begin
     → slice_index (slice_range bytes begin end) i ≡ slice_index bytes (begin + i)
 byte_of_slice bytes begin end i lt =
@@ -55,7 +51,7 @@ pub agree-moved_slice : (begin end : ℕ) (ranges : List Range) (a b : List ℕ)
     → Agree ranges (slice_range a begin end) (slice_range b begin end)
 agree-moved_slice begin end ranges a b h =
     let long : (bytes : List ℕ) → length (slice_range bytes begin end) ≤ end - begin =
-    λ bytes. length-slice bytes begin end in
+    λ bytes. omega (arith, length-take (end - begin) (drop begin bytes)) in
     record {
       same_length = omega (
         arith,

@@ -2,6 +2,7 @@
 -- after the other.
 use Rattle.std.proofs.Common.{Bool, ◌≡◌, ℕ, zero, suc, ◌+◌, ◌-◌, min, true, false, nat_le, nat_lt, Option, Some, None, List, [], ◌++◌, length, take, drop, ap, sym, ◌∙◌, refl, arith, inl, inr, lt-ltb, ltb-false, ltb-true}
 use Rattle.std.proofs.lemmas.Bool.{cases_Bool, le-leb, le-ltb, leb-false, leb-true}
+use Rattle.std.proofs.lemmas.Bool.Decides.{nat_tests}
 use Rattle.std.proofs.lemmas.List.{length-drop, map-append}
 use Rattle.goblin_base.specs.Bytes.{before_nul}
 use Rattle.goblin_base.specs.Footprints.{Range, led_to, positions, slice_footprint, stretch_footprint}
@@ -37,23 +38,15 @@ pub moved-positions : (p begin end : ℕ)
     → moved_by p (positions begin end) ≡ positions (p + begin) (p + end)
 unfolding positions
 moved-positions p begin end =
+    let same : nat_lt (p + begin) (p + end) ≡ nat_lt begin end = grind (arith, nat_tests) in
     elim (cases_Bool (nat_lt begin end)) [
-      | inl less ↦
-          let after : nat_lt (p + begin) (p + end) ≡ true =
-          lt-ltb (p + begin) (p + end) (omega (arith, ltb-true begin end less)) in
-          rw (less, after) refl
-      | inr more ↦
-          let after : nat_lt (p + begin) (p + end) ≡ false =
-          le-ltb (p + begin) (p + end) (omega (arith, ltb-false begin end more)) in
-          rw (more, after) refl
+      | inl less ↦ rw (same, less) refl
+      | inr more ↦ rw (same, more) refl
     ]
-
-moved_nothing : (p : ℕ) → moved_by p [] ≡ []
-moved_nothing p = refl
 
 moved_none : (p begin end : ℕ) → nat_lt begin end ≡ false → moved_by p (positions begin end) ≡ []
 unfolding positions
-moved_none p begin end none = rw none (moved_nothing p)
+moved_none p begin end none = rw none refl
 
 -- a slice of the bytes from p on
 pub moved-slice : (p : ℕ) (bytes : List ℕ) (o n : ℕ)
@@ -80,7 +73,7 @@ moved-slice p bytes o n =
                   leb-true (o + n) (length (drop p bytes)) own,
                 )) in
                 rw (past, own) (moved_none p o (o + n) none)
-            | inr other ↦ rw (past, other) (moved_nothing p)
+            | inr other ↦ rw (past, other) refl
           ]
     ]
 

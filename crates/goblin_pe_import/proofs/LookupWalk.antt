@@ -6,6 +6,7 @@ use Rattle.goblin_base.specs.declared.error.ErrorOf.{ErrorOf}
 use Rattle.goblin_base.specs.Answers.{◌>>=◌, all_of}
 use Rattle.goblin_base.specs.Reading.{IsRefused}
 use Rattle.goblin_base.specs.Tables.{Format, SlotFormat, concat_below, kept_slots, made_of, slot_at, slot_place, slot_table, ends_table, stop}
+use Rattle.goblin_base.proofs.Below.{concat_below-agree}
 use Rattle.goblin_base.proofs.SlotTables.{reads}
 use Rattle.goblin_base.proofs.Steps.{step}
 use Rattle.goblin_pe_import.specs.ImportEntries.{EntryValue, LookupEntry, entry_slots}
@@ -20,7 +21,7 @@ use Rattle.goblin_pe_import.specs.LookupReadings.{kept_entry, lookup_entry_at, l
 use Rattle.goblin_pe_import.proofs.ImportBound.{kept_entry-few}
 use Rattle.goblin_pe_import.proofs.PermissiveReads.{entry-there}
 use Rattle.readings.proofs.WalkValues.{walk-value}
-use Rattle.readings.proofs.Walks.{IsSlotCause, cause-slot, concat_below-same, slot-end, slot-going, slot-missing, until_refused-later, until_refused-made, walk-slot}
+use Rattle.readings.proofs.Walks.{IsSlotCause, cause-slot, slot-end, slot-going, slot-missing, until_refused-later, until_refused-made, walk-slot}
 use Rattle.goblin_pe_sect.specs.Addresses.{Addressing}
 
 -- the kept entries, and the indexes of their slots
@@ -208,11 +209,11 @@ module _ (strict : Bool) (format : Format EntryValue) (addressing : Addressing)
       ap
       (λ (items : List (Option KeptValue)). until_refused
       (items ++ end_items strict (slot_at slots bytes o n)))
-      (concat_below-same
+      (concat_below-agree
       (λ i. items_at (entry_items strict format addressing bytes o) (slot_place slots o i)
       (slot_at slots bytes o i))
       (λ i. items_of (item i) (made i)) n
-      (λ i. in_file (slot_place slots o i) (slot_at slots bytes o i)))
+      (λ i below. in_file (slot_place slots o i) (slot_at slots bytes o i)))
 
   -- collecting it gives the table with its slots
   pub lookup_walked : 1 ≤ format.width

@@ -14,14 +14,10 @@ use Rattle.goblin_base.proofs.First.{first_is_found, found_at_first, found_passe
 use Rattle.goblin_pe_sect.proofs.Mapped.{in_window}
 
 -- where an element of one list is in the other
-record IsMovedTo {X : Type 0} (ys : List X) (x : X) : Type 0 where
-  place : ℕ
-  is : slice_get ys place ≡ Some x
-
-moved_to : {X : Type 0} (xs ys : List X) → IsPermutation xs ys → (i : ℕ) (x : X) → slice_get xs i ≡ Some x → IsMovedTo ys x
+moved_to : {X : Type 0} (xs ys : List X) → IsPermutation xs ys → (i : ℕ) (x : X) → slice_get xs i ≡ Some x → (place : ℕ) × (slice_get ys place ≡ Some x)
 moved_to xs ys moved i x at =
     let there = Contains-permutation xs ys x moved (i, slice_get_within xs i x at, get_or_from_slice_get xs i x x at) in
-    record { place = there.0; is = slice_get_read ys (length ys) there.0 x refl there.1 (sym there.2) }
+    (there.0, slice_get_read ys (length ys) there.0 x refl there.1 (sym there.2))
 
 -- no element passes
 none_found : {X : Type 0} (p : X → Bool) (xs : List X) → ((k : ℕ) (x : X) → slice_get xs k ≡ Some x → p x ≡ false) → find p xs ≡ None
@@ -35,13 +31,13 @@ AreAlone {X} p xs = (i j : ℕ) (x y : X) → i < j → slice_get xs i ≡ Some 
 -- where at most one element passes, the same is found in any order
 found_by : {X : Type 0} (p : X → Bool) (xs ys : List X) → IsPermutation xs ys → AreAlone p xs → (found : Option X) → find p ys ≡ found → find p xs ≡ found
 found_by p xs ys moved alone None e =
-    none_found p xs (λ k x at. let there = moved_to xs ys moved k x at in none_passes p ys e there.place x there.is)
+    none_found p xs (λ k x at. let there = moved_to xs ys moved k x at in none_passes p ys e there.0 x there.1)
 found_by {X} p xs ys moved alone (Some y) e =
     let here = moved_to ys xs (IsPermutation-sym xs ys moved) (position_or_len p ys) y (found_at_first p ys y e) in
     let passes = found_passes p ys y e in
-    first_is_found p xs here.place y here.is passes (λ k x lt at.
+    first_is_found p xs here.0 y here.1 passes (λ k x lt at.
     elim (cases_Bool (p x)) [
-      | inl too ↦ absurd (alone k here.place x y lt at here.is too passes)
+      | inl too ↦ absurd (alone k here.0 x y lt at here.1 too passes)
       | inr fails ↦ fails
     ])
 

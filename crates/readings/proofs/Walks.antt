@@ -5,7 +5,7 @@ use Rattle.goblin_base.specs.declared.error.ErrorOf.{ErrorOf}
 use Rattle.goblin_base.specs.Answers.{FirstFault, ◌>>=◌}
 use Rattle.goblin_base.specs.Reading.{IsRefused, Reading}
 use Rattle.goblin_base.specs.Tables.{AreMade, IsTableFault, SlotFormat, concat_below, ends_table, slot_at, slot_place, stop}
-use Rattle.goblin_base.proofs.Below.{least-before}
+use Rattle.goblin_base.proofs.Below.{concat_below-agree, least-before}
 use Rattle.goblin_base.proofs.SlotTables.{ends, reads, stop-after, stop-is}
 use Rattle.readings.specs.Reads.{table}
 use Rattle.readings.proofs.Loops.{read-missing, read-refused, read-start, value_of}
@@ -30,11 +30,6 @@ concat_below-first piece zero = sym (append-nil (piece 0))
 concat_below-first {A} piece (suc n) =
     ap (λ (xs : List A). xs ++ piece (suc n)) (concat_below-first piece n)
     ∙ append_assoc (piece 0) (concat_below (λ i. piece (suc i)) n) (piece (suc n))
-
-pub concat_below-same : {A : Type 0} (f g : ℕ → List A) (n : ℕ) → ((i : ℕ) → f i ≡ g i)
-    → concat_below f n ≡ concat_below g n
-concat_below-same f g zero same = refl
-concat_below-same f g (suc n) same = rw (concat_below-same f g n same, same n) refl
 
 pub until_refused-made : {A B : Type 0} (item : A → B) (xs : List A) (items : List (Option B))
     → until_refused (map (λ x. Some (item x)) xs ++ items)
@@ -206,7 +201,7 @@ module _ {V B : Type 0} (slots : SlotFormat V) (items : ℕ → V → List (Opti
         more,
         end,
         concat_below-first (here_at o) n,
-        concat_below-same (λ i. here_at o (suc i)) (here_at next) n same,
+        concat_below-agree (λ i. here_at o (suc i)) (here_at next) n (λ i below. same i),
         first,
       )
       (ap until_refused (append_assoc (items o v) (concat_below (here_at next) n) _)
