@@ -5,8 +5,7 @@ use Rattle.std.proofs.lemmas.Simd.{map-map}
 use Rattle.goblin_base.specs.declared.error.ErrorOf.{ErrorOf}
 use Rattle.goblin_base.specs.Bytes.{IsBytes}
 use Rattle.goblin_base.specs.Reading.{IsRefused}
-use Rattle.goblin_base.proofs.Steps.{same_value, unmapped}
-use Rattle.goblin_base.proofs.Steps.{mapped as mapped_of}
+use Rattle.goblin_base.proofs.Steps.{same_value, unmapped, mapped as mapped_of}
 use Rattle.readings.specs.Reads.{given, pick}
 use Rattle.goblin_pe_sect.specs.declared.data_directories.DataDirectory.{DataDirectory}
 use Rattle.goblin_pe_sect.specs.declared.options.ParseOptions.{ParseOptions}

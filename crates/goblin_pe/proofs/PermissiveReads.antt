@@ -31,8 +31,7 @@ use Rattle.goblin_pe_import.specs.ImportRecords.{NumberedLibrary}
 use Rattle.goblin_pe_import.specs.Imports.{numbered_imports}
 use Rattle.goblin_pe_import.proofs.PermissiveReads.{libraries_at-repeats, numbered_libraries_at-repeats}
 use Rattle.goblin_pe.specs.Modes.{ReadsInModes, in_mode, in_permissive_mode, is_front, unless_front}
-use Rattle.goblin_pe.specs.Whole.{ListedParts, NumberedTables, TablePlaces, WholeFile, directory_at, entry_format, export_part, imports_in, listed_tables, lists_of, mapped_in, numbered_data_part, addressing_by, part_at, part_map, part_of, places_in}
-use Rattle.goblin_pe.specs.Whole.{relocation_part, section_table_offset, sections_after, table_parts, whole_file, whole_in, whole_of, whole_with}
+use Rattle.goblin_pe.specs.Whole.{ListedParts, NumberedTables, TablePlaces, WholeFile, directory_at, entry_format, export_part, imports_in, listed_tables, lists_of, mapped_in, numbered_data_part, addressing_by, part_at, part_map, part_of, places_in, relocation_part, section_table_offset, sections_after, table_parts, whole_file, whole_in, whole_of, whole_with}
 
 -- ---- answers
 

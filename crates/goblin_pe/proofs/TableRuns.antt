@@ -14,8 +14,7 @@ use Rattle.goblin_pe_sect.specs.AddressReadings.{data_at, name_at, name_or_none,
 use Rattle.goblin_pe_sect.specs.BaseRelocations.{relocation_bytes}
 use Rattle.goblin_pe_sect.specs.declared.options.ParseOptions.{ParseOptions}
 use Rattle.goblin_pe_sect.specs.Mapping.{file_offset}
-use Rattle.goblin_pe_sect.specs.Options.{mapping_by}
-use Rattle.goblin_pe_sect.specs.Options.{is_strict}
+use Rattle.goblin_pe_sect.specs.Options.{mapping_by, is_strict}
 use Rattle.goblin_pe_sect.specs.SectionTable.{Section}
 use Rattle.goblin_pe_sect.specs.Addresses.{Addressing, with_whole_names}
 use Rattle.goblin_pe.specs.declared.laws.order.Request.{Request}

@@ -1,6 +1,5 @@
 -- The whole entries of a table of a given count: as bytes, and as values.
-use Rattle.std.proofs.Common.{◌≡◌, ◌<◌, ◌≤◌, ◌+◌, ◌-◌, ◌*◌, ◌/◌, ℕ, zero, suc, List, [], drop, length, map, Option, Some, None, refl, sym, ap, ◌∙◌, arith, add-one, inl, inr, length-drop, length-take, is_none, min, option_map, option_to_list, slice_get}
-use Rattle.std.proofs.Common.{slice_range}
+use Rattle.std.proofs.Common.{◌≡◌, ◌<◌, ◌≤◌, ◌+◌, ◌-◌, ◌*◌, ◌/◌, ℕ, zero, suc, List, [], drop, length, map, Option, Some, None, refl, sym, ap, ◌∙◌, arith, add-one, inl, inr, length-drop, length-take, is_none, min, option_map, option_to_list, slice_get, slice_range}
 use Rattle.std.specs.List.{range_with_len}
 use Rattle.std.proofs.Math.Nat.{mul-div_cancel_left, mul-le-mul_left, zero-div}
 use Rattle.std.proofs.lemmas.Bool.{cases_lt}

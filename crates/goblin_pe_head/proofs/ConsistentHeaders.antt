@@ -230,30 +230,24 @@ pieces : (first second third whole rest : List ℕ) → first ++ (second ++ (thi
 pieces first second third whole rest is = ap (λ (xs : List ℕ). xs ++ rest) (sym is) ∙ simp (append_assoc, append-nil)
 
 -- an optional header that was written is read again
-record IsRead (bytes : List ℕ) (h : OptionalHeader) : Type 0 where
-  size : ℕ
-  is : optional_header.value bytes ≡ Some (h, size)
-
-optional-again : (h : OptionalHeader) (written bytes rest : List ℕ) → IsConsistentOptional h → FieldsReadBack h → optional_bytes Little h ≡ Some written → bytes ≡ written ++ rest → IsRead bytes h
+optional-again : (h : OptionalHeader) (written bytes rest : List ℕ) → IsConsistentOptional h → FieldsReadBack h → optional_bytes Little h ≡ Some written → bytes ≡ written ++ rest → (size : ℕ) × (optional_header.value bytes ≡ Some (h, size))
 unfolding optional_bytes
 optional-again h written bytes rest agree fields made is =
     elim (pick (nat_eq h.standard_fields.magic 0x10B) (nat_eq h.standard_fields.magic 0x20B) (bytes_32 Little h) (Some (bytes_64 Little h)) written made) [
       | inl narrow ↦
           let magic = eqb-true h.standard_fields.magic 0x10B narrow.0 in
           let own = mapped (windows_to_32 h.windows_fields) _ written narrow.1 in
-          let back = fields.0 magic in
-          record {
-            size = 96 + 8 * h.windows_fields.number_of_rva_and_sizes;
-            is = narrow-again h agree bytes rest own.value magic own.is (is ∙ pieces (encoding Little (standard_32_fields (standard_to_32 h.standard_fields))) (encoding Little (windows_32_fields own.value)) (encoding Little (entries_fields h.data_directories.data_directories)) written rest own.made) back.0
-                (subst (λ (o : Option WindowsFields32). IfSome o (ReadsBack 68 windows_32_record windows_32_fields)) own.is back.1);
-          }
+          let back = fields.0 magic in (
+            96 + 8 * h.windows_fields.number_of_rva_and_sizes,
+            narrow-again h agree bytes rest own.value magic own.is (is ∙ pieces (encoding Little (standard_32_fields (standard_to_32 h.standard_fields))) (encoding Little (windows_32_fields own.value)) (encoding Little (entries_fields h.data_directories.data_directories)) written rest own.made) back.0
+                (subst (λ (o : Option WindowsFields32). IfSome o (ReadsBack 68 windows_32_record windows_32_fields)) own.is back.1),
+          )
       | inr wide ↦
           let magic = eqb-true h.standard_fields.magic 0x20B wide.0 in
-          let back = fields.1 magic in
-          record {
-            size = 112 + 8 * h.windows_fields.number_of_rva_and_sizes;
-            is = wide-again h agree bytes rest magic (is ∙ pieces (encoding Little (standard_64_fields (standard_to_64 h.standard_fields))) (encoding Little (windows_64_fields h.windows_fields)) (encoding Little (entries_fields h.data_directories.data_directories)) written rest (same_value (bytes_64 Little h) written wide.1)) back.0 back.1;
-          }
+          let back = fields.1 magic in (
+            112 + 8 * h.windows_fields.number_of_rva_and_sizes,
+            wide-again h agree bytes rest magic (is ∙ pieces (encoding Little (standard_64_fields (standard_to_64 h.standard_fields))) (encoding Little (windows_64_fields h.windows_fields)) (encoding Little (entries_fields h.data_directories.data_directories)) written rest (same_value (bytes_64 Little h) written wide.1)) back.0 back.1,
+          )
     ]
 
 part-again : (size p : ℕ) (optional : Option OptionalHeader) (written bytes rest : List ℕ) → IsConsistentPart size optional → IfSome optional FieldsReadBack → written_part Little optional ≡ Some written
@@ -262,7 +256,7 @@ unfolding optional_at
 part-again size p None written bytes rest agree fields made is = rw agree refl
 part-again size p (Some h) written bytes rest agree fields made is =
     let read = optional-again h written (drop p bytes) rest agree.1 fields made is in
-    rw (agree.0, read.is) refl
+    rw (agree.0, read.1) refl
 
 -- ---- the whole header
 
