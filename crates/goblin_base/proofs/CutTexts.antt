@@ -77,17 +77,14 @@ window_none bytes p n past =
 
 pub ruleset window = (window_all, window_part, window_none)
 
--- positions that are counted from a place
-pub moved_to : (p m : ℕ) → moved_by p (positions 0 m) ≡ positions p (p + m)
-moved_to p m = moved-positions p 0 m ∙ ap (λ (k : ℕ). positions k (p + m)) (add-zero p)
-
 -- what a text at the front reaches, counted from a place
 pub moved_stretch : (w : List ℕ) (p m : ℕ) → m ≡ min (length w) (length (before_nul w) + 1)
     → positions p (p + m) ≡ moved_by p (stretch_footprint w 0)
 unfolding stretch_footprint
 moved_stretch w p m is =
     let end : m ≡ min (length w) (0 + length (before_nul w) + 1) = omega (arith, is) in
-    sym (moved_to p m) ∙ ap (λ (k : ℕ). moved_by p (positions 0 k)) end
+    sym (moved-positions p 0 m ∙ ap (λ (k : ℕ). positions k (p + m)) (add-zero p))
+    ∙ ap (λ (k : ℕ). moved_by p (positions 0 k)) end
 
 -- ---- a text up to a limit
 

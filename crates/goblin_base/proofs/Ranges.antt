@@ -12,6 +12,7 @@ use Rattle.goblin_base.specs.Tables.{concat_below}
 use Rattle.goblin_base.proofs.Below.{concat_below-next}
 use Rattle.goblin_base.proofs.Numbers.{rest_is_drop}
 use Rattle.goblin_base.proofs.Marks.{marked_append}
+use Rattle.goblin_base.proofs.SlotFootprints.{positions-none}
 
 -- the positions up to and with the byte after the text, where the file has one
 pub stretch-is : (bytes : List ℕ) (p end : ℕ) (text : List ℕ)
@@ -44,10 +45,6 @@ moved-positions p begin end =
       | inr more ↦ rw (same, more) refl
     ]
 
-moved_none : (p begin end : ℕ) → nat_lt begin end ≡ false → moved_by p (positions begin end) ≡ []
-unfolding positions
-moved_none p begin end none = rw none refl
-
 -- a slice of the bytes from p on
 pub moved-slice : (p : ℕ) (bytes : List ℕ) (o n : ℕ)
     → moved_by p (slice_footprint (drop p bytes) o n) ≡ slice_footprint bytes (p + o) n
@@ -64,15 +61,10 @@ moved-slice p bytes o n =
           let end = leb-false (p + o + n) (length bytes) past in
           elim (cases_Bool (nat_le (o + n) (length (drop p bytes)))) [
             | inl own ↦
-                let none : nat_lt o (o + n) ≡ false =
-                le-ltb o (o + n)
-                (omega (
-                  arith,
-                  end,
-                  length-drop p bytes,
-                  leb-true (o + n) (length (drop p bytes)) own,
-                )) in
-                rw (past, own) (moved_none p o (o + n) none)
+                rw (past, own)
+                (ap (moved_by p)
+                (positions-none o (o + n)
+                (omega (arith, end, length-drop p bytes, leb-true (o + n) (length (drop p bytes)) own))))
             | inr other ↦ rw (past, other) refl
           ]
     ]
