@@ -1,7 +1,7 @@
 -- A text that is cut behind its first character that reaches past a limit.
-use Rattle.std.proofs.Common.{◌≡◌, ◌<◌, ◌≤◌, ℕ, ◌+◌, ◌-◌, min, List, length, drop, take, take_all, refl, inl, inr, add-zero, ap, sym, ◌∙◌, arith, slice_range, position, Some, None, nat_lt, length-drop, length-take, Bool, true, false, cond, not, ◌==◌, Option, option_and_then, take-take, get_or-take, slice_index}
+use Rattle.std.proofs.Common.{◌≡◌, ◌<◌, ◌≤◌, ℕ, ◌+◌, ◌-◌, min, List, length, drop, take, take_all, refl, inl, inr, add-zero, ap, sym, ◌∙◌, arith, slice_range, position, Some, None, nat_lt, length-drop, length-take, Bool, true, false, cond, Option, option_and_then, take-take, get_or-take}
 use Rattle.std.specs.List.{position_or_len}
-use Rattle.std.proofs.lemmas.Bool.{cases_lt, le-ltb, lt-ltb, ltb-false, ltb-true}
+use Rattle.std.proofs.lemmas.Bool.{lt-ltb, ltb-false, ltb-true}
 use Rattle.std.proofs.lemmas.Option.{cond_some}
 use Rattle.goblin_base.specs.Bytes.{IsTextTo, before_nul, begins_character, cut_text, cut_window, stretch, stretch_at, text_at, text_of, text_within}
 use Rattle.goblin_base.specs.Footprints.{positions, stretch_footprint, Agree}

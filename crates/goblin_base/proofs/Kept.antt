@@ -1,10 +1,10 @@
 -- What is read in one way, and is kept where it is read in another: steps, lists of values, and tables.
-use Rattle.std.proofs.Common.{◌≡◌, ℕ, zero, suc, ◌+◌, Bool, true, false, cond, not, List, ◌∷◌, map, Option, Some, None, refl, ap, sym, arith, ◌≢◌, option_map, is_some}
+use Rattle.std.proofs.Common.{◌≡◌, ℕ, zero, suc, ◌+◌, Bool, true, false, cond, not, List, ◌∷◌, map, Option, Some, None, refl, ap, sym, arith, ◌≢◌, is_some}
 use Rattle.std.specs.List.{range_with_len}
 use Rattle.goblin_base.specs.Answers.{◌>>=◌, all_at, all_of}
 use Rattle.goblin_base.specs.Tables.{SlotFormat, each_below, is_kept, kept_slots, or_left_out, slot_at, slot_table, stop}
 use Rattle.goblin_base.proofs.Below.{each_below-kept, each_below-missing, same-filter}
-use Rattle.goblin_base.proofs.Steps.{mapped, step}
+use Rattle.goblin_base.proofs.Steps.{step}
 
 -- what the first has, the second has
 abbrev pub Keeps : {A : Type 0} → Option A → Option A → Type 0

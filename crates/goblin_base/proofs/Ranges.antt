@@ -1,7 +1,7 @@
 -- Ranges that are marked: those of a text, those of a part of the bytes, and those of pieces one
 -- after the other.
-use Rattle.std.proofs.Common.{Bool, ◌≡◌, ℕ, zero, suc, ◌+◌, ◌-◌, min, true, false, nat_le, nat_lt, Option, Some, None, List, [], ◌++◌, length, take, drop, ap, sym, ◌∙◌, refl, arith, inl, inr, lt-ltb, ltb-false, ltb-true}
-use Rattle.std.proofs.lemmas.Bool.{cases_Bool, le-leb, le-ltb, leb-false, leb-true}
+use Rattle.std.proofs.Common.{Bool, ◌≡◌, ℕ, zero, suc, ◌+◌, ◌-◌, min, true, nat_le, nat_lt, Option, Some, None, List, ◌++◌, length, take, drop, ap, sym, ◌∙◌, refl, arith, inl, inr}
+use Rattle.std.proofs.lemmas.Bool.{cases_Bool, le-leb, leb-false, leb-true}
 use Rattle.std.proofs.lemmas.Bool.Decides.{nat_tests}
 use Rattle.std.proofs.lemmas.List.{length-drop, map-append}
 use Rattle.goblin_base.specs.Bytes.{before_nul}

@@ -1,6 +1,6 @@
 -- The laws of readings, once for each way to put them together; and what they give for two files.
-use Rattle.std.proofs.Common.{◌≡◌, ◌<◌, ◌+◌, ◌-◌, ◌++◌, ℕ, Bool, cond, nat_lt, length, drop, List, Option, Some, None, Result, ap, subst, sym, inl, inr, ◌∙◌, arith, take_all, IsSomeAnd, option_map, slice_range, length-drop}
-use Rattle.std.proofs.lemmas.Bool.{cases_Bool, cond-false, ltb-true}
+use Rattle.std.proofs.Common.{◌≡◌, ◌<◌, ◌+◌, ◌-◌, ◌++◌, ℕ, Bool, nat_lt, length, drop, List, Option, Some, None, Result, ap, subst, sym, inl, inr, ◌∙◌, arith, IsSomeAnd, option_map, slice_range}
+use Rattle.std.proofs.lemmas.Bool.{ltb-true}
 use Rattle.std.specs.declared.alloc.AllocError.{AllocError}
 use Rattle.goblin_base.specs.declared.endian.Endian.{Endian}
 use Rattle.goblin_base.specs.declared.error.CauseOf.{CauseOf}

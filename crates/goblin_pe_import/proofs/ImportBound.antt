@@ -21,7 +21,7 @@ use Rattle.goblin_pe_import.specs.ImportEntries.{EntryValue, LookupEntry, entry_
 use Rattle.goblin_pe_import.specs.ImportEntries.LookupEntry.{ByOrdinal}
 use Rattle.goblin_pe_import.specs.LookupReadings as reading
 use Rattle.goblin_base.specs.Reading.{Reading}
-use Rattle.readings.specs.Reads.{given, in_its_place, pair_of, with_slots}
+use Rattle.readings.specs.Reads.{given, in_its_place, pair_of}
 use Rattle.goblin_pe_import.specs.Imports.{ImportValue, has_slots, import_at, imports_by, imports_of, kept_count, kept_entries, library_imports}
 use Rattle.goblin_base.proofs.Kept.{without_test}
 use Rattle.goblin_base.proofs.SlotTables as SlotTables

@@ -1,7 +1,6 @@
 -- The libraries of a directory with the indexes of their records, record by record.
 use Rattle.std.proofs.Common.{◌≡◌, ◌≤◌, ◌++◌, ◌∷◌, ℕ, zero, suc, Bool, true, false, List, [], Option, Some, None, length, map, cond, not, ◌&&◌, refl, sym, ap, ◌∙◌, arith, option_map, is_some, IfSome}
 use Rattle.std.specs.List.{filter, range_with_len}
-use Rattle.std.proofs.lemmas.List.Elements.{filter-append}
 use Rattle.goblin_base.specs.declared.error.ErrorOf.{ErrorOf}
 use Rattle.goblin_base.specs.Answers.{◌>>=◌, FirstFault}
 use Rattle.goblin_base.specs.Footprints.{led_to}

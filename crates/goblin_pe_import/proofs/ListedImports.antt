@@ -1,5 +1,5 @@
 -- Of import data that was read a list of imports can be made: each entry that a lookup table keeps has a slot, whose address does not pass 64 bits.
-use Rattle.std.proofs.Common.{◌≡◌, ℕ, zero, suc, ◌+◌, ◌*◌, ◌<◌, ◌≤◌, ◌^◌, ◌&&◌, Bool, true, cond, not, List, [], ◌∷◌, ◌++◌, length, map, Option, Some, None, IsSome, refl, sym, ap, subst, arith, ◌∙◌, slice_get, slice_range, unwrap_or, get_or, lt-ltb, eq-eqb, length-append, is_some}
+use Rattle.std.proofs.Common.{◌≡◌, ℕ, zero, suc, ◌+◌, ◌*◌, ◌<◌, ◌≤◌, ◌^◌, ◌&&◌, Bool, true, cond, not, List, [], ◌∷◌, length, map, Option, Some, None, IsSome, refl, sym, ap, subst, arith, ◌∙◌, slice_get, slice_range, unwrap_or, get_or, lt-ltb, eq-eqb, length-append, is_some}
 use Rattle.std.specs.List.{All, filter, range_with_len}
 use Rattle.readings.proofs.WalkValues.{kept-next}
 use Rattle.std.proofs.lemmas.List.Elements.{All-append, All-cons, All-head, All-nil, All-tail}

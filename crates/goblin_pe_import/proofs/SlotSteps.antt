@@ -1,5 +1,5 @@
 -- The slots before the stop of a table, and what a budget of steps has left.
-use Rattle.std.proofs.Common.{◌≡◌, ◌≤◌, ◌+◌, ◌-◌, ℕ, zero, suc, false, List, Option, Some, None, refl, ap, ◌∙◌, arith}
+use Rattle.std.proofs.Common.{◌≡◌, ◌≤◌, ◌+◌, ℕ, zero, suc, false, List, Option, Some, None, refl, ap, ◌∙◌, arith}
 use Rattle.goblin_base.specs.Tables.{SlotFormat, slot_at, stop}
 use Rattle.goblin_base.proofs.SlotTables.{reads}
 use Rattle.goblin_pe_import.specs.TableSums.{amount_of, sum_below, sum_of_slots}

@@ -1,15 +1,14 @@
 -- The items of a base relocation directory are the one longest list of blocks at its front.
-use Rattle.std.proofs.Common.{◌≡◌, ℕ, zero, suc, ◌+◌, ◌-◌, ◌<◌, ◌≤◌, Bool, true, false, cond, List, [], ◌∷◌, ◌++◌, length, map, min, take, drop, nat_lt, Option, Some, None, Result, Ok, Err, refl, ap, sym, subst, ◌∙◌, inl, inr, arith, tests, rules, flat_map, slice_range}
+use Rattle.std.proofs.Common.{◌≡◌, ℕ, zero, suc, ◌+◌, ◌-◌, ◌<◌, ◌≤◌, false, List, [], ◌∷◌, ◌++◌, length, map, min, nat_lt, Some, Result, Ok, Err, refl, ap, sym, subst, ◌∙◌, inl, inr, arith, tests, rules, flat_map, slice_range}
 use Rattle.std.proofs.lemmas.Bool.{cases_lt}
-use Rattle.std.proofs.lemmas.List.{drop-drop, drop-take, take-take}
 use Rattle.goblin_base.specs.declared.endian.Endian.TheVariants.{Little}
 use Rattle.goblin_base.specs.declared.error.ErrorOf.{ErrorOf}
 use Rattle.goblin_base.specs.Bytes.{IsBytes, number, slice_at}
 use Rattle.goblin_base.specs.Record.{encoding}
 use Rattle.goblin_base.proofs.RecordRoundTrip.{Slot, encoding-fields_from, fields_from, slots_width, slice_then}
 use Rattle.goblin_base.proofs.RecordRoundTrip.Slot.{octets_slot, uint_slot}
-use Rattle.goblin_base.proofs.Numbers.{number-of_slice, slice_at-inside, slice_at-some}
-use Rattle.goblin_pe_sect.specs.BaseRelocations.{AreBlocks, AreBlocksOf, Block, IsBlockAt, block_at, block_fields, first_items, then_items, with_head, with_words}
+use Rattle.goblin_base.proofs.Numbers.{number-of_slice, slice_at-inside}
+use Rattle.goblin_pe_sect.specs.BaseRelocations.{AreBlocks, AreBlocksOf, Block, IsBlockAt, block_at, block_fields, first_items, then_items, with_head}
 use Rattle.goblin_pe_sect.proofs.BlockItems.{at_from_read, inside, first_items-past}
 
 -- ---- to what is read

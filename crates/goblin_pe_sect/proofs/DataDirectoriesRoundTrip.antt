@@ -1,13 +1,11 @@
 -- Directories that were read are written as they stood, with zeros after the last, and one that was written is read again.
-use Rattle.std.proofs.Common.{◌≡◌, ℕ, zero, suc, ◌+◌, ◌-◌, ◌*◌, ◌<◌, ◌≤◌, true, false, nat_le, List, ◌∷◌, ◌++◌, length, drop, map, Option, Some, None, refl, sym, ap, ◌∙◌, inl, inr, arith, Bool, cond, take, replicate, ◌==◌, ◌&&◌, ◌||◌, slice_range, flat_map, option_map, take-add}
+use Rattle.std.proofs.Common.{◌≡◌, ℕ, zero, suc, ◌+◌, ◌-◌, ◌*◌, ◌<◌, ◌≤◌, true, false, List, ◌++◌, length, drop, map, Option, Some, None, refl, sym, ap, ◌∙◌, arith, Bool, cond, take, replicate, ◌==◌, ◌&&◌, slice_range, option_map}
 use Rattle.std.specs.List.{range_with_len}
-use Rattle.std.proofs.lemmas.Bool.{and_parts, eqb-true, leb-true, or_cases}
-use Rattle.std.proofs.lemmas.Option.{cond_some}
-use Rattle.std.proofs.lemmas.List.{drop-drop, map-append, replicate-append-replicate}
-use Rattle.std.proofs.lemmas.List.Concat.{flat_map-append}
+use Rattle.std.proofs.lemmas.Bool.{eqb-true}
+use Rattle.std.proofs.lemmas.List.{drop-drop, replicate-append-replicate}
 use Rattle.goblin_base.specs.declared.endian.Endian.TheVariants.{Little}
 use Rattle.goblin_base.specs.Bytes.{IsBytes, number_bytes, slice_at}
-use Rattle.goblin_base.specs.Record.{FieldValue, WritesBack, encoding, FieldsFit, ReadsBack}
+use Rattle.goblin_base.specs.Record.{WritesBack, encoding, FieldsFit, ReadsBack}
 use Rattle.goblin_base.proofs.RecordRoundTrip.{front_more, writes_back, reads_back}
 use Rattle.goblin_base.proofs.Numbers.{slice_at-inside}
 use Rattle.goblin_base.proofs.Writing.{encoding_append}
@@ -15,7 +13,7 @@ use Rattle.goblin_pe_sect.specs.declared.data_directories.DataDirectory.{DataDir
 use Rattle.goblin_pe_sect.specs.DataDirectories.{directory_fields, directory_or_zeros, directory_record, entries_fields, entry_ending, no_directory}
 use Rattle.goblin_pe_sect.specs.DirectoryReadings.{EntriesWriteBack}
 use Rattle.goblin_pe_sect.proofs.DirectoryReadings.{directories_read}
-use Rattle.goblin_pe_sect.proofs.Entries.{directory_entry_at, directory_entry_at-below, directory_entry_at-past, entries_in_room}
+use Rattle.goblin_pe_sect.proofs.Entries.{directory_entry_at, directory_entry_at-below, directory_entry_at-past}
 
 -- a directory that was read is written as it stood
 pub directory_back : WritesBack 8 directory_record directory_fields

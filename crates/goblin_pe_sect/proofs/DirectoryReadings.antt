@@ -1,5 +1,5 @@
 -- The data directories by the room in the file: what they are, and which cause is true of them.
-use Rattle.std.proofs.Common.{◌≡◌, ◌≢◌, ◌/◌, ◌%◌, ◌+◌, ◌-◌, ◌*◌, ◌<◌, ◌≤◌, ◌&&◌, ◌||◌, ℕ, zero, suc, Bool, true, false, cond, get_or, nat_eq, nat_le, List, length, map, Option, Some, None, refl, replicate, set, subst, sym, ap, ◌∙◌, inl, inr, arith, option_and_then, option_map, slice_range}
+use Rattle.std.proofs.Common.{◌≡◌, ◌≢◌, ◌/◌, ◌%◌, ◌+◌, ◌-◌, ◌*◌, ◌<◌, ◌≤◌, ◌&&◌, ◌||◌, ℕ, Bool, true, false, cond, get_or, nat_eq, nat_le, List, length, map, Option, Some, None, refl, replicate, set, subst, sym, ap, ◌∙◌, inl, inr, arith, option_and_then, option_map, slice_range}
 use Rattle.std.specs.List.{range_with_len, slice_get}
 use Rattle.std.proofs.lemmas.Bool.{cases_eq, cases_lt, eqb-false, eqb-true, le-leb, leb-false, leb-true, lt-leb, or_cases, or_parts}
 use Rattle.std.proofs.lemmas.List.FromFn.{get_or-map-range_with_len, length-map-range_with_len}
@@ -9,7 +9,7 @@ use Rattle.goblin_base.specs.declared.error.CauseOf.TheVariants.{DirectoryCount}
 use Rattle.goblin_base.specs.declared.error.ErrorOf.{ErrorOf}
 use Rattle.goblin_base.specs.declared.error.ErrorOf.TheVariants.{Malformed, Read}
 use Rattle.goblin_base.specs.declared.error.ReadFault.TheVariants.{BadOffset, TooBig}
-use Rattle.goblin_base.specs.Answers.{IsFirstMissing, IsSliceFault, all_at, all_of}
+use Rattle.goblin_base.specs.Answers.{IsFirstMissing, IsSliceFault, all_at}
 use Rattle.goblin_base.specs.Bytes.{slice_at}
 use Rattle.goblin_base.specs.Reading.{IsRefused}
 use Rattle.goblin_base.specs.Record.{record_at}

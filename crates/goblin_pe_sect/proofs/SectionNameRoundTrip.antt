@@ -1,5 +1,5 @@
 -- A name that was written says what it was written for.
-use Rattle.std.proofs.Common.{◌≡◌, ℕ, zero, suc, ◌+◌, ◌==◌, ◌&&◌, Bool, true, false, nat_lt, nat_eq, List, [], ◌∷◌, ◌++◌, take, length, refl, ap, sym, ◌∙◌, arith, take_all, nat_le, ◌-◌, if◌then◌else◌, ◌<◌, ◌≤◌, ◌/◌, ◌%◌, ◌^◌, not, map, Some, replicate, Option, None, option_map, inl, inr, slice_index}
+use Rattle.std.proofs.Common.{◌≡◌, ℕ, zero, suc, ◌+◌, ◌&&◌, Bool, true, false, nat_lt, nat_eq, List, [], ◌∷◌, ◌++◌, take, length, refl, ap, sym, ◌∙◌, arith, take_all, nat_le, ◌-◌, if◌then◌else◌, ◌<◌, ◌≤◌, ◌/◌, ◌%◌, ◌^◌, not, map, Some, replicate, Option, None, option_map, inl, inr, slice_index}
 use Rattle.std.specs.List.{list_all}
 use Rattle.std.proofs.lemmas.Bool.Decides.{nat_tests}
 use Rattle.std.proofs.lemmas.List.Folds.{list_all_at}

@@ -1,5 +1,5 @@
 -- A walk over the windows of sections, and the addresses that the section where it ends owns.
-use Rattle.std.proofs.Common.{◌≡◌, ℕ, ◌<◌, ◌≤◌, Bool, true, cond, max, min, IsTrue, List, [], ◌∷◌, Some, None, find, ap, ◌∙◌, sym, arith, rules, tests, option_map}
+use Rattle.std.proofs.Common.{◌≡◌, ℕ, ◌<◌, ◌≤◌, Bool, cond, max, min, IsTrue, List, [], ◌∷◌, Some, None, find, ap, ◌∙◌, sym, arith, option_map}
 use Rattle.std.specs.Int.{is_power_of_two}
 use Rattle.goblin_pe_sect.specs.Mapping.{InWindow, file_offset, is_in_window, offset_in, window_end}
 use Rattle.goblin_pe_sect.specs.SectionTable.{Section}

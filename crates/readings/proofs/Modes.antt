@@ -2,7 +2,7 @@
 use Rattle.std.proofs.Common.{ap, ◌∙◌, ◌≡◌, ℕ, Bool, true, false, cond, List, Option, Some, None, refl}
 use Rattle.goblin_base.specs.Reading.{Reading, Repeats, RepeatsAs}
 use Rattle.goblin_base.specs.Tables.{SlotFormat, kept_slots, slot_table}
-use Rattle.goblin_base.proofs.Kept.{Keeps, kept_slots-kept, or_left_out-kept, slot_table-kept, then-kept}
+use Rattle.goblin_base.proofs.Kept.{Keeps, kept_slots-kept, or_left_out-kept, slot_table-kept}
 use Rattle.goblin_base.proofs.Steps.{mapped as mapped_value, same_value, step}
 use Rattle.readings.specs.Reads as reads
 use Rattle.readings.specs.Reads.{◌beside◌, in_its_place, mapped, or_else, or_left_out, pair_of, table, table_with_slots, with_slots}
