@@ -1,5 +1,5 @@
 -- An optional header that was read is written as its bytes, with the missing directories after them.
-use Rattle.std.proofs.Common.{◌≡◌, ℕ, ◌+◌, ◌-◌, ◌*◌, ◌^◌, ◌≤◌, ◌<◌, List, [], ◌++◌, take, drop, replicate, length, Option, Some, refl, sym, ap, ◌∙◌, subst, inl, inr, IfSome, slice_range, lt-ltb, append-nil, get_or-drop, mod-eq_of_lt}
+use Rattle.std.proofs.Common.{◌≡◌, ℕ, ◌+◌, ◌-◌, ◌*◌, ◌^◌, ◌≤◌, ◌<◌, List, [], ◌++◌, take, drop, replicate, length, Option, Some, refl, sym, ap, ◌∙◌, subst, inl, inr, IfSome, slice_range, lt-ltb, append-nil, mod-eq_of_lt}
 use Rattle.goblin_base.specs.declared.endian.Endian.TheVariants.{Little}
 use Rattle.goblin_base.specs.Bytes.{IsBytes, number, slice_at}
 use Rattle.goblin_base.specs.Record.{FieldValue, encoding, record_at}

@@ -1,5 +1,5 @@
 -- A header that was read is written as its bytes, with the missing directories after them, and is read again.
-use Rattle.std.proofs.Common.{◌≡◌, ℕ, ◌+◌, ◌-◌, ◌<◌, ◌≤◌, ◌&&◌, Bool, true, false, cond, nat_le, List, [], ◌∷◌, ◌++◌, take, drop, length, Option, Some, None, refl, sym, ap, ◌∙◌, subst, arith, ◌*◌, nat_lt, append_assoc, inl, inr, ◌==◌, IsSomeAnd, option_map, slice_range, option_and_then, append-nil, length-drop}
+use Rattle.std.proofs.Common.{◌≡◌, ℕ, ◌+◌, ◌-◌, ◌<◌, ◌≤◌, ◌&&◌, Bool, true, false, cond, nat_le, List, [], ◌∷◌, ◌++◌, take, drop, length, Option, Some, None, refl, sym, ap, ◌∙◌, subst, arith, ◌*◌, nat_lt, append_assoc, inl, inr, ◌==◌, option_map, slice_range, option_and_then, append-nil, length-drop}
 use Rattle.std.proofs.lemmas.Bool.{and_parts, eqb-true, leb-true, le-leb}
 use Rattle.std.proofs.lemmas.Option.{cond_some}
 use Rattle.goblin_base.specs.declared.endian.Endian.TheVariants.{Little}

@@ -1,8 +1,7 @@
 -- The least places of the words of a Rich header.
-use Rattle.std.proofs.Common.{◌≡◌, ℕ, Bool, true, false, cond, zero, suc, ◌+◌, ◌-◌, ◌*◌, ◌%◌, ◌<◌, ◌≤◌, ◌⊎◌, ◌&&◌, nat_lt, List, length, drop, take, refl, subst, ap, sym, ◌∙◌, inl, inr, arith, ◌==◌, Option, Some, None, IsSomeAnd, option_map, slice_range, length-take, length-take-le, take-take}
-use Rattle.std.specs.List.{find, range_with_len}
+use Rattle.std.proofs.Common.{◌≡◌, ℕ, Bool, true, false, cond, ◌+◌, ◌-◌, ◌<◌, ◌≤◌, ◌⊎◌, nat_lt, List, length, drop, take, refl, subst, ap, sym, ◌∙◌, inl, inr, arith, ◌==◌, Option, Some, None, IsSomeAnd, option_map, slice_range, length-take, length-take-le, take-take}
 use Rattle.std.specs.Int.Bits.{bit_xor}
-use Rattle.std.proofs.lemmas.Bool.{cases_eq, eqb-true, eq-eqb, ltb-true}
+use Rattle.std.proofs.lemmas.Bool.{eqb-true, eq-eqb, ltb-true}
 use Rattle.goblin_base.specs.declared.endian.Endian.TheVariants.{Little}
 use Rattle.goblin_base.proofs.Fronts.{HaveFront, slice-front}
 use Rattle.goblin_base.proofs.Numbers.{number-slice, read_number}
@@ -12,7 +11,7 @@ use Rattle.goblin_base.proofs.Steps.{mapped, same_value, step}
 use Rattle.goblin_pe_head.specs.declared.header.dos.DosHeader.{DosHeader}
 use Rattle.goblin_pe_head.specs.HeaderLaws.{IsDansAt, IsLeast, IsMarked, IsMarkerAt, RichIsMarked, RichIsUnmarked}
 use Rattle.goblin_pe_head.specs.HeaderReadings.{dos_header, rich_header}
-use Rattle.goblin_pe_head.specs.RichHeader.{Rich, dans_place, is_rich, leading_words, least_below, marker_place, rich_between, word_at}
+use Rattle.goblin_pe_head.specs.RichHeader.{Rich, dans_place, is_rich, least_below, marker_place, rich_between, word_at}
 use Rattle.goblin_pe_head.specs.RichReadings.{rich_at, rich_before, rich_in}
 
 -- the least number that passes a test is the least place where P holds, if the test is that of P

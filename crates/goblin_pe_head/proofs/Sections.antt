@@ -1,5 +1,5 @@
 -- Sections one after the other: where one is missing, and what is answered of those that are moved.
-use Rattle.std.proofs.Common.{◌≡◌, ℕ, ◌+◌, ◌*◌, ◌/◌, ◌-◌, ◌<◌, ◌≤◌, Bool, true, false, List, length, [], ◌∷◌, ◌∙◌, arith, ap, map, refl, inr, sym, Result, Ok, Err, None, Option, Some, nat_le, option_map}
+use Rattle.std.proofs.Common.{◌≡◌, ℕ, ◌+◌, ◌*◌, ◌/◌, ◌-◌, ◌<◌, ◌≤◌, Bool, true, false, List, length, ◌∙◌, arith, ap, map, refl, inr, sym, Result, Ok, Err, None, Option, Some, nat_le, option_map}
 use Rattle.std.specs.List.{range_with_len}
 use Rattle.std.proofs.lemmas.Simd.{map-map}
 use Rattle.std.proofs.lemmas.Bool.{lt-leb}
@@ -7,7 +7,6 @@ use Rattle.std.proofs.Math.Bool.{and-false}
 use Rattle.goblin_base.specs.declared.error.CauseOf.TheVariants.{StrippedSize}
 use Rattle.goblin_base.specs.declared.error.ErrorOf.{ErrorOf}
 use Rattle.goblin_base.specs.Reading.{Reading, Reads, ReadsOrMemory}
-use Rattle.goblin_base.specs.Answers as answers
 use Rattle.goblin_base.specs.Answers.{all_at, all_of}
 use Rattle.goblin_base.proofs.Steps.{all_at-none, all_of-map, unmapped}
 use Rattle.readings.specs.Reads.{◌>>=◌, each, mapped, needs}

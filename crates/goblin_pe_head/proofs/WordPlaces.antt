@@ -1,5 +1,5 @@
 -- The first place of a word, found by its first byte.
-use Rattle.std.proofs.Common.{◌≡◌, ◌≢◌, ℕ, Bool, true, false, cond, zero, suc, ◌+◌, ◌-◌, ◌%◌, ◌^◌, ◌<◌, ◌≤◌, List, length, get_or, map, replicate, refl, ap, sym, ◌∙◌, inl, inr, arith, Fits, w8, not, ◌==◌, Some, None, drop, slice_index, slice_range, get_or-drop, get_or-take, length-drop, length-take}
+use Rattle.std.proofs.Common.{◌≡◌, ◌≢◌, ℕ, Bool, false, cond, ◌+◌, ◌-◌, ◌%◌, ◌^◌, ◌<◌, ◌≤◌, List, length, get_or, map, replicate, ap, sym, ◌∙◌, inl, inr, arith, Fits, w8, not, ◌==◌, drop, slice_index, slice_range, get_or-drop, get_or-take, length-drop, length-take}
 use Rattle.std.specs.List.{find, prefix_len, range_with_len}
 use Rattle.std.specs.Int.Bits.{bit_xor, xor_assoc, xor_self, xor_zero_r}
 use Rattle.std.proofs.lemmas.Bool.{cases_eq, cases_lt, eqb-true, eq-eqb, false_from_ne_true, ne_eqb}
