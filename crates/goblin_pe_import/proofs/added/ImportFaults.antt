@@ -47,17 +47,13 @@ walk-not_memory format w e fault =
     (λ _. next-not_memory strict format m.addressing bytes e w.at.next_record))
     fault.1
 
-walk-fault : (format : Format EntryValue) (s : Walk) (e : ErrorOf) → IsWalkCause format s e
-    → IsWalkFault s e
-walk-fault format s e fault = (fault.0, walk-not_memory format s e fault)
-
--- an error that a call gives is such a one
+-- an error that a call gives comes only in strict mode, and is not Memory
 pub given-fault : (format : Format EntryValue) (s t : Walk) (result : Option (Result WalkedImport ErrorOf))
     → GivesWithin walked_value (walk_left format) (IsWalkCause format) s result t
     → IfSome result (λ r. IfErr r (IsWalkFault s))
 given-fault format s t None given = tt
 given-fault format s t (Some (Ok import)) given = tt
-given-fault format s t (Some (Err e)) given = walk-fault format s e given.2
+given-fault format s t (Some (Err e)) given = (given.2.0, walk-not_memory format s e given.2)
 
 -- what a call gives of a walk, it gives of the iterator
 pub within-given : {T : Type 0} (format : Format EntryValue) (s t : Imports T)
