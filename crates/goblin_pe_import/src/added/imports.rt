@@ -543,7 +543,7 @@ impl<'a, 'm, 'e, T: Bitfield<'a>> Imports<'a, 'm, 'e, T> {
             if strictly {
                 return Err(Error::Malformed(Cause::Unmapped(rva as usize)));
             }
-            return Ok(Imports::walk_of(bytes, ImportCursor::end(), finder));
+            return Ok(Imports::at_cursor(bytes, ImportCursor::end(), finder));
         };
         Ok(Imports::at(bytes, offset, finder))
     }
@@ -561,13 +561,23 @@ impl<'a, 'm, 'e, T: Bitfield<'a>> Imports<'a, 'm, 'e, T> {
             let both = indexed_at (reads_strictly m) T.format m.addressing offset in
             IfSome (both.value bytes.now) (λ x. length x.1 ≡ length x.0) }
     {
-        Imports::walk_of(bytes, ImportCursor::before_record(offset), finder)
+        Imports::at_cursor(bytes, ImportCursor::before_record(offset), finder)
     }
 
-    // The walk at a cursor.
+    /// The walk from a cursor on. At a cursor that [`Imports::cursor`] returned, it yields what
+    /// that walk had yet to yield. Any other cursor is safe, too.
     #[inline(always)]
-    fn walk_of(bytes: &'a [u8], at: ImportCursor, finder: Finder<'m>) -> Imports<'a, 'm, 'e, T>
+    #[tactic(auto, using(crate::proofs::added::ImportCursors::cursor_left_of))]
+    pub fn at_cursor(
+        bytes: &'a [u8],
+        at: ImportCursor,
+        finder: Finder<'m>,
+    ) -> Imports<'a, 'm, 'e, T>
         ensures at { IsWalkAt (map_of finder.entry) bytes.now at result }
+        ensures left { imports_left T.format result
+            ≡ cursor_left (map_of finder.entry) T.format bytes.now at }
+        ensures cause { (e : ErrorOf) → IsImportsCause T.format result e
+            → IsCursorCause (map_of finder.entry) T.format bytes.now at e }
         ensures wide { 1 ≤ T.format.width }
     {
         let dll = "";
@@ -584,23 +594,6 @@ impl<'a, 'm, 'e, T: Bitfield<'a>> Imports<'a, 'm, 'e, T> {
             walk,
             items: PhantomData,
         }
-    }
-
-    /// The walk from a cursor on. At a cursor that [`Imports::cursor`] returned, it yields what
-    /// that walk had yet to yield. Any other cursor is safe, too.
-    #[inline(always)]
-    pub fn at_cursor(
-        bytes: &'a [u8],
-        at: ImportCursor,
-        finder: Finder<'m>,
-    ) -> Imports<'a, 'm, 'e, T>
-        ensures at { IsWalkAt (map_of finder.entry) bytes.now at result }
-        ensures left { imports_left T.format result
-            ≡ cursor_left (map_of finder.entry) T.format bytes.now at }
-        ensures cause { (e : ErrorOf) → IsImportsCause T.format result e
-            → IsCursorCause (map_of finder.entry) T.format bytes.now at e }
-    {
-        Imports::walk_of(bytes, at, finder)
     }
 
     /// Where the walk is. A walk at this cursor yields what this one has yet to yield.

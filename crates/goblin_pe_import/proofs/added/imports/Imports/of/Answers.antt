@@ -11,4 +11,4 @@ returns-in_default-clause-walks g c =
     let permissive : reads_strictly m ≡ false = sym c.reads_strictly-strictly.ensures ∙ c.if-strictly.false in
     let none : first_record_offset (reads_strictly m) (offset_of m rva) ≡ None =
     rw (← c.reads_strictly-strictly.ensures, ← c.of-finder.ensures, ← c.offset_of.ensures.value, ← c.first_record_offset.ensures) c.in_default.is in
-    imports-none m g.T.Bitfield.format c.args.bytes.now rva permissive none c.walk_of.result (c.walk_of.ensures.at.at ∙ c.end.ensures)
+    imports-none m g.T.Bitfield.format c.args.bytes.now rva permissive none c.at_cursor.result (c.at_cursor.ensures.at.at ∙ c.end.ensures)
