@@ -11,7 +11,7 @@ use Rattle.goblin_pe_sect.specs.Addresses.{map_of, reads_strictly, Addressing}
 use Rattle.goblin_pe_import.specs.ImportEntries.{EntryValue}
 use Rattle.goblin_pe_import.specs.ImportReadings.{libraries_at}
 use Rattle.goblin_pe_import.specs.LookupReadings.{lookup_table}
-use Rattle.goblin_pe_import.specs.added.ImportWalks.{AreImportsOver, GivesImport, HasName, IsImportsCause, imports_left, IsLaterCause, IsNextCause, IsWalkCause, IsWalkFault, pending_table, walk_left, walked_value}
+use Rattle.goblin_pe_import.specs.added.ImportWalks.{GivesImport, IsImportsCause, imports_left, IsLaterCause, IsNextCause, IsWalkCause, IsWalkFault, pending_table, walk_left, walked_value}
 use Rattle.goblin_pe_import.specs.KeptEntries.{IsEntriesCause, entries_from}
 use Rattle.goblin_pe_import.specs.added.StepsAhead.{GivesImportWithin}
 use Rattle.goblin_pe_import.specs.Steps.{GivesWithin}

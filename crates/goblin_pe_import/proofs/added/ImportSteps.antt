@@ -11,8 +11,8 @@ use Rattle.goblin_pe_import.specs.declared.import.kept.KeptEntry.{KeptEntry}
 use Rattle.goblin_pe_sect.specs.Addresses.{Addressing, map_of, reads_strictly}
 use Rattle.goblin_pe_import.specs.ImportEntries.{EntryValue}
 use Rattle.goblin_pe_import.specs.Imports.{NumberedImport}
-use Rattle.goblin_pe_import.specs.added.ImportWalks.{GivesLibrary, IsLaterCause, IsNamed, IsCursorCause, IsNamedAt, IsWalkCause, bound_next, no_imports, imports_next, kept_import, later_items, walk_answer, walk_at, walk_bound, walk_left}
-use Rattle.goblin_pe_import.specs.KeptEntries.{IsEntriesCause, slots_bound, KeptValue, entries_from, kept_value, place_after}
+use Rattle.goblin_pe_import.specs.added.ImportWalks.{GivesLibrary, IsLaterCause, IsNamed, IsCursorCause, IsWalkCause, bound_next, no_imports, imports_next, kept_import, later_items, walk_answer, walk_at, walk_bound, walk_left}
+use Rattle.goblin_pe_import.specs.KeptEntries.{IsEntriesCause, KeptValue, entries_from, kept_value, place_after}
 use Rattle.goblin_pe_import.specs.declared.added.imports.ImportCursor.{ImportCursor}
 
 one_before : {A : Type 0} (x : A) (o : Option (List A)) (IsNow IsNext IsLater : ErrorOf → Type 0)

@@ -7,7 +7,7 @@ use Rattle.goblin_base.specs.Reading.{IsRefused, Reading}
 use Rattle.goblin_base.specs.Tables.{Format, ends_table, or_left_out}
 use Rattle.goblin_base.proofs.SlotTables.{reads}
 use Rattle.goblin_base.proofs.Steps.{unmapped}
-use Rattle.readings.specs.Reads.{given, pair_of, pick}
+use Rattle.readings.specs.Reads.{pair_of}
 use Rattle.readings.specs.Walks.{from_slot, refusal_of, table_walk, until_refused}
 use Rattle.readings.proofs.Walks.{IsSlotCause, cause-slot, slot-end, slot-going, slot-missing, until_refused-later, walk-slot}
 use Rattle.goblin_pe_import.specs.declared.import.directory_entry.ImportDirectoryEntry.{ImportDirectoryEntry}

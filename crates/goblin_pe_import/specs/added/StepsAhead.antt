@@ -17,7 +17,7 @@ use Rattle.goblin_pe_import.specs.declared.added.imports.ImportCursor.{ImportCur
 use Rattle.goblin_pe_import.specs.declared.added.imports.Imports.{Imports}
 use Rattle.goblin_pe_import.specs.declared.added.imports.Walk.{Walk}
 use Rattle.goblin_pe_import.specs.declared.added.imports.WalkedImport.{WalkedImport}
-use Rattle.goblin_pe_import.specs.Steps.{slots_ahead, spent, HasNotGrown, AreCounted, GivesWithin}
+use Rattle.goblin_pe_import.specs.Steps.{slots_ahead, HasNotGrown, AreCounted, GivesWithin}
 
 -- ---- what is ahead
 
