@@ -45,6 +45,10 @@ use Rattle.goblin_pe_c_headers.specs.declared.fault.PeFault.{PeFault}
 use Rattle.goblin_pe_c_headers.specs.declared.image.PeImage.{PeImage}
 use Rattle.goblin_pe_c_headers.specs.Calls.{ReportedAfter}
 
+-- records that are filled from a position on
+abbrev pub batch_at : {P R : Type 0} → P → List R → Batch P R
+batch_at position records = record { position = position; records = records }
+
 -- what a call says that gave `count` records: without room it does not say that it is done
 abbrev pub at_room : ℕ → ℕ → Bool → PeBatch
 at_room room count is_done = record { count = count; is_done = is_done && not (room == 0) }

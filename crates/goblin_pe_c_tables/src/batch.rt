@@ -6,7 +6,7 @@ ghost use Rattle.goblin_base.specs.Answers.{IsMemory};
 ghost use Rattle.goblin_pe.specs.Addresses.{MapOfAddresses};
 ghost use Rattle.goblin_pe.specs.added.Layouts.{layout_bytes, layout_map, layout_places};
 ghost use Rattle.goblin_pe.specs.Whole.{TablePlaces};
-ghost use Rattle.goblin_pe_c_tables.specs.Batches.{GivesRecords, WalksOver, at_room};
+ghost use Rattle.goblin_pe_c_tables.specs.Batches.{GivesRecords, WalksOver, at_room, batch_at};
 ghost use Rattle.goblin_pe_c_tables.specs.Steps.{section_steps};
 ghost use Rattle.goblin_pe_c_headers.specs.Onward.{Batch};
 ghost use Rattle.goblin_pe_c_headers.specs.declared.batch.PeBatch.{PeBatch};
@@ -46,14 +46,8 @@ pub trait Batched<'a>: Sized {
         ensures filled { let m = layout_map layout.now in
             let places = layout_places layout.now in
             let bytes = layout_bytes layout.now in
-            let old : Batch Self.Position Self = record {
-              position = position.old;
-              records = records.old;
-            } in
-            let new : Batch Self.Position Self = record {
-              position = position.new;
-              records = records.new;
-            } in
+            let old = batch_at position.old records.old in
+            let new = batch_at position.new records.new in
             MatchResult result (gives m places bytes steps.old steps.new old new)
             (λ e. is_fault m places bytes old e × (new ≡ old)) }
         ensures kept { OnErr result (steps.new ≡ steps.old) }
@@ -79,14 +73,8 @@ fn give<'a, 'e, T: Batched<'a>>(
     steps: &mut usize,
     batch: &mut PeBatch,
 ) -> ResultOf<'e, ()>
-    ensures given { let old : Batch T.Position T = record {
-      position = position.old;
-      records = records.old;
-    } in
-        let new : Batch T.Position T = record {
-          position = position.new;
-          records = records.new;
-        } in
+    ensures given { let old = batch_at position.old records.old in
+        let new = batch_at position.new records.new in
         GivesRecords image.now (λ m places b. T.gives m places b steps.old steps.new) T.is_fault
         old new batch.new result }
     ensures kept { OnErr result (steps.new ≡ steps.old) }
@@ -112,14 +100,8 @@ pub fn walk<'a, T: Batched<'a>>(
     steps: &mut usize,
     batch: &mut PeBatch,
 ) -> PeFault
-    ensures given { let old : Batch T.Position T = record {
-      position = position.old;
-      records = records.old;
-    } in
-        let new : Batch T.Position T = record {
-          position = position.new;
-          records = records.new;
-        } in
+    ensures given { let old = batch_at position.old records.old in
+        let new = batch_at position.new records.new in
         let allowed = steps.old - section_steps image.now (length records.old) in
         WalksOver refusal result image.now (λ m places b. T.gives m places b allowed steps.new)
         T.is_fault old new batch.new }

@@ -272,13 +272,9 @@ impl<'a> Batched<'a> for PeImport<'a> {
         steps: &mut usize,
         records: &mut [PeImport<'a>],
     ) -> ResultOf<'e, PeBatch> {
-        match answer_for(next_imports(layout, position, *steps, records)) {
-            Ok((batch, left)) => {
-                *steps = left;
-                Ok(batch)
-            }
-            Err(error) => Err(error),
-        }
+        let (batch, left) = answer_for(next_imports(layout, position, *steps, records))?;
+        *steps = left;
+        Ok(batch)
     }
 }
 

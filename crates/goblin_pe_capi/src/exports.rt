@@ -4,10 +4,10 @@
 ghost use Rattle.std.specs.Prelude.{◌≡◌, ◌≢◌, ◌-◌, Some, length};
 ghost use Rattle.goblin_pe_c_headers.specs.Calls.{ReadsWithout, ReportedAfter};
 ghost use Rattle.goblin_pe_c_headers.specs.Faults.{options_fault};
-ghost use Rattle.goblin_pe_c_tables.specs.Batches.{AddressBatch, ExportBatch, GivesAddresses};
+ghost use Rattle.goblin_pe_c_tables.specs.Batches.{GivesAddresses};
 ghost use Rattle.goblin_pe_c_tables.specs.Batches.{GivesBatch, GivesExports, IsAddressBatchFault};
 ghost use Rattle.goblin_pe_c_tables.specs.Batches.{IsAddressesFault, IsExportBatchFault};
-ghost use Rattle.goblin_pe_c_tables.specs.Batches.{SaysDirectory, WalksOver};
+ghost use Rattle.goblin_pe_c_tables.specs.Batches.{SaysDirectory, WalksOver, batch_at};
 ghost use Rattle.goblin_pe_c_tables.specs.ExportDirectories.{directory_model};
 ghost use Rattle.goblin_pe_c_tables.specs.Exports.{forwarder_for_c, forwarder_model};
 ghost use Rattle.goblin_pe_c_tables.specs.ForwardersAt.{forwarder_at_address};
@@ -39,9 +39,8 @@ pub extern "C" fn goblin_pe_raw_next_exports<'a>(
     steps: &mut usize,
     batch: &mut PeBatch,
 ) -> PeFault
-    ensures given { let old : ExportBatch =
-        record { position = cursor.old.index; records = exports.old } in
-        let new : ExportBatch = record { position = cursor.new.index; records = exports.new } in
+    ensures given { let old = batch_at cursor.old.index exports.old in
+        let new = batch_at cursor.new.index exports.new in
         let room = length exports.old in
         let allowed = steps.old - section_steps image.now room in
         WalksOver (walk_fault image.now room steps.old) result image.now
@@ -97,9 +96,8 @@ pub extern "C" fn goblin_pe_raw_next_export_addresses<'a>(
     addresses: &mut [PeExportAddress],
     batch: &mut PeBatch,
 ) -> PeFault
-    ensures { let old : AddressBatch =
-        record { position = cursor.old.index; records = addresses.old } in
-        let new : AddressBatch = record { position = cursor.new.index; records = addresses.new } in
+    ensures { let old = batch_at cursor.old.index addresses.old in
+        let new = batch_at cursor.new.index addresses.new in
         WalksOver (options_fault image.now.options) result image.now GivesAddresses
         IsAddressBatchFault old new batch.new }
 {

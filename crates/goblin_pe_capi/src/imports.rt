@@ -2,10 +2,10 @@
 
 ghost use Rattle.std.specs.Prelude.{◌≡◌, ◌≢◌, ◌-◌, length};
 ghost use Rattle.goblin_pe_c_headers.specs.Faults.{options_fault};
-ghost use Rattle.goblin_pe_c_tables.specs.Batches.{GivesImports, ImportBatch, IsImportsFault};
-ghost use Rattle.goblin_pe_c_tables.specs.Batches.{WalksOver};
+ghost use Rattle.goblin_pe_c_tables.specs.Batches.{GivesImports, IsImportsFault};
+ghost use Rattle.goblin_pe_c_tables.specs.Batches.{WalksOver, batch_at};
 ghost use Rattle.goblin_pe_c_tables.specs.Libraries.{GivesLibraries, IsLibrariesFault};
-ghost use Rattle.goblin_pe_c_tables.specs.Libraries.{LibrariesEnd, LibraryBatch};
+ghost use Rattle.goblin_pe_c_tables.specs.Libraries.{LibrariesEnd};
 ghost use Rattle.goblin_pe_c_tables.specs.Steps.{section_steps, walk_fault};
 
 use goblin_pe_c_headers::batch::PeBatch;
@@ -35,9 +35,8 @@ pub extern "C" fn goblin_pe_raw_next_imports<'a>(
     steps: &mut usize,
     batch: &mut PeBatch,
 ) -> PeFault
-    ensures given { let old : ImportBatch =
-        record { position = cursor.old; records = imports.old } in
-        let new : ImportBatch = record { position = cursor.new; records = imports.new } in
+    ensures given { let old = batch_at cursor.old imports.old in
+        let new = batch_at cursor.new imports.new in
         let room = length imports.old in
         let allowed = steps.old - section_steps image.now room in
         WalksOver (walk_fault image.now room steps.old) result image.now
@@ -61,9 +60,8 @@ pub extern "C" fn goblin_pe_raw_next_libraries<'a>(
     libraries: &mut [PeLibrary<'a>],
     batch: &mut PeBatch,
 ) -> PeFault
-    ensures given { let old : LibraryBatch =
-        record { position = cursor.old; records = libraries.old } in
-        let new : LibraryBatch = record { position = cursor.new; records = libraries.new } in
+    ensures given { let old = batch_at cursor.old libraries.old in
+        let new = batch_at cursor.new libraries.new in
         WalksOver (options_fault image.now.options) result image.now GivesLibraries IsLibrariesFault
         old new batch.new }
     ensures ends { LibrariesEnd }

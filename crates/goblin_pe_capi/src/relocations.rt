@@ -1,8 +1,7 @@
 //! The call that walks over blocks of base relocations.
 
 ghost use Rattle.goblin_pe_c_headers.specs.Faults.{options_fault};
-ghost use Rattle.goblin_pe_c_tables.specs.Batches.{BlockBatch, GivesBlocks, IsBlocksFault};
-ghost use Rattle.goblin_pe_c_tables.specs.Batches.{WalksOver};
+ghost use Rattle.goblin_pe_c_tables.specs.Batches.{GivesBlocks, IsBlocksFault, WalksOver, batch_at};
 
 use goblin_pe_c_headers::batch::PeBatch;
 use goblin_pe_c_headers::cursor::PeRelocationBlockCursor;
@@ -24,9 +23,8 @@ pub extern "C" fn goblin_pe_raw_next_relocation_blocks<'a>(
     blocks: &mut [PeRelocationBlock],
     batch: &mut PeBatch,
 ) -> PeFault
-    ensures { let old : BlockBatch =
-        record { position = cursor.old.offset; records = blocks.old } in
-        let new : BlockBatch = record { position = cursor.new.offset; records = blocks.new } in
+    ensures { let old = batch_at cursor.old.offset blocks.old in
+        let new = batch_at cursor.new.offset blocks.new in
         WalksOver (options_fault image.now.options) result image.now GivesBlocks IsBlocksFault old
         new
         batch.new }

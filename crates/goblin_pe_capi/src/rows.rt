@@ -6,13 +6,13 @@ ghost use Rattle.goblin_pe_c_headers.specs.Calls.{ReadsWithout, Reported};
 ghost use Rattle.goblin_pe_c_headers.specs.Faults.{no_fault};
 ghost use Rattle.goblin_pe_c_headers.specs.Onward.{GivesOnward, no_batch};
 ghost use Rattle.goblin_pe_c_headers.specs.Options.{longest_of};
-ghost use Rattle.goblin_pe_c_headers.specs.Relocations.{RelocationBatch, all_relocations};
-ghost use Rattle.goblin_pe_c_headers.specs.RichHeaders.{GivesEntries, HeaderIsWalked, RichBatch};
-ghost use Rattle.goblin_pe_c_headers.specs.RichHeaders.{RichIsWalked};
-ghost use Rattle.goblin_pe_c_headers.specs.Sections.{ReadsSections, SectionBatch};
+ghost use Rattle.goblin_pe_c_headers.specs.Relocations.{all_relocations};
+ghost use Rattle.goblin_pe_c_headers.specs.RichHeaders.{GivesEntries, HeaderIsWalked, RichIsWalked};
+ghost use Rattle.goblin_pe_c_headers.specs.Sections.{ReadsSections};
 ghost use Rattle.goblin_pe_c_headers.specs.Symbols.{FindsTables, GivesSymbols, NamesOfText};
-ghost use Rattle.goblin_pe_c_headers.specs.Symbols.{SymbolBatch, found_tables, name_in_piece};
-ghost use Rattle.goblin_pe_c_headers.specs.Words.{GivesWords, WordBatch};
+ghost use Rattle.goblin_pe_c_headers.specs.Symbols.{found_tables, name_in_piece};
+ghost use Rattle.goblin_pe_c_headers.specs.Words.{GivesWords};
+ghost use Rattle.goblin_pe_c_tables.specs.Batches.{batch_at};
 
 use goblin_pe::header::RichMetadata;
 use goblin_pe::relocation::Relocation;
@@ -39,10 +39,8 @@ pub extern "C" fn goblin_pe_raw_next_sections<'a>(
     sections: &mut [PeSection<'a>],
     batch: &mut PeBatch,
 ) -> PeFault
-    ensures { let old : SectionBatch =
-        record { position = cursor.old.index; records = sections.old } in
-        let new : SectionBatch =
-        record { position = cursor.new.index; records = sections.new } in
+    ensures { let old = batch_at cursor.old.index sections.old in
+        let new = batch_at cursor.new.index sections.new in
         Reported result (ReadsSections image.now old new batch.new) }
 {
     status_of(next_sections(image, &mut cursor.index, sections, batch))
@@ -59,9 +57,8 @@ pub extern "C" fn goblin_pe_raw_next_rich_entries(
     entries: &mut [RichMetadata],
     batch: &mut PeBatch,
 ) -> PeFault
-    ensures given { let old : RichBatch =
-        record { position = cursor.old.index; records = entries.old } in
-        let new : RichBatch = record { position = cursor.new.index; records = entries.new } in
+    ensures given { let old = batch_at cursor.old.index entries.old in
+        let new = batch_at cursor.new.index entries.new in
         Reported result (GivesEntries image.now old new batch.new) }
     ensures found { RichIsWalked }
     ensures read { HeaderIsWalked }
@@ -79,9 +76,8 @@ pub extern "C" fn goblin_pe_raw_next_symbols<'a>(
     symbols: &mut [PeSymbol<'a>],
     batch: &mut PeBatch,
 ) -> PeFault
-    ensures given { let old : SymbolBatch =
-        record { position = cursor.old.index; records = symbols.old } in
-        let new : SymbolBatch = record { position = cursor.new.index; records = symbols.new } in
+    ensures given { let old = batch_at cursor.old.index symbols.old in
+        let new = batch_at cursor.new.index symbols.new in
         Reported result
         (ReadsWithout (found_tables image.now.coff_header) image.now.bytes.now
         (λ t. GivesSymbols t.0 (name_in_piece (longest_of image.now.options) t.1) old new batch.new)
@@ -103,10 +99,8 @@ pub extern "C" fn goblin_pe_raw_next_coff_relocations(
     relocations: &mut [Relocation],
     batch: &mut PeBatch,
 ) -> PeFault
-    ensures given { let old : RelocationBatch =
-        record { position = cursor.old.index; records = relocations.old } in
-        let new : RelocationBatch =
-        record { position = cursor.new.index; records = relocations.new } in
+    ensures given { let old = batch_at cursor.old.index relocations.old in
+        let new = batch_at cursor.new.index relocations.new in
         Reported result
         (ReadsWithout (all_relocations cursor.old) image.now.bytes.now
         (λ all. GivesOnward all old new batch.new)
@@ -124,9 +118,8 @@ pub extern "C" fn goblin_pe_raw_next_base_relocations(
     relocations: &mut [PeBaseRelocation],
     batch: &mut PeBatch,
 ) -> PeFault
-    ensures given { let old : WordBatch =
-        record { position = cursor.old; records = relocations.old } in
-        let new : WordBatch = record { position = cursor.new; records = relocations.new } in
+    ensures given { let old = batch_at cursor.old relocations.old in
+        let new = batch_at cursor.new relocations.new in
         GivesWords image.now.bytes.now old new batch.new }
     ensures none { result ≡ no_fault }
 {
