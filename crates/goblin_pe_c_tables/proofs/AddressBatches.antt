@@ -63,7 +63,8 @@ module _ (addressing : Addressing) (tables : ExportTables) where
 pub onward-none : {W : Type 0} (items : List W) (from : ℕ) (old : List W) → length items ≤ from
     → GivesOnward items (record { position = from; records = old }) (record { position = from; records = old }) (at_room (length old) 0 true)
 onward-none {W} items from old past =
-    none-given (row_table (λ (w : W). w) items) ⊥ _ from old (ap (λ (xs : List W). Some (unrefused xs)) (drop_of_length-le items past)) (omega arith)
+    let stays : from ≡ from + 0 = omega arith in
+    none-given (row_table (λ (w : W). w) items) ⊥ (λ left. from ≡ from + 0) from old (ap (λ (xs : List W). Some (unrefused xs)) (drop_of_length-le items past)) stays
 
 -- ---- in a file
 

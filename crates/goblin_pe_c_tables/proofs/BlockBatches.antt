@@ -210,7 +210,10 @@ module _ (m : MapOfAddresses) (places : TablePlaces) (bytes : List ℕ) (x : ℕ
   pub blocks-none : (found : Part RelocationData) → (relocation_part m.opts m.addressing places).value bytes ≡ Some (part_map relocation_bytes found)
       → (found ≡ Absent) ⊎ (found ≡ Refused)
       → GivesBlocks m places bytes (record { position = x; records = old }) (record { position = x; records = old }) (at_room (length old) 0 true)
-  blocks-none found read none = elim none [
-    | inl is ↦ rw (read ∙ ap (λ (p : Part RelocationData). Some (part_map relocation_bytes p)) is) (none-given (block_table (relocations_begin m.addressing places) Absent) ⊥ _ x old refl (omega arith))
-    | inr is ↦ rw (read ∙ ap (λ (p : Part RelocationData). Some (part_map relocation_bytes p)) is) (none-given (block_table (relocations_begin m.addressing places) Refused) ⊥ _ x old refl (omega arith))
-  ]
+  blocks-none found read none =
+      let begin = relocations_begin m.addressing places in
+      let stays : x ≡ x + 0 = omega arith in
+      elim none [
+        | inl is ↦ rw (read ∙ ap (λ (p : Part RelocationData). Some (part_map relocation_bytes p)) is) (none-given (block_table begin Absent) ⊥ (λ left. x ≡ x + size_of (take 0 (values_before left))) x old refl stays)
+        | inr is ↦ rw (read ∙ ap (λ (p : Part RelocationData). Some (part_map relocation_bytes p)) is) (none-given (block_table begin Refused) ⊥ (λ left. x ≡ x + size_of (take 0 (values_before left))) x old refl stays)
+      ]
