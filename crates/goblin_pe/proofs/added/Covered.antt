@@ -1,9 +1,9 @@
 -- Which positions ranges cover, and files that have the same bytes there.
-use Rattle.std.proofs.Common.{◌≡◌, ℕ, zero, suc, ◌+◌, ◌-◌, ◌<◌, ◌≤◌, ◌++◌, List, [], ◌∷◌, ◌⊎◌, length, map, drop, get_or, inl, inr, take, sym, ap, subst, ◌∙◌, add-one, arith, slice_index, slice_range, All}
+use Rattle.std.proofs.Common.{◌≡◌, ℕ, zero, suc, ◌+◌, ◌-◌, ◌<◌, ◌≤◌, List, [], ◌∷◌, length, map, drop, get_or, inl, inr, sym, ap, subst, ◌∙◌, arith, slice_index, slice_range, All}
 use Rattle.std.proofs.lemmas.List.{get_or-take, get_or-drop, get_or-map, length-map}
-use Rattle.goblin_base.specs.Footprints.{Agree, Covers, Range, slice_footprint}
+use Rattle.goblin_base.specs.Footprints.{Agree, Covers, Range}
 use Rattle.goblin_base.specs.Reading.{IsInFile}
-use Rattle.goblin_base.proofs.Footprints.{same-bytes, slice-covers}
+use Rattle.goblin_base.proofs.Footprints.{same-bytes}
 use Rattle.goblin_pe.specs.added.Keys.{HasKeptRange, kept_range}
 
 -- the positions of the range at an index

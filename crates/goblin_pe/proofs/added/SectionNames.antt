@@ -1,12 +1,12 @@
 -- What the records of sections tell without the names from the string table, and what it says of the sections.
-use Rattle.std.proofs.Common.{◌≡◌, ℕ, ◌+◌, ◌*◌, List, Bool, length, map, refl, sym, ap, subst, ◌∙◌, arith, IsSome, None, Ok, Err, Option, Result, Some, option_map}
+use Rattle.std.proofs.Common.{◌≡◌, ℕ, ◌+◌, ◌*◌, List, Bool, length, map, refl, sym, ap, subst, ◌∙◌, arith, None, Ok, Err, Option, Result, Some, option_map}
 use Rattle.std.specs.Result.{result_err}
 use Rattle.std.specs.List.{range_with_len}
 use Rattle.std.proofs.lemmas.List.FromFn.{length-map-range_with_len}
 use Rattle.std.proofs.lemmas.List.{length-map}
 use Rattle.goblin_base.specs.declared.error.ErrorOf.{ErrorOf}
 use Rattle.goblin_base.specs.Answers.{all_at}
-use Rattle.goblin_base.specs.Reading.{IsRefused, Reading, Reads}
+use Rattle.goblin_base.specs.Reading.{Reading, Reads}
 use Rattle.goblin_base.proofs.Steps as steps
 use Rattle.readings.specs.Reads.{each, mapped}
 use Rattle.goblin_pe_sect.specs.declared.options.ParseOptions.{ParseOptions}

@@ -1,5 +1,5 @@
 -- If no library is left out, both modes have the same imports.
-use Rattle.std.proofs.Common.{◌≡◌, ◌==◌, ◌⊎◌, ◌∙◌, ℕ, Bool, true, false, cond, List, [], Option, Some, None, ap, refl, sym, inl, inr, ◌∷◌, map, option_map}
+use Rattle.std.proofs.Common.{◌≡◌, ◌==◌, ◌∙◌, ℕ, Bool, true, false, cond, List, [], Option, Some, None, ap, refl, sym, ◌∷◌, map, option_map}
 use Rattle.goblin_base.specs.declared.permissive.ParseMode.TheVariants.{Strict}
 use Rattle.goblin_base.specs.Answers.{◌>>=◌}
 use Rattle.goblin_base.specs.Tables.{Format}

@@ -1,6 +1,6 @@
 -- The tables of a file as walks: permissive mode refuses no import data, and a part has what a walk over it
 -- collects.
-use Rattle.std.proofs.Common.{◌≡◌, ℕ, Bool, true, false, cond, List, Option, Some, None, IsSome, refl, subst, ap, length, not, ◌&&◌, ◌==◌, option_map, Result, Ok, Err, flat_map, inl, inr, ◌⊎◌}
+use Rattle.std.proofs.Common.{◌≡◌, ℕ, Bool, true, false, cond, List, Option, Some, None, IsSome, refl, subst, ap, not, ◌&&◌, ◌==◌, option_map, Result, Ok, Err, flat_map, inl, inr, ◌⊎◌}
 use Rattle.goblin_base.specs.declared.error.ErrorOf.{ErrorOf}
 use Rattle.goblin_base.specs.Answers.{◌>>=◌, all_of}
 use Rattle.goblin_base.specs.Reading.{IsRefused, Reading}
@@ -18,7 +18,6 @@ use Rattle.goblin_pe_import.specs.ImportRecords.{NumberedLibrary, import_slots}
 use Rattle.goblin_pe_import.specs.Imports.{NumberedImport, numbered_imports}
 use Rattle.goblin_pe_import.proofs.LibraryIndexes.{unnumbered}
 use Rattle.goblin_pe_import.proofs.PermissiveReads.{left-there, table-there}
-use Rattle.goblin_pe.specs.declared.whole.Part.{Part}
 use Rattle.goblin_pe.specs.declared.whole.Part.TheVariants.{Absent}
 use Rattle.goblin_pe.specs.declared.whole.Part.TheVariants as part
 use Rattle.goblin_pe.specs.declared.added.file_imports.FileImports.{FileImports}
