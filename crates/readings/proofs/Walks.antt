@@ -78,19 +78,6 @@ module _ {V B : Type 0} (needs_end : Bool) (is_last : V → Bool) (items : V →
       → from (Some v) ≡ until_refused (items v ++ later)
   slot-going v z = ap (going_on v) z
 
-  -- at most the last of these is a refusal
-  pub slot-once : (entry : Option V) → until_refused (from entry) ≡ from entry
-  slot-once None = ended needs_end
-    where
-      ended : (needed : Bool) → until_refused (end needed) ≡ end needed
-      ended true = refl
-      ended false = refl
-  slot-once (Some v) = once (is_last v)
-    where
-      once : (last : Bool) → until_refused (going_on v last) ≡ going_on v last
-      once true = refl
-      once false = until_refused-later [] (items v ++ later)
-
 -- ---- where a table stops, from its first slot on
 
 module _ {V : Type 0} (slots : SlotFormat V) (bytes : List ℕ) (o : ℕ)
