@@ -48,9 +48,9 @@ def tested(name):
     with contextlib.redirect_stdout(io.StringIO()) as printed:
         unittest.defaultTestLoader.loadTestsFromName(name).run(result)
     broken = result.failures + result.errors
-    said = printed.getvalue() + "".join(f"FAILED: {case}\n{trace}\n" for case, trace in broken)
-    said += f"{name}: {result.passed} passed, {len(broken)} failed, {time.time() - began:.0f} seconds"
-    return said, result.passed, len(broken), [f"skipped: {case}: {reason}" for case, reason in result.skipped]
+    output = printed.getvalue() + "".join(f"FAILED: {case}\n{trace}\n" for case, trace in broken)
+    output += f"{name}: {result.passed} passed, {len(broken)} failed, {time.time() - began:.0f} seconds"
+    return output, result.passed, len(broken), [f"skipped: {case}: {reason}" for case, reason in result.skipped]
 
 
 def main(words):
@@ -63,8 +63,8 @@ def main(words):
     skipped = []
     fork = multiprocessing.get_context("fork")
     with concurrent.futures.ProcessPoolExecutor(len(os.sched_getaffinity(0)), fork) as pool:
-        for said, went_well, went_wrong, left in pool.map(tested, names):
-            print(said, flush=True)
+        for output, went_well, went_wrong, left in pool.map(tested, names):
+            print(output, flush=True)
             passed, failed, skipped = passed + went_well, failed + went_wrong, skipped + left
     if not may_lack:
         failed += sum(it.startswith("skipped: setUpModule ") for it in skipped)

@@ -14,17 +14,17 @@ BINDINGS = TOP / "bindings"
 @functools.cache
 def built_library():
     """Builds the library over the proved crates. Returns its folder, the status and the messages."""
-    status, _, said = run([BINDINGS / "build", shared_folder() / "bindings"])
-    return shared_folder() / "bindings", status, said
+    status, _, errors = run([BINDINGS / "build", shared_folder() / "bindings"])
+    return shared_folder() / "bindings", status, errors
 
 
 def library():
     """The folder with the library. GOBLIN_PE_LIB names it; otherwise it is built over the proved crates."""
     if "GOBLIN_PE_LIB" in os.environ:
         return pathlib.Path(os.environ["GOBLIN_PE_LIB"]).resolve()
-    made, status, said = built_library()
+    made, status, errors = built_library()
     if status:
-        raise AssertionError(f"bindings/build: {said.decode()}")
+        raise AssertionError(f"bindings/build: {errors.decode()}")
     return made
 
 

@@ -50,9 +50,9 @@ def run(command, stdin=os.devnull, **how):
 
 def succeed(command, **how):
     """Runs a command that must succeed. Returns its output."""
-    status, out, said = run(command, **how)
+    status, out, errors = run(command, **how)
     if status:
-        raise AssertionError(f"{command}: status {status}\n{(out + said).decode(errors='replace')}")
+        raise AssertionError(f"{command}: status {status}\n{(out + errors).decode(errors='replace')}")
     return out.decode()
 
 
@@ -95,14 +95,14 @@ def built(program):
     folder = program.parent.parent
     if is_current(folder.name, program):
         return 0, b""
-    status, _, said = run(["rt", "run", "--", *(folder / "args").read_text().split()], folder / "stdin", cwd=folder)
-    return status, said
+    status, _, errors = run(["rt", "run", "--", *(folder / "args").read_text().split()], folder / "stdin", cwd=folder)
+    return status, errors
 
 
 def build(program):
-    status, said = built(program)
+    status, errors = built(program)
     if status:
-        raise AssertionError(f"{program.name}: {said.decode()}")
+        raise AssertionError(f"{program.name}: {errors.decode()}")
 
 
 def build_pe_replay():
@@ -177,11 +177,11 @@ class Case(unittest.TestCase):
         while True:
             with tempfile.TemporaryFile() as report:
                 preload = {"LD_PRELOAD": str(preloaded("refuse_growth")), "REFUSED": str(len(written) + 1), "REPORT": str(report.fileno())}
-                status, out, said = run(command, stdin, env={**os.environ, **preload}, pass_fds=[report.fileno()])
+                status, out, errors = run(command, stdin, env={**os.environ, **preload}, pass_fds=[report.fileno()])
                 was_refused = os.fstat(report.fileno()).st_size
             if not was_refused:
-                self.assertEqual((status, out, said), (0, answer, b""), "no growth refused")
+                self.assertEqual((status, out, errors), (0, answer, b""), "no growth refused")
                 self.assertTrue(written, "it takes no memory")
                 return written
             written.append(out)
-            self.assertEqual((status, said), (1, b"out of memory\n"), f"growth {len(written)} refused")
+            self.assertEqual((status, errors), (1, b"out of memory\n"), f"growth {len(written)} refused")

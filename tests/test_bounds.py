@@ -34,9 +34,9 @@ class Bounds(Case):
         self.assertEqual(source.count(old), 1)
         index.write_text(source.replace(old, new), "utf-8")
         build = [top / "tools/over_libraries", "build", "goblin_pe_sect", "--jobs", "1", "-o", self.folder / "made"]
-        _, _, said = run(build, cwd=index.parent.parent)
+        _, _, errors = run(build, cwd=index.parent.parent)
         shutil.rmtree(top)
-        return said.decode()
+        return errors.decode()
 
     def test_no_other_module_reads_where_a_piece_begins(self):
         for old, new, reason in (

@@ -61,9 +61,9 @@ class C(Case):
             for index, data in enumerate(hostile.files(1)):
                 with self.subTest(example=name, index=index):
                     file.write_bytes(data)
-                    status, out, said = run([made, *words], os.devnull if words else file, env=env)
-                    self.assertIn(status, (0, 1, 2), said)
-                    self.assertRegex(out + said, rb"\A[ -~\n]*\Z")
+                    status, out, errors = run([made, *words], os.devnull if words else file, env=env)
+                    self.assertIn(status, (0, 1, 2), errors)
+                    self.assertRegex(out + errors, rb"\A[ -~\n]*\Z")
 
     def test_a_null_pointer_where_there_is_room_is_written_to(self):
         """The call stops the program before it writes there."""
@@ -146,9 +146,9 @@ int main(int argc, char **argv)
 
     def test_the_shared_library_exports_the_names_of_the_header(self):
         need("nm")
-        said = succeed(["nm", "-D", "--defined-only", library() / "libgoblin_pe.so"])
+        listed = succeed(["nm", "-D", "--defined-only", library() / "libgoblin_pe.so"])
         declared = re.findall(r"\b(goblin_pe_[a-z0-9_]+)\(", (BINDINGS / "c/goblin_pe.h").read_text("utf-8"))
-        self.assertEqual({it.split()[-1] for it in said.splitlines()}, set(declared))
+        self.assertEqual({it.split()[-1] for it in listed.splitlines()}, set(declared))
 
 
 class Installed(Case):

@@ -180,8 +180,8 @@ class Agreement(Case):
         """Four answers of each read for each change: for the sample file, for the file with other bytes at some places, and for
         these two in the other order."""
         masks = (bytes(0xFF * (place in places) for place in range(SAMPLE_LEN)) for places in changes)
-        status, out, said = run([PE_REPLAY, "twins", str(offset)], b"".join(masks))
-        self.assertEqual((status, said), (0, b""))
+        status, out, errors = run([PE_REPLAY, "twins", str(offset)], b"".join(masks))
+        self.assertEqual((status, errors), (0, b""))
         read = {}
         for line in out.splitlines():
             word, _, answer = line.partition(b": ")

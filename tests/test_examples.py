@@ -65,9 +65,9 @@ class Loader(Case):
 
     def assert_resolves(self, imports, status, wanted, *others):
         image = self.written("image.exe", images.importer(imports, relocated=3))
-        found, out, said = run([built("loader"), image, self.library, *others])
+        found, out, errors = run([built("loader"), image, self.library, *others])
         printed = out.decode().splitlines()
-        self.assertEqual((found, said, printed[printed.index("3 base relocations") + 1:]), (status, b"", wanted))
+        self.assertEqual((found, errors, printed[printed.index("3 base relocations") + 1:]), (status, b"", wanted))
 
     def test_imports_by_name_and_by_ordinal(self):
         self.assert_resolves([(b"FRUIT.DLL", [b"Elder", 10, 11]), (b"fruit", [b"Apple"])], 0, [
@@ -364,9 +364,9 @@ int main(void)
         env = environment(GOBLIN_PE_SO=str(library() / "libgoblin_pe.so"), PYTHONPATH=str(BINDINGS / "python"), PYTHONDONTWRITEBYTECODE="1")
         for index, data in enumerate([BY_NAME.read_bytes(), *hostile.files(1)]):
             self.written("some.dll", data)
-            status, out, said = run([sys.executable, "-c", self.program("python")], env=env, cwd=self.folder)
+            status, out, errors = run([sys.executable, "-c", self.program("python")], env=env, cwd=self.folder)
             with self.subTest(index=index):
-                self.assertEqual((status, said), (0, b""))
+                self.assertEqual((status, errors), (0, b""))
                 if not index:
                     self.assertRegex(out, rb"\AKERNEL32.dll GetTickCount\n[0-9a-f]{64}\n\Z")
 
@@ -413,20 +413,20 @@ class Ends(Case):
 
         def ended(command):
             for _ in range(4):
-                status, out, said = run(["sh", "-c", '"$@"; it=$?; times >&2; exit $it', "sh", *command], file, env=env)
-                *said, _, times = said.splitlines()
+                status, out, errors = run(["sh", "-c", '"$@"; it=$?; times >&2; exit $it', "sh", *command], file, env=env)
+                *errors, _, times = errors.splitlines()
                 seconds = sum(60 * int(minutes) + float(rest) for minutes, rest in re.findall(rb"(\d+)m([\d.]+)s", times))
                 if seconds < 1:
                     break
-            return status, out, b"".join(said), seconds
+            return status, out, b"".join(errors), seconds
 
         with concurrent.futures.ThreadPoolExecutor(os.cpu_count()) as pool:
             for index, data in enumerate(files):
                 file.write_bytes(data)
-                for command, (status, out, said, seconds) in zip(commands, pool.map(ended, commands)):
+                for command, (status, out, errors, seconds) in zip(commands, pool.map(ended, commands)):
                     with self.subTest(index=index, command=os.path.basename(command[1] if command[0] == sys.executable else command[0])):
-                        self.assertIn(status, (0, 1, 2), said)
-                        self.assertNotIn(b"Traceback", said)
+                        self.assertIn(status, (0, 1, 2), errors)
+                        self.assertNotIn(b"Traceback", errors)
                         self.assertRegex(out, rb"\A[ -~\n]*\Z")
                         self.assertLess(len(out), 10 << 20)
                         self.assertLess(seconds, 1)

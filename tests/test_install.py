@@ -89,8 +89,8 @@ class Crate(Case):
         return run([*CARGO, "build", "--example", "imports", "--manifest-path", self.manifest, "--target-dir", self.folder], env=environment(**more))
 
     def assert_lists_by(self, **more):
-        status, _, said = self.build(**more)
-        self.assertEqual(status, 0, said)
+        status, _, errors = self.build(**more)
+        self.assertEqual(status, 0, errors)
         self.assert_runs([self.folder / "debug/examples/imports", BY_NAME], IMPORTS)
 
     def test_by_pkg_config(self):
@@ -107,9 +107,9 @@ class Crate(Case):
         env = environment(PKG_CONFIG_LIBDIR=str(self.other), CARGO_TARGET_DIR=str(self.folder))
         for words in (["check", "--all-targets"], ["doc", "--no-deps"]):
             succeed([*CARGO, *words, "--manifest-path", self.manifest], env=env)
-        status, _, said = run(["cargo", *CARGO[2:], "build", "--manifest-path", self.manifest], env=env)
+        status, _, errors = run(["cargo", *CARGO[2:], "build", "--manifest-path", self.manifest], env=env)
         self.assertNotEqual(status, 0)
-        self.assertIn(b"run bindings/build", said)
+        self.assertIn(b"run bindings/build", errors)
         # (It is built as soon as there is one.)
         (self.folder / "lib").mkdir()
         shutil.copy(library() / "libgoblin_pe.a", self.folder / "lib")
@@ -150,9 +150,9 @@ class Crate(Case):
         source = self.written("other.c", b"".join(b"int %s(void) { return -1; }\n" % name.encode() for name in names))
         succeed([*CC, "-c", "-o", self.folder / "other.o", source])
         succeed(["ar", "r", self.other / "libgoblin_pe.a", self.folder / "other.o"])
-        status, _, said = self.build(GOBLIN_PE_LIB=str(self.other))
+        status, _, errors = self.build(GOBLIN_PE_LIB=str(self.other))
         self.assertNotEqual(status, 0)
-        self.assertRegex(said, b"undefined (reference|symbol).*goblin_pe_interface_")
+        self.assertRegex(errors, b"undefined (reference|symbol).*goblin_pe_interface_")
 
 
 @functools.cache
@@ -219,6 +219,6 @@ class Package(Case):
 
     def test_without_a_library(self):
         (self.folder / "lib/libgoblin_pe.so").unlink()
-        status, _, said = run([python(), "-m", "pip", "wheel", "-q", "--no-index", "-w", self.folder, self.package], env=environment())
+        status, _, errors = run([python(), "-m", "pip", "wheel", "-q", "--no-index", "-w", self.folder, self.package], env=environment())
         self.assertNotEqual(status, 0)
-        self.assertIn(b"run bindings/build first", said)
+        self.assertIn(b"run bindings/build first", errors)

@@ -52,8 +52,8 @@ class Changed(Case):
     def program(self, bindings, *linked):
         """Compiles a program over a header. Returns the status and the messages of the compiler."""
         source = self.written("program.c", PROGRAM)
-        status, _, said = run([*CC, "-std=c99", *FLAGS, "-I", bindings / "c", "-o", self.folder / "program", source, *linked])
-        return status, said.decode()
+        status, _, errors = run([*CC, "-std=c99", *FLAGS, "-I", bindings / "c", "-o", self.folder / "program", source, *linked])
+        return status, errors.decode()
 
     def stub(self, name, interface):
         """Makes a shared library of this name, and an archive, with the calls of our header and this interface."""
@@ -72,9 +72,9 @@ class Changed(Case):
         shutil.copy(BINDINGS / "build", bindings)
         (self.folder / "bin").mkdir()
         self.written("bin/rt", b"#!/bin/sh\necho /\n").chmod(0o755)
-        status, _, said = run([bindings / "build", self.folder / "lib"], env=environment(PATH=f"{self.folder}/bin:{os.environ['PATH']}"))
+        status, _, errors = run([bindings / "build", self.folder / "lib"], env=environment(PATH=f"{self.folder}/bin:{os.environ['PATH']}"))
         self.assertEqual((status, (self.folder / "lib").exists()), (1, False))
-        self.assertIn(b"run bindings/generate.py", said)
+        self.assertIn(b"run bindings/generate.py", errors)
 
     def test_a_comment_on_a_field_is_no_part_of_the_interface(self):
         bindings = self.changed(r"(pub struct PeDamage \{\n)    /// ", r"\1    /// Otherwise: ")
@@ -95,18 +95,18 @@ class Changed(Case):
         self.assertNotEqual(theirs, ours)
         # A program over the other header can't be linked with our libraries.
         for linked in ([library() / "libgoblin_pe.a"], ["-L", library(), "-lgoblin_pe"]):
-            status, said = self.program(bindings, *linked)
+            status, errors = self.program(bindings, *linked)
             self.assertNotEqual(status, 0)
-            self.assertIn("goblin_pe_interface_" + theirs[0], said)
+            self.assertIn("goblin_pe_interface_" + theirs[0], errors)
         # A program over ours does not find the other library, and refuses it under our name.
-        status, said = self.program(BINDINGS, "-L", library(), "-lgoblin_pe")
-        self.assertEqual((status, said), (0, ""))
+        status, errors = self.program(BINDINGS, "-L", library(), "-lgoblin_pe")
+        self.assertEqual((status, errors), (0, ""))
         self.assertEqual(run([self.folder / "program"], env=environment(LD_LIBRARY_PATH=str(library())))[0], 0)
         self.stub("libgoblin_pe.so." + theirs[1], theirs[0])
         for reason in (f"libgoblin_pe.so.{ours[1]}: cannot open", f"undefined symbol: goblin_pe_interface_{ours[0]}"):
-            status, _, said = run([self.folder / "program"], env=environment(LD_LIBRARY_PATH=str(other)))
+            status, _, errors = run([self.folder / "program"], env=environment(LD_LIBRARY_PATH=str(other)))
             self.assertNotEqual(status, 0)
-            self.assertIn(reason, said.decode())
+            self.assertIn(reason, errors.decode())
             shutil.copy(other / ("libgoblin_pe.so." + theirs[1]), other / ("libgoblin_pe.so." + ours[1]))
 
     def test_the_crate(self):
@@ -124,9 +124,9 @@ class Changed(Case):
                 shutil.copytree(bindings / "rust/examples", crate / "examples")
             with self.subTest(crate=crate.name):
                 env = environment(GOBLIN_PE_LIB=str(its), LD_LIBRARY_PATH=str(its), CARGO_TARGET_DIR=str(self.folder / "target" / crate.name))
-                status, _, said = run(["cargo", "-q", "--offline", "run", "--example", "list", "--manifest-path", crate / "Cargo.toml"], env=env)
+                status, _, errors = run(["cargo", "-q", "--offline", "run", "--example", "list", "--manifest-path", crate / "Cargo.toml"], env=env)
                 self.assertNotEqual(status, 0)
-                self.assertIn(b"goblin_pe_interface_" + number.encode(), said)
+                self.assertIn(b"goblin_pe_interface_" + number.encode(), errors)
 
     def test_the_package_for_python(self):
         bindings = self.with_a_field()
@@ -134,6 +134,6 @@ class Changed(Case):
         for package, its in ((bindings, library() / "libgoblin_pe.so"), (BINDINGS, other)):
             with self.subTest(package=package.parent.name):
                 env = environment(PYTHONPATH=str(package / "python"), GOBLIN_PE_SO=str(its))
-                status, _, said = run([sys.executable, "-B", "-m", "goblin_pe", BY_NAME], env=env, cwd=self.folder)
+                status, _, errors = run([sys.executable, "-B", "-m", "goblin_pe", BY_NAME], env=env, cwd=self.folder)
                 self.assertNotEqual(status, 0)
-                self.assertRegex(said, rb"ImportError: .*another interface")
+                self.assertRegex(errors, rb"ImportError: .*another interface")

@@ -203,8 +203,8 @@ class Limits(unittest.TestCase):
         env = {**os.environ, "GOBLIN_PE_LIB": str(library()), "PYTHONPATH": str(TOP)}
         for name, (_, _, most, *wanted) in ROWS.items():
             with self.subTest(name):
-                status, out, said = run(with_memory(ROOM, [sys.executable, "-m", "tests.test_limits", name]), env=env)
-                self.assertEqual(status, 0, said.decode(errors="replace"))
+                status, out, errors = run(with_memory(ROOM, [sys.executable, "-m", "tests.test_limits", name]), env=env)
+                self.assertEqual(status, 0, errors.decode(errors="replace"))
                 milliseconds, *found = map(int, out.split())
                 self.assertEqual(found, wanted)
                 self.assertLessEqual(milliseconds, most)

@@ -106,9 +106,9 @@ class Packages(Case):
             with self.subTest(place):
                 text = (at / place).read_text("utf-8")
                 command, = re.findall("(?m)^sed -n .*$", text)
-                said = succeed(["sh", "-c", command], cwd=at).splitlines()
+                checked = succeed(["sh", "-c", command], cwd=at).splitlines()
                 files = {str(it.relative_to(at)) for it in at.rglob("*") if it.is_file() and not it.is_symlink()}
-                self.assertEqual({it.removesuffix(": OK") for it in said}, {it for it in files if it != place and not it.endswith("/RECORD")})
+                self.assertEqual({it.removesuffix(": OK") for it in checked}, {it for it in files if it != place and not it.endswith("/RECORD")})
 
     def test_each_has_a_text_and_examples(self):
         unpacked = self.unpacked()
@@ -185,8 +185,8 @@ class Packages(Case):
                          f"libgoblin_pe {shared.name.partition('.so.')[2]} goblin-pe (= {version})\n")
         self.assertEqual((self.folder / "control/triggers").read_text("ascii"), "activate-noawait ldconfig\n")
         need("lintian")
-        status, out, said = run(["lintian", "--allow-root", "--fail-on", "error,warning", package(".deb")], env=environment(LC_ALL="C"))
-        self.assertEqual((status, out), (0, b""), said)
+        status, out, errors = run(["lintian", "--allow-root", "--fail-on", "error,warning", package(".deb")], env=environment(LC_ALL="C"))
+        self.assertEqual((status, out), (0, b""), errors)
 
 
 RT = """#!/bin/sh
@@ -337,6 +337,6 @@ class Releases(Case):
             (tools / it).symlink_to(shutil.which(it))
         (tools / "python3").symlink_to(sys.executable)
         for it in ("package", "build"):
-            status, _, said = run([BINDINGS / it, self.out], env=environment(PATH=str(tools)))
+            status, _, errors = run([BINDINGS / it, self.out], env=environment(PATH=str(tools)))
             self.assertEqual((status, self.out.exists()), (1, False))
-            self.assertIn("%s: there is no rt on the path: README.md says what is needed, under 'Get it'" % it, said.decode().splitlines())
+            self.assertIn("%s: there is no rt on the path: README.md says what is needed, under 'Get it'" % it, errors.decode().splitlines())

@@ -128,11 +128,11 @@ class Listings(Case):
         for length in range(len(whole)):
             for words in BOTH_MODES:
                 with self.subTest(length=length, words=words):
-                    status, out, said = run([PE_LIST, *words], whole[:length])
+                    status, out, errors = run([PE_LIST, *words], whole[:length])
                     if length < end or status == 1 and not words:
-                        self.assertEqual((status, out, said), REFUSED)
+                        self.assertEqual((status, out, errors), REFUSED)
                     else:
-                        self.assertEqual((status, out.splitlines()[:1 + sections], said), (0, front, b""))
+                        self.assertEqual((status, out.splitlines()[:1 + sections], errors), (0, front, b""))
 
     def test_a_wrong_use_is_found_before_anything_is_read(self):
         for name, words in (("an unknown word", ["x"]),
@@ -193,18 +193,18 @@ class Memory(Case):
 
     def test_no_room_is_made_for_pointers_that_lead_nowhere(self):
         image = images.pointers_to_nowhere(4000000)
-        status, out, said = run(with_memory(200000, [PE_LIST]), image)
-        self.assertEqual((status, said), (0, b""))
+        status, out, errors = run(with_memory(200000, [PE_LIST]), image)
+        self.assertEqual((status, errors), (0, b""))
         self.assertIn(b"exports 1\n", out)
 
     def test_many_imports(self):
         self.assert_counts(images.shared_image(libraries=1000, functions=1100), {"import": 1100000})
 
     def assert_counts(self, image, wanted, lines=None):
-        status, out, said = run([PE_LIST], image)
+        status, out, errors = run([PE_LIST], image)
         listed = out.splitlines()
         found = collections.Counter(line.split(b" ", 1)[0].decode() for line in listed)
-        self.assertEqual((status, said, {word: found[word] for word in wanted}), (0, b"", wanted))
+        self.assertEqual((status, errors, {word: found[word] for word in wanted}), (0, b"", wanted))
         self.assertIn(lines, (None, len(listed)))
 
 

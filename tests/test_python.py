@@ -69,9 +69,9 @@ class Python(Case):
         for index, data in enumerate([(BY_NAME.read_bytes(), (SAMPLES / "object_x64.obj").read_bytes()), *files]):
             self.written("some.dll", data[0])
             self.written("some.obj", data[1])
-            status, out, said = run([sys.executable, "-c", program], env=self.env, cwd=self.folder)
+            status, out, errors = run([sys.executable, "-c", program], env=self.env, cwd=self.folder)
             with self.subTest(index=index):
-                self.assertEqual((status, said), (0, b""))
+                self.assertEqual((status, errors), (0, b""))
                 if not index:
                     self.assertEqual(out.decode(), wanted)
 
@@ -88,9 +88,9 @@ class Python(Case):
 
     def test_json_is_a_line_for_each_file(self):
         for index, data in enumerate(hostile.files(1)):
-            status, out, said = self.lists("--json", "--permissive", "--steps", "10000", "--longest-name", "512", self.written("some.dll", data))
+            status, out, errors = self.lists("--json", "--permissive", "--steps", "10000", "--longest-name", "512", self.written("some.dll", data))
             with self.subTest(index=index):
-                self.assertEqual((status in (0, 1), out.count(b"\n"), said), (True, 1, b""))
+                self.assertEqual((status in (0, 1), out.count(b"\n"), errors), (True, 1, b""))
                 self.assertEqual({*json.loads(out)} >= {"file", "refusal"}, True)
 
     def test_json_has_all_that_the_walks_give(self):
@@ -110,9 +110,9 @@ class Python(Case):
 
     def test_json_says_where_it_stopped(self):
         many = self.written("many.dll", bytes(images.shared_image(30, 100)))
-        status, out, said = self.lists("--json", "--steps", "500", many, BY_NAME)
+        status, out, errors = self.lists("--json", "--steps", "500", many, BY_NAME)
         first, second = map(json.loads, out.splitlines())
-        self.assertEqual((status, said, second["ended_early"]), (1, b"", {}))
+        self.assertEqual((status, errors, second["ended_early"]), (1, b"", {}))
         self.assertEqual(first["ended_early"]["imports"], "imports: no steps are left")
         self.assertTrue(0 < len(first["imports"]) <= 500)
         # (a table that is refused ends no other)
@@ -125,11 +125,11 @@ class Python(Case):
         self.assertEqual([len(it["name"]) for it in json.loads(self.lists("--json", long)[1])["sections"]], [4097] * 3)
 
     def test_several_files_are_listed_below_their_names(self):
-        status, out, said = self.lists(BY_NAME, self.folder / "none.dll", BY_NAME)
+        status, out, errors = self.lists(BY_NAME, self.folder / "none.dll", BY_NAME)
         listing = self.lists(BY_NAME)[1]
         name = f"file {BY_NAME}\n".encode()
         self.assertEqual((status, out), (1, name + listing + f"file {self.folder}/none.dll\n".encode() + name + listing))
-        self.assertRegex(said, rb"\Aread failed: .*none.dll'\n\Z")
+        self.assertRegex(errors, rb"\Aread failed: .*none.dll'\n\Z")
 
     def test_the_program_is_written_by_what_the_package_offers(self):
         program = (BINDINGS / "python/goblin_pe/__main__.py").read_text("utf-8")
@@ -166,9 +166,9 @@ class Python(Case):
             file.truncate(1 << 32)
         words = with_memory(1000000, [sys.executable, "-m", "goblin_pe"])
         self.assertEqual(run([*words, self.folder / "large.dll"], env=self.env), (1, b"", b"read failed: out of memory\n"))
-        status, out, said = run([*words, "--json", self.folder / "large.dll", BY_NAME], env=self.env)
+        status, out, errors = run([*words, "--json", self.folder / "large.dll", BY_NAME], env=self.env)
         first, second = map(json.loads, out.splitlines())
-        self.assertEqual((status, said, first), (1, b"", {"file": str(self.folder / "large.dll"), "refusal": {"text": "out of memory"}}))
+        self.assertEqual((status, errors, first), (1, b"", {"file": str(self.folder / "large.dll"), "refusal": {"text": "out of memory"}}))
         self.assertEqual((second["file"], len(second["imports"])), (str(BY_NAME), 1))
 
     def test_a_terminal_shows_how_far_it_is(self):

@@ -161,8 +161,8 @@ class Rust(Case):
         functions = "".join("fn example_%d() -> Result<(), Box<dyn std::error::Error>> {\n%s\nOk(())\n}\n" % row for row in enumerate(examples.values()))
         table = "".join("(%s, example_%d)," % (json.dumps(name), index) for index, name in enumerate(examples))
         files = [self.written(f"{index}.bin", data) for index, data in enumerate(hostile.files(3))]
-        said = subprocess.run([self.user("hostile", HOSTILE % (functions, table)), *files], stdout=subprocess.DEVNULL, stderr=subprocess.PIPE, check=False)
-        self.assertEqual((said.returncode, re.findall(rb"(?m)^.* panics on .*$", said.stderr)), (0, []), said.stderr[-2000:])
+        ran = subprocess.run([self.user("hostile", HOSTILE % (functions, table)), *files], stdout=subprocess.DEVNULL, stderr=subprocess.PIPE, check=False)
+        self.assertEqual((ran.returncode, re.findall(rb"(?m)^.* panics on .*$", ran.stderr)), (0, []), ran.stderr[-2000:])
 
     def test_examples_end_on_each_hostile_file_in_a_second(self):
         """And write less than ten megabytes."""
@@ -173,10 +173,10 @@ class Rust(Case):
                                  ("export", self.folder, "some.dll", "Apple"), ("export", self.folder, "some.dll", "#1")):
                 with self.subTest(example=name, index=index):
                     began = os.times()
-                    status, out, said = run([folder() / f"rust/release/examples/{name}", *words])
+                    status, out, errors = run([folder() / f"rust/release/examples/{name}", *words])
                     ended = os.times()
-                    self.assertIn(status, (0, 1), said)
-                    self.assertTrue((out + said).decode().replace("\n", "").isprintable(), out[:1000] + said)
+                    self.assertIn(status, (0, 1), errors)
+                    self.assertTrue((out + errors).decode().replace("\n", "").isprintable(), out[:1000] + errors)
                     self.assertLess(len(out), 10 << 20)
                     self.assertLess(ended.children_user - began.children_user + ended.children_system - began.children_system, 1)
 

@@ -36,9 +36,9 @@ class Copy(Case):
     def called(self):
         """The calls of the toolchain since the last question."""
         file = self.folder / "called"
-        said = file.read_text("utf-8").splitlines() if file.exists() else []
+        calls = file.read_text("utf-8").splitlines() if file.exists() else []
         file.unlink(missing_ok=True)
-        return said
+        return calls
 
 
 class Lists(Copy):
@@ -46,9 +46,9 @@ class Lists(Copy):
     def setUpClass(cls):
         build_pe_list()
 
-    def assert_calls(self, status, out, said, *words, stdin=SAMPLE, **more):
+    def assert_calls(self, status, out, errors, *words, stdin=SAMPLE, **more):
         """The script ends with this status, output and standard error, and leaves no temporary file."""
-        self.assert_runs([self.folder / "pe_list", *words], (status, out, said.encode()), stdin, env={**self.env, **more})
+        self.assert_runs([self.folder / "pe_list", *words], (status, out, errors.encode()), stdin, env={**self.env, **more})
         self.assertEqual(os.listdir(self.folder / "temporary"), [])
 
     def test_the_built_program(self):
@@ -59,9 +59,9 @@ class Lists(Copy):
         self.assertEqual(self.called(), ["try --"])
 
     def test_it_proves_where_that_is_asked_for(self):
-        for words, said in ((["--prove"], ["run"]), (["--prove"], [])):
+        for words, wanted in ((["--prove"], ["run"]), (["--prove"], [])):
             self.assert_calls(0, b"", "", *words)
-            self.assertEqual(self.called(), said)
+            self.assertEqual(self.called(), wanted)
         self.assert_calls(0, LISTING, "")
         self.assertEqual(self.called(), [])
 
@@ -89,8 +89,8 @@ class Lists(Copy):
         for it in ("sh", "env", "dirname"):
             (self.folder / "bin" / it).symlink_to(shutil.which(it))
         (self.folder / "bin/python3").symlink_to(sys.executable)
-        said = "pe_list: there is no rt on the path: README.md says what is needed, under 'Get it'\n"
-        self.assert_calls(1, b"", said, PATH=f"{self.folder}/bin")
+        errors = "pe_list: there is no rt on the path: README.md says what is needed, under 'Get it'\n"
+        self.assert_calls(1, b"", errors, PATH=f"{self.folder}/bin")
 
 
 class Gate(Copy):
@@ -105,8 +105,8 @@ class Gate(Copy):
             self.written("crates/pe_list/out/" + it, b"forged")
 
     def gate(self, *words, **more):
-        status, out, said = run([self.folder / "test", *words], env={**self.env, **more})
-        return status, (out + said).decode().splitlines()[-1], self.called()
+        status, out, errors = run([self.folder / "test", *words], env={**self.env, **more})
+        return status, (out + errors).decode().splitlines()[-1], self.called()
 
     def test_what_was_built_before_is_removed(self):
         """Kept proofs stay, because the gate sets them aside."""
