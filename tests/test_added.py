@@ -23,7 +23,7 @@ def code(file):
 
 class Added(unittest.TestCase):
     def test_what_goblin_has_names_nothing_that_is_added(self):
-        for file in [it for part in ("src", "specs", "proofs") for it in files(part, GOBLIN, False)]:
+        for file in [it for part in ("src", "specs", "proofs") for it in files(part, (*GOBLIN, "pe_listing", "pe_list"), False)]:
             with self.subTest(file.relative_to(CRATES)):
                 self.assertNotRegex(code(file), NAMED)
 

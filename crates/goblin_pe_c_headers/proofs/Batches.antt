@@ -64,7 +64,7 @@ module _ {R A B : Type 0} (view : R → B) (value_of : A → B) (old : List R) w
 
 -- ---- the end
 
--- without room it is not told
+-- without room a batch does not say that the walk is over
 pub done-at_room : {A IsCut : Type 0} {rest : List (Option A)} (room count : ℕ) (is_done : Bool) → (is_done ≡ true → rest ≡ [])
     → (is_done ≡ false → (room ≤ count) ⊎ IsCut ⊎ IsRefusedNext rest) → TellsEnd IsCut rest room count (is_done && not (room == 0))
 done-at_room room count true ended goes_on = record {

@@ -19,11 +19,11 @@ object_rows image x whole read is =
     let header = step (record_at 20 (coff_header Little) image.bytes.now 0) _ x read in
     let sections = mapped ((object_sections strict header.value).value image.bytes.now) _ x header.then in
     subst (λ (y : ObjectFile). image ≡ object_image image.options y.header image → RowsHold image y.sections) sections.made
-    (λ said.
-    let kind = ap (λ (i : PeImage). i.kind) said in
-    let coff = ap (λ (i : PeImage). i.coff_header) said in
-    let table = ap (λ (i : PeImage). i.section_table) said in
-    let count = ap (λ (i : PeImage). i.section_count) said in
+    (λ filled.
+    let kind = ap (λ (i : PeImage). i.kind) filled in
+    let coff = ap (λ (i : PeImage). i.coff_header) filled in
+    let table = ap (λ (i : PeImage). i.section_table) filled in
+    let count = ap (λ (i : PeImage). i.section_count) filled in
     subst (RowsHold image) (unmoved sections.value)
     (rows_hold image sections.value None whole (rw kind refl) (rw (coff, table, count) sections.is)))
     is

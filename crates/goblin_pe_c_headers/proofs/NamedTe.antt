@@ -30,12 +30,12 @@ te_rows image x whole strict read is =
     let own = mapped (all_at read_all n) (map move) s2.value (sym moved_all ∙ s.then) in
     subst (λ (y : TeImage). image ≡ te_record_of image.options y.header image → RowsHold image y.sections) all.made
     (subst (λ (both : TeHeader × List Section). image ≡ te_record_of image.options both.0 image → RowsHold image both.1) s2.made
-    (λ said.
-    let kind = ap (λ (i : PeImage). i.kind) said in
-    let moved = ap (λ (i : PeImage). i.moved_by) said in
-    let coff = ap (λ (i : PeImage). i.coff_header) said in
-    let table = ap (λ (i : PeImage). i.section_table) said in
-    let count = ap (λ (i : PeImage). i.section_count) said in
+    (λ filled.
+    let kind = ap (λ (i : PeImage). i.kind) filled in
+    let moved = ap (λ (i : PeImage). i.moved_by) filled in
+    let coff = ap (λ (i : PeImage). i.coff_header) filled in
+    let table = ap (λ (i : PeImage). i.section_table) filled in
+    let count = ap (λ (i : PeImage). i.section_count) filled in
     subst (RowsHold image) own.made
     (rows_hold image own.value (Some s.value) whole (rw (kind, moved) (ap (λ (d : ℕ). Some d) (cond_some _ _ s.value s.is).1)) (rw (strict, coff, table, count) own.is))))
     is

@@ -59,15 +59,15 @@ pub record Output : Type 0 where
   pub out : List ℕ
   pub written : ℕ
 
--- A call has made this change to the bytes and told its size; or there is no such change, the cause
+-- A call has made this change to the bytes and given its size; or there is no such change, the cause
 -- is true, and everything is unchanged.
 abbrev pub WritesOut : Option (List ℕ) → (ℕ → Type 0) → (ErrorOf → Type 0) → Output → Output
     → Result Unit ErrorOf → Type 0
 WritesOut change IsSize IsCause old new (Ok x) = (change ≡ Some new.out) × IsSize new.written
 WritesOut change IsSize IsCause old new (Err e) = (change ≡ None) × IsCause e × (new ≡ old)
 
--- A call has written the header that records say to the front of bytes, and told how many it takes;
--- without any room it told that alone.
+-- A call has written the header that records say to the front of bytes, and given its size; without
+-- any room it gave the size alone.
 abbrev pub WritesHeader : PeImage → Output → Output → Result Unit ErrorOf → Type 0
 WritesHeader image old new =
     let stub = (image_stub image).value image.bytes.now in

@@ -20,11 +20,11 @@ image_rows image l whole read is =
     let header = step ((pe_header strict).value image.bytes.now) _ l read in
     let sections = mapped ((sections_after strict header.value).value image.bytes.now) _ l header.then in
     subst (λ (y : PeHeader × List Section). image ≡ image_of image.options y.0 image → RowsHold image y.1) sections.made
-    (λ said.
-    let kind = ap (λ (i : PeImage). i.kind) said in
-    let coff = ap (λ (i : PeImage). i.coff_header) said in
-    let table = ap (λ (i : PeImage). i.section_table) said in
-    let count = ap (λ (i : PeImage). i.section_count) said in
+    (λ filled.
+    let kind = ap (λ (i : PeImage). i.kind) filled in
+    let coff = ap (λ (i : PeImage). i.coff_header) filled in
+    let table = ap (λ (i : PeImage). i.section_table) filled in
+    let count = ap (λ (i : PeImage). i.section_count) filled in
     subst (RowsHold image) (unmoved sections.value)
     (rows_hold image sections.value None whole (rw kind refl) (rw (coff, table, count) sections.is)))
     is

@@ -81,8 +81,8 @@ led-by bytes (Some placed) (Ok h) (Ok records) at header read =
     let table = table_after placed in
     let there : (whole_sections placed.1.number_of_sections table).value bytes ≡ Some (recorded_sections records) = sym (rw at refl) ∙ read in
     let count = length-there bytes (min placed.1.number_of_sections ((length bytes - table) / 40)) table (recorded_sections records) there in
-    let said = ap (λ (h : CoffHeader). h.number_of_sections) own in
-    let all : min h.number_of_sections (length (recorded_sections records)) ≡ min placed.1.number_of_sections ((length bytes - table) / 40) = omega (arith, said, count) in
+    let own_count = ap (λ (h : CoffHeader). h.number_of_sections) own in
+    let all : min h.number_of_sections (length (recorded_sections records)) ≡ min placed.1.number_of_sections ((length bytes - table) / 40) = omega (arith, own_count, count) in
     rw all there
 
 pub given_led : (bytes : List ℕ) (parts : HeaderParts) → ArePartsOf bytes parts

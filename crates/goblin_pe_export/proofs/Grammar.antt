@@ -50,9 +50,9 @@ pub nothing-after : (text : List ℕ) → position_or_len is_dot text ≡ length
 nothing-after text h = drop_all (position_or_len is_dot text + 1) text (omega (arith, h))
 
 -- a text that is whole names what it says
-pub not_longer : (is_longer : Bool) (text : List ℕ) (said : Option Forwarder) → is_longer ≡ false → forwarder_of text ≡ said → forwarder_in_text is_longer text ≡ said
-not_longer false text said none h = h
-not_longer true text said none h = absurd cc
+pub not_longer : (is_longer : Bool) (text : List ℕ) (found : Option Forwarder) → is_longer ≡ false → forwarder_of text ≡ found → forwarder_in_text is_longer text ≡ found
+not_longer false text found none h = h
+not_longer true text found none h = absurd cc
 
 pub forwarder-missing : (text : List ℕ) → after_first is_dot text ≡ [] → forwarder_of text ≡ None
 unfolding forwarder_of export_of

@@ -10,7 +10,8 @@ use std::alloc::Global;
 /// Whether the import directory has its bytes: a record, and the one that ends it.
 fn has_imports(layout: &Layout) -> bool {
     let directory = layout.directory(1);
-    matches!(&directory, Ok(Part::Read(bytes)) if bytes.len() == 0x28 && bytes.starts_with(b"\x40\x10"))
+    let front = b"\x40\x10";
+    matches!(&directory, Ok(Part::Read(bytes)) if bytes.len() == 0x28 && bytes.starts_with(front))
 }
 
 /// Whether there are no base relocations, and the exceptions lie at no offset.

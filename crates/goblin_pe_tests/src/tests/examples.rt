@@ -143,7 +143,7 @@ fn with_a_slot_alone(alloc: Global) -> Result<ImportData<'static>, AllocError> {
     Ok(ImportData { import_data })
 }
 
-/// Whether the imports of that library are refused, with both numbers told.
+/// Whether the imports of that library are refused, with both numbers.
 fn is_slot_reported(alloc: Global, data: &ImportData<'static>) -> bool {
     let imports = Import::parse::<u32>(alloc, &[], data, &[]);
     is_err(imports, &Error::Malformed(Cause::SlotCount(0, 1)))
