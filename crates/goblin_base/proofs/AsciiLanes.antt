@@ -1,10 +1,9 @@
 -- Sixteen bytes as the lanes of a vector, and the first of them that is a NUL or not ASCII.
 use Rattle.std.proofs.Common.{◌≡◌, ◌⊎◌, ℕ, ◌+◌, ◌-◌, ◌%◌, ◌^◌, ◌<◌, ◌≤◌, leb, cond, Bool, true, false, not, List, map, length, get_or, replicate, Fits, w8, w64, ap, subst, sym, ◌∙◌, arith, inl, inr}
-use Rattle.std.specs.List.{prefix_len}
+use Rattle.std.specs.{List.prefix_len, Int.bit_at}
 use Rattle.std.proofs.lemmas.Bool.{cases_lt, leb-false, leb-true}
 use Rattle.std.proofs.lemmas.List.{length-map, get_or_past}
 use Rattle.std.proofs.lemmas.Nat.Bits.{bit_at-trailing_zeros}
-use Rattle.std.specs.Int.{bit_at}
 use Rattle.std.proofs.lemmas.Simd.{tops_compared, zip2_splat, zip2_splat_left, map-map, mask_l-mod, length-chunk, trailing_mask_l, mask_l-lt, bit_mask_l, run_in_chunk_fails, run_in_chunk_stops, none_from_empty_mask}
 use lib.Count.{count_trailing_zeros}
 use lib.Lanes.{chunk, zip2, mask_l, top}

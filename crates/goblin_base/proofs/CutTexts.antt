@@ -1,22 +1,16 @@
 -- A text that is cut behind its first character that reaches past a limit.
 use Rattle.std.proofs.Common.{◌≡◌, ◌<◌, ◌≤◌, ℕ, ◌+◌, ◌-◌, min, List, length, drop, take, take_all, refl, inl, inr, add-zero, ap, sym, ◌∙◌, arith, slice_range, position, Some, None, nat_lt, length-drop, length-take, Bool, true, false, cond, Option, option_and_then, take-take, get_or-take}
-use Rattle.std.specs.List.{position_or_len}
+use Rattle.std.specs.{List.position_or_len, Str.is_utf8}
 use Rattle.std.proofs.lemmas.Bool.{lt-ltb, ltb-false, ltb-true}
-use Rattle.std.proofs.lemmas.Option.{cond_some}
+use Rattle.std.proofs.{lemmas.Option.cond_some, lemmas.List.nil_from_length}
 use Rattle.goblin_base.specs.Bytes.{IsTextTo, before_nul, begins_character, cut_text, cut_window, stretch, stretch_at, text_at, text_of, text_within}
 use Rattle.goblin_base.specs.Footprints.{positions, stretch_footprint, Agree}
-use Rattle.goblin_base.specs.Parts.{moved_by, text_footprint}
-use Rattle.goblin_base.proofs.Numbers.{rest_is_drop}
-use Rattle.goblin_base.proofs.Ranges.{moved-positions}
-use Rattle.goblin_base.proofs.Texts.{test_fails}
-use Rattle.std.specs.Str.{is_utf8}
-use Rattle.goblin_base.proofs.TextEnds.{stretch_ends}
-use Rattle.std.proofs.lemmas.List.{nil_from_length}
-use Rattle.goblin_base.specs.declared.error.ErrorOf.{ErrorOf}
+use Rattle.goblin_base.specs.{Parts.moved_by, Parts.text_footprint, declared.error.ErrorOf.ErrorOf}
+use Rattle.goblin_base.proofs.{Numbers.rest_is_drop, Ranges.moved-positions, Texts.test_fails}
+use Rattle.goblin_base.proofs.{TextEnds.stretch_ends, Inside.AreInside, Inside.stretch-in}
+use Rattle.goblin_base.proofs.{Parts.agree-moved_slice, Parts.slice-moved-in}
 use Rattle.goblin_base.specs.Answers.{FirstFault, IsMemory, IsNoText, IsOffsetFault, IsTextFaultWithin}
 use Rattle.goblin_base.proofs.Footprints.{same-stretch_at, same-text_at, same_text}
-use Rattle.goblin_base.proofs.Inside.{AreInside, stretch-in}
-use Rattle.goblin_base.proofs.Parts.{agree-moved_slice, slice-moved-in}
 use Rattle.goblin_base.proofs.Readings.{no_text-not_memory, offset-not_memory, text-not_memory}
 
 -- the place of the first character that begins after n bytes, or the end

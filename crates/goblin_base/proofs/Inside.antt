@@ -2,13 +2,10 @@
 use Rattle.std.proofs.Common.{◌≡◌, ◌<◌, ◌≤◌, ◌+◌, ◌*◌, ℕ, zero, suc, min, Bool, true, false, cond, nat_le, nat_lt, Option, Some, None, List, [], ◌∷◌, ◌++◌, length, ap, subst, refl, arith, inl, inr, is_none, All, is_some}
 use Rattle.std.proofs.lemmas.Bool.{cases_lt, leb-true, ltb-true}
 use Rattle.std.proofs.lemmas.List.Elements.{All-append, All-cons, All-nil}
-use Rattle.goblin_base.specs.Bytes.{stretch}
+use Rattle.goblin_base.specs.{Bytes.stretch, Reading.IsInFile}
 use Rattle.goblin_base.specs.Footprints.{Range, counted_footprint, led_to, positions, rest_footprint, slice_footprint, slot_footprint, slots_reached, stretch_footprint}
-use Rattle.goblin_base.specs.Reading.{IsInFile}
 use Rattle.goblin_base.specs.Tables.{Format, SlotFormat, concat_below, ends_table, entry_at, least, slot_at, slot_place, stop, whole_entries}
-use Rattle.goblin_base.proofs.Below.{least-before}
-use Rattle.goblin_base.proofs.Records.{record_at-some}
-use Rattle.goblin_base.proofs.SlotTables.{going}
+use Rattle.goblin_base.proofs.{Below.least-before, Records.record_at-some, SlotTables.going}
 
 abbrev pub AreInside : List ℕ → List Range → Type 0
 AreInside bytes ranges = All (IsInFile bytes) ranges

@@ -1,11 +1,8 @@
 -- The laws of a choice between two readings by a test, and of a value that is checked.
 use Rattle.std.proofs.Common.{◌≡◌, Bool, true, false, cond, List, ℕ}
-use Rattle.goblin_base.specs.declared.error.ErrorOf.{ErrorOf}
+use Rattle.goblin_base.specs.{declared.error.ErrorOf.ErrorOf, Footprints.Agree, Reading.Reading}
 use Rattle.goblin_base.specs.Answers.{FirstFault, IsMemory}
-use Rattle.goblin_base.specs.Footprints.{Agree}
-use Rattle.goblin_base.specs.Reading.{Reading}
-use Rattle.goblin_base.proofs.Inside.{AreInside}
-use Rattle.goblin_base.proofs.Readings.{first_no_memory}
+use Rattle.goblin_base.proofs.{Inside.AreInside, Readings.first_no_memory}
 pub use Rattle.goblin_base.proofs.Readings.{by_cases-not_memory}
 
 module _ {A : Type 0} (r s : Reading A) where

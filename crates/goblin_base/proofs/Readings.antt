@@ -2,15 +2,13 @@
 use Rattle.std.proofs.Common.{◌≡◌, ◌<◌, ◌+◌, ◌-◌, ◌++◌, ℕ, Bool, nat_lt, length, drop, List, Option, Some, None, Result, ap, subst, sym, inl, inr, ◌∙◌, arith, IsSomeAnd, option_map, slice_range}
 use Rattle.std.proofs.lemmas.Bool.{ltb-true}
 use Rattle.std.specs.declared.alloc.AllocError.{AllocError}
-use Rattle.goblin_base.specs.declared.endian.Endian.{Endian}
-use Rattle.goblin_base.specs.declared.error.CauseOf.{CauseOf}
-use Rattle.goblin_base.specs.declared.error.ErrorOf.{ErrorOf}
+use Rattle.goblin_base.specs.{declared.endian.Endian.Endian, declared.error.CauseOf.CauseOf}
+use Rattle.goblin_base.specs.{declared.error.ErrorOf.ErrorOf, Values.value_at}
 use Rattle.goblin_base.specs.declared.error.ErrorOf.TheVariants.{BadMagic, BufferTooShort, Malformed, Memory, Read}
 use Rattle.goblin_base.specs.Answers.{◌>>=◌, FirstFault, IsMemory, IsSliceFault, IsNoText, IsOffsetFault, IsTextFault}
 use Rattle.goblin_base.specs.Footprints.{Agree, led_to, rest_footprint, slot_footprint}
 use Rattle.goblin_base.specs.Reading.{IsRefused, Reading, Reads, ReadsOrMemory, Twins, TwinsOrMemory}
 use Rattle.goblin_base.specs.Tables.{IsTableFault, SlotFormat, kept_slots, slot_at, slot_place, slot_table, stop}
-use Rattle.goblin_base.specs.Values.{value_at}
 use Rattle.goblin_base.proofs.Footprints.{agree-left, agree-right, alike_answers, alike_or_memory_answers, same-kept_slots, same-led, same-slot_table, same-within, same_if}
 use Rattle.goblin_base.proofs.Numbers.{rest_is_drop}
 use Rattle.goblin_base.proofs.Inside.{AreInside, both-in, led-in, slots-in}

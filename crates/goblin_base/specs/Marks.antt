@@ -2,8 +2,7 @@
 use Rattle.std.specs.Prelude.{ℕ, ◌≡◌, ◌↔◌, ◌/◌, ◌%◌, Bool, false, ◌&&◌, ◌||◌, ◌==◌, nat_le, nat_lt}
 use Rattle.std.specs.Prelude.{List, [], ◌∷◌, if◌then◌else◌, ◌+◌, ◌≤◌, ◌<◌, true, replicate, Option}
 use Rattle.std.specs.Prelude.{Some, None, length, map, slice_index, slice_index_or}
-use Rattle.std.specs.List.{All, range_with_len}
-use Rattle.std.specs.Int.{bit_at}
+use Rattle.std.specs.{List.All, List.range_with_len, Int.bit_at}
 use Rattle.goblin_base.specs.Footprints.{Covers, Range}
 
 -- the position lies in one of the ranges

@@ -3,8 +3,7 @@
 use Rattle.std.specs.Prelude.{ℕ, ◌+◌, ◌-◌, Bool, ◌&&◌, nat_le, if◌then◌else◌, List, length, map}
 use Rattle.std.specs.Prelude.{Option, None, Some, option_map, slice_range, take}
 use Rattle.std.specs.List.{find, range_with_len}
-use Rattle.goblin_base.specs.declared.endian.Endian.{Endian}
-use Rattle.goblin_base.specs.Bytes.{cut_window, number}
+use Rattle.goblin_base.specs.{declared.endian.Endian.Endian, Bytes.cut_window, Bytes.number}
 use Rattle.goblin_base.specs.Footprints.{Range, led_to, positions, stretch_footprint}
 
 -- positions in the bytes from p on, as positions in all bytes

@@ -4,11 +4,10 @@
 //! lies between each range and the next.
 
 ghost use Rattle.std.specs.Prelude.{◌≡◌, IfErr, IfOk, false, map, replicate};
-ghost use Rattle.goblin_base.specs.Answers.{IsMemory};
+ghost use Rattle.goblin_base.specs.{Answers.IsMemory, Bytes.cut_window};
 ghost use Rattle.goblin_base.specs.Footprints.{Range, positions, slice_footprint};
 ghost use Rattle.goblin_base.specs.Footprints.{stretch_footprint};
 ghost use Rattle.goblin_base.specs.Marks.{GivesRange, marked, ranges_of};
-ghost use Rattle.goblin_base.specs.Bytes.{cut_window};
 ghost use Rattle.goblin_base.specs.Parts.{between_footprint, moved_by, text_footprint};
 
 use crate::error::ResultOf;

@@ -2,18 +2,16 @@
 use Rattle.std.proofs.Common.{◌≡◌, ℕ, Bool, true, false, cond, List, [], ◌∷◌, length, Option, None, Some, refl, ap, ◌∙◌, arith}
 use Rattle.std.proofs.Math.Path.{fun_ext}
 use Rattle.std.specs.Int.{is_power_of_two}
-use Rattle.goblin_pe_sect.specs.Mapping.{file_offset}
+use Rattle.goblin_pe_sect.specs.{Mapping.file_offset, declared.options.Mapping.Mapping}
+use Rattle.goblin_pe_sect.specs.{declared.options.ParseOptions.ParseOptions}
+use Rattle.goblin_pe_sect.specs.{declared.options.View.View, declared.address_map.Windows.Windows}
+use Rattle.goblin_pe_sect.specs.{declared.address_map.records.MappedRecords.MappedRecords}
 use Rattle.goblin_pe_sect.specs.SectionTable.{Section, mapped_of, mapped_sections}
 use Rattle.goblin_pe_sect.specs.WindowIndex.{Pieces, located}
-use Rattle.goblin_pe_sect.specs.declared.options.Mapping.{Mapping}
-use Rattle.goblin_pe_sect.specs.declared.options.ParseOptions.{ParseOptions}
-use Rattle.goblin_pe_sect.specs.declared.options.View.{View}
 use Rattle.goblin_pe_sect.specs.Options.{mapping_by, mapping_in}
 use Rattle.goblin_base.specs.declared.permissive.ParseMode.TheVariants.{Strict}
-use Rattle.goblin_pe_sect.specs.declared.address_map.Windows.{Windows}
 use Rattle.goblin_pe_sect.specs.declared.address_map.Windows.TheVariants.{Indexed, IndexedWithFront, Walked}
 use Rattle.goblin_pe_sect.specs.Addresses.{map_by, map_in, map_to, offset_by_windows, without_null}
-use Rattle.goblin_pe_sect.specs.declared.address_map.records.MappedRecords.{MappedRecords}
 
 same_by : (resolves even : Bool) (rva : ℕ) → cond resolves None (Some rva) ≡ cond resolves (cond even None None) (Some rva)
 same_by false even rva = refl

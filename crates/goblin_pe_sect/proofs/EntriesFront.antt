@@ -2,13 +2,12 @@
 use Rattle.std.proofs.Common.{◌≡◌, ℕ, ◌+◌, ◌*◌, ◌≤◌, List, Option, Some, sym, ap, ◌∙◌, inl, inr, arith}
 use Rattle.std.proofs.lemmas.Bool.{cases_lt}
 use Rattle.goblin_base.specs.declared.endian.Endian.TheVariants.{Little}
-use Rattle.goblin_base.proofs.Fronts.{HaveFront, slice-front}
+use Rattle.goblin_base.proofs.{Fronts.HaveFront, Fronts.slice-front, Footprints.same_map}
 use Rattle.goblin_pe_sect.specs.declared.data_directories.DataDirectory.{DataDirectory}
 use Rattle.goblin_pe_sect.specs.DataDirectories.{directory_record, entry_ending}
 use Rattle.goblin_pe_sect.specs.DirectoryReadings.{directories_at}
 use Rattle.goblin_pe_sect.proofs.DirectoryReadings.{directories_read, value-directories_at}
 use Rattle.goblin_pe_sect.proofs.Entries.{directory_entry_at, directory_entry_at-below, directory_entry_at-past, entries_there}
-use Rattle.goblin_base.proofs.Footprints.{same_map}
 
 entry-front : (n count p : ℕ) (a b : List ℕ) → HaveFront n a b → p + 8 * count ≤ n → (i : ℕ) → directory_entry_at count a p i ≡ directory_entry_at count b p i
 entry-front n count p a b h le i =

@@ -1,10 +1,8 @@
 -- A search by halving among numbers that rise.
 use Rattle.std.proofs.Common.{◌≡◌, ℕ, zero, suc, ◌+◌, ◌-◌, ◌*◌, ◌/◌, ◌^◌, ◌<◌, ◌≤◌, true, false, List, length, slice_index, get_or, nat_le, nat_lt, ◌==◌, ap, sym, ◌∙◌, refl, inl, inr, arith, tests, rules, pow-add, pow_pos}
-use Rattle.std.specs.List.{prefix_len}
-use Rattle.std.specs.List.Sorted.{IsStrictlyIncreasing}
-use Rattle.std.proofs.lemmas.List.Kept.{AllPairs-from_increasing}
+use Rattle.std.specs.{List.prefix_len, List.Sorted.IsStrictlyIncreasing}
+use Rattle.std.proofs.{lemmas.List.Kept.AllPairs-from_increasing, lemmas.Bool.cases_lt}
 use Rattle.std.proofs.lemmas.List.Sums.{prefix_len_is, prefix_len_passes, prefix_len_stops}
-use Rattle.std.proofs.lemmas.Bool.{cases_lt}
 use Rattle.goblin_pe_sect.specs.WindowIndex.{reached, halvings_within, halvings}
 
 -- ---- the number of comparisons

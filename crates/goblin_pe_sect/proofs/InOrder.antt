@@ -1,20 +1,16 @@
 -- The pieces of windows that are apart and in rising order.
 use Rattle.std.proofs.Common.{◌≡◌, ℕ, ◌+◌, ◌^◌, ◌<◌, ◌≤◌, true, false, List, [], ◌∷◌, ◌++◌, length, get_or, slice_get, take, map, Option, Some, None, find, refl, ap, sym, ◌∙◌, inl, inr, arith}
-use Rattle.std.specs.List.Sorted.{IsStrictlyIncreasing}
-use Rattle.std.specs.Option.{option_or, option_map}
-use Rattle.std.proofs.lemmas.Bool.{cases_lt}
-use Rattle.std.proofs.lemmas.Bool.Decides.{nat_tests}
+use Rattle.std.specs.{List.Sorted.IsStrictlyIncreasing, Option.option_or, Option.option_map}
+use Rattle.std.proofs.{lemmas.Bool.cases_lt, lemmas.Bool.Decides.nat_tests}
+use Rattle.std.proofs.{lemmas.List.Folds.find-append, lemmas.List.Elements.Contains-push}
 use Rattle.std.proofs.lemmas.List.{map-append, take_all, length_push, get_or_push, get_or_append_left}
-use Rattle.std.proofs.lemmas.List.Folds.{find-append}
-use Rattle.std.proofs.lemmas.List.Elements.{Contains-push}
 use Rattle.std.proofs.lemmas.Option.{slice_get_within, get_or_from_slice_get}
 use Rattle.goblin_pe_sect.specs.Mapping.{read_size, window_end}
 use Rattle.goblin_pe_sect.specs.WindowIndex.{AreNear, IsCut, first_owner}
 use Rattle.goblin_pe_sect.specs.WindowStretches.{window_holds, owner_among, section_window_at, section_windows}
-use Rattle.goblin_pe_sect.specs.declared.options.Mapping.{Mapping}
-use Rattle.goblin_pe_sect.specs.SectionTable.{Section}
-use Rattle.goblin_pe_sect.specs.declared.windows.owners.Owner.{Owner}
-use Rattle.goblin_pe_sect.specs.declared.windows.owners.Window.{Window}
+use Rattle.goblin_pe_sect.specs.{declared.options.Mapping.Mapping, SectionTable.Section}
+use Rattle.goblin_pe_sect.specs.{declared.windows.owners.Owner.Owner}
+use Rattle.goblin_pe_sect.specs.{declared.windows.owners.Window.Window}
 use Rattle.goblin_pe_sect.proofs.Cuts.{HasCuts, cuts_empty, cuts_more, cuts_touching, all_borders, near_from}
 use Rattle.goblin_pe_sect.proofs.Halving.{rising_at}
 use Rattle.goblin_pe_sect.proofs.Stretches.{map_same, next_window, owners-sections}

@@ -1,14 +1,11 @@
 -- Bounds on what the windows of sections reach, and what the mapping of addresses means.
 use Rattle.std.proofs.Common.{◌≡◌, ℕ, zero, suc, ◌+◌, ◌<◌, ◌≤◌, Bool, true, false, cond, ◌==◌, min, IsTrue, List, Option, Some, None, find, MatchOption, refl, ap, sym, subst, arith, rules, tests, option_map}
-use Rattle.std.specs.Int.{is_power_of_two}
-use Rattle.std.specs.List.{position_or_len}
+use Rattle.std.specs.{Int.is_power_of_two, List.position_or_len}
 use Rattle.std.proofs.lemmas.Bool.Decides.{nat_tests}
 use lib.Count.{ones}
-use Rattle.goblin_pe_sect.specs.declared.options.Mapping.{Mapping}
-use Rattle.goblin_pe_sect.specs.declared.options.View.{View}
-use Rattle.goblin_pe_sect.specs.SectionTable.{Section}
+use Rattle.goblin_pe_sect.specs.{declared.options.Mapping.Mapping, declared.options.View.View}
+use Rattle.goblin_pe_sect.specs.{SectionTable.Section, Multiples.least_multiple}
 use Rattle.goblin_pe_sect.specs.Mapping.{read_size, is_in_window, offset_in, file_offset, InWindow, IsFirstWindow, MapsTo, MapsNowhere, raw_begin, window_end}
-use Rattle.goblin_pe_sect.specs.Multiples.{least_multiple}
 use Rattle.goblin_pe_sect.proofs.Multiples.{up_near}
 use Rattle.goblin_base.proofs.First.{found_at_first, found_passes, fails_before, none_passes, first_is_found}
 

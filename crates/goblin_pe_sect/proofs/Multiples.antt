@@ -1,8 +1,7 @@
 -- The nearest multiples by division.
 use Rattle.std.proofs.Common.{◌≡◌, ℕ, zero, suc, ◌+◌, ◌-◌, ◌*◌, ◌/◌, ◌%◌, ◌<◌, ◌≤◌, Bool, true, false, ◌&&◌, nat_le, refl, ap, sym, ◌∙◌, inl, inr, arith, rules, tests}
 use Rattle.std.proofs.lemmas.Bool.{cases_lt, cases_Bool}
-use Rattle.std.proofs.lemmas.Bool.Decides.{nat_tests}
-use Rattle.std.proofs.lemmas.Nat.{mod_below}
+use Rattle.std.proofs.{lemmas.Bool.Decides.nat_tests, lemmas.Nat.mod_below}
 use Prim.Native.Nat.{◌∣◌}
 use Rattle.std.proofs.Math.Nat.{dvd-sub, dvd-mul_left, le_of_dvd, dvd_of_mod-eq-zero, mod-eq-zero_of_dvd, div-add-mod'}
 use Rattle.goblin_base.proofs.Below.{least-is}

@@ -1,17 +1,15 @@
 -- What strict mode reads of a section, permissive mode reads, too.
 use Rattle.std.proofs.Common.{ℕ, Bool, true, false, cond, List, Option, Some, None, nat_eq, slice_index}
-use Rattle.goblin_base.specs.declared.endian.Endian.TheVariants.{Little}
-use Rattle.goblin_base.specs.Bytes.{bounded_text_at}
+use Rattle.goblin_base.specs.{declared.endian.Endian.TheVariants.Little, Bytes.bounded_text_at}
 use Rattle.goblin_base.specs.Reading.{Reading, Repeats}
 use Rattle.goblin_base.proofs.Kept.{Keeps}
 use Rattle.readings.specs.Reads as reads
 use Rattle.readings.specs.Reads.{mapped, record_at}
 use Rattle.readings.proofs.Modes.{repeats-same, repeats-then}
-use Rattle.goblin_pe_sect.specs.Digits.{numeral}
+use Rattle.goblin_pe_sect.specs.{Digits.numeral, declared.digits.Digits.TheVariants.Base64}
 use Rattle.goblin_pe_sect.specs.SectionName.{decimal_number, name_value, text_value}
 use Rattle.goblin_pe_sect.specs.SectionReadings.{name_number, named_section_at, real_name}
 use Rattle.goblin_pe_sect.specs.SectionTable.{Section, section_record}
-use Rattle.goblin_pe_sect.specs.declared.digits.Digits.TheVariants.{Base64}
 
 text_value-kept : (text : Option (List ℕ)) (number_of : List ℕ → Option ℕ) → Keeps (text_value true text number_of) (text_value false text number_of)
 text_value-kept None number_of value e = absurd cc

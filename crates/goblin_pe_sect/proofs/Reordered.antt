@@ -1,12 +1,10 @@
 -- A table of sections maps addresses alike in any order, where no two windows meet.
 use Rattle.std.proofs.Common.{◌≡◌, ℕ, suc, ◌<◌, Bool, true, false, cond, IsTrue, List, [], ◌∷◌, length, get_or, slice_get, Option, Some, None, find, refl, ap, sym, inl, inr, rules, tests, IsPermutation, option_map}
-use Rattle.std.specs.Int.{is_power_of_two}
-use Rattle.std.specs.List.{AllPairs, position_or_len}
+use Rattle.std.specs.{Int.is_power_of_two, List.AllPairs, List.position_or_len}
 use Rattle.std.proofs.lemmas.Bool.{cases_Bool}
 use Rattle.std.proofs.lemmas.List.Sorted.{Contains-permutation, IsPermutation-sym}
 use Rattle.std.proofs.lemmas.Option.{get_or_from_slice_get, slice_get_read, slice_get_within}
-use Rattle.goblin_pe_sect.specs.declared.options.Mapping.{Mapping}
-use Rattle.goblin_pe_sect.specs.SectionTable.{Section}
+use Rattle.goblin_pe_sect.specs.{declared.options.Mapping.Mapping, SectionTable.Section}
 use Rattle.goblin_pe_sect.specs.Mapping.{file_offset, is_in_window, offset_in}
 use Rattle.goblin_pe_sect.specs.WindowOrder.{HaveDisjointWindows, IsReordering}
 use Rattle.goblin_base.proofs.Footprints.{same_if}

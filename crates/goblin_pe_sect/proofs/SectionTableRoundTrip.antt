@@ -1,8 +1,7 @@
 -- A section that was read is written as its record, and one that was written is read again.
 use Rattle.std.proofs.Common.{◌≡◌, ℕ, List, ap, refl, sym, ◌∙◌, length, arith, Option, Some, None}
-use Rattle.goblin_base.specs.declared.endian.Endian.TheVariants.{Little}
+use Rattle.goblin_base.specs.{declared.endian.Endian.TheVariants.Little, Answers.◌>>=◌}
 use Rattle.goblin_base.specs.Record.{FieldValue, FieldsFit, ReadsBack, WritesBack, encoding, record_at}
-use Rattle.goblin_base.specs.Answers.{◌>>=◌}
 use Rattle.goblin_base.proofs.RecordRoundTrip.{reads_back, writes_back}
 use Rattle.goblin_base.proofs.Steps.{same_value, step}
 use Rattle.goblin_pe_sect.specs.SectionName.{name_value}

@@ -2,8 +2,7 @@
 use Rattle.std.proofs.Common.{◌≡◌, ℕ, ◌<◌, ◌≤◌, Bool, cond, max, min, IsTrue, List, [], ◌∷◌, Some, None, find, ap, ◌∙◌, sym, arith, option_map}
 use Rattle.std.specs.Int.{is_power_of_two}
 use Rattle.goblin_pe_sect.specs.Mapping.{InWindow, file_offset, is_in_window, offset_in, window_end}
-use Rattle.goblin_pe_sect.specs.SectionTable.{Section}
-use Rattle.goblin_pe_sect.specs.declared.options.Mapping.{Mapping}
+use Rattle.goblin_pe_sect.specs.{SectionTable.Section, declared.options.Mapping.Mapping}
 use Rattle.goblin_pe_sect.proofs.Mapped.{file_offset-mapped, window_test, window_test_fails}
 
 -- the address is among those from `low` up to `high`, whose offsets are those by the sections that are left

@@ -1,25 +1,20 @@
 -- An index whose pieces are cut at the windows of a section table answers as the table does.
 use Rattle.std.proofs.Common.{◌≡◌, ℕ, zero, suc, ◌+◌, ◌-◌, ◌^◌, ◌<◌, ◌≤◌, Bool, true, false, cond, ◌&&◌, List, [], length, slice_index, slice_get, get_or, nat_le, nat_lt, Option, Some, None, find, map, refl, ap, sym, subst, ◌∙◌, inl, inr, arith, tests, rules}
 use Rattle.std.specs.List.{slice_index_or, position, position_or_len, Contains}
-use Rattle.std.specs.List.Sorted.{IsStrictlyIncreasing}
+use Rattle.std.specs.{List.Sorted.IsStrictlyIncreasing, Int.is_power_of_two}
 use Rattle.std.specs.Option.{option_map, option_and_then, option_map_or}
 use Rattle.std.proofs.lemmas.List.{get_or-map, get_or_past, get_or_default, length-map}
 use Rattle.std.proofs.lemmas.List.Sums.{prefix_len_passes, prefix_len_stops, prefix_len-le-length}
-use Rattle.std.proofs.lemmas.List.Folds.{find_at}
-use Rattle.std.proofs.lemmas.List.Quantifiers.{position-Some}
-use Rattle.std.proofs.lemmas.Bool.{cases_lt, cases_Bool}
-use Rattle.std.proofs.lemmas.Option.{slice_get_past, get_or_from_slice_get}
-use Rattle.std.proofs.lemmas.Bool.Decides.{nat_tests}
-use Rattle.std.specs.Int.{is_power_of_two}
+use Rattle.std.proofs.{lemmas.List.Folds.find_at, lemmas.List.Quantifiers.position-Some}
+use Rattle.std.proofs.{lemmas.Bool.cases_lt, lemmas.Bool.cases_Bool, lemmas.Option.slice_get_past}
+use Rattle.std.proofs.{lemmas.Option.get_or_from_slice_get, lemmas.Bool.Decides.nat_tests}
 use Rattle.goblin_pe_sect.specs.Mapping.{read_size, window_end, is_in_window, offset_in, file_offset}
 use Rattle.goblin_pe_sect.specs.WindowIndex.{IsCut, IsIndex, Pieces, AreNear, reached, last_owner, located, owner_offset, first_owner, owner_of_section, owners_of}
-use Rattle.goblin_pe_sect.specs.declared.options.Mapping.{Mapping}
-use Rattle.goblin_pe_sect.specs.SectionTable.{Section}
-use Rattle.goblin_pe_sect.specs.declared.windows.bounds.Piece.{Piece}
-use Rattle.goblin_pe_sect.specs.declared.windows.owners.Owner.{Owner}
+use Rattle.goblin_pe_sect.specs.{declared.options.Mapping.Mapping, SectionTable.Section}
+use Rattle.goblin_pe_sect.specs.{declared.windows.bounds.Piece.Piece}
+use Rattle.goblin_pe_sect.specs.{declared.windows.owners.Owner.Owner}
 use Rattle.goblin_base.proofs.First.{find_same}
-use Rattle.goblin_pe_sect.proofs.Halving.{rising_at, rising_to}
-use Rattle.goblin_pe_sect.proofs.Mapped.{in_window}
+use Rattle.goblin_pe_sect.proofs.{Halving.rising_at, Halving.rising_to, Mapped.in_window}
 
 -- two intervals hold two numbers alike
 interval_same : (v e b r : ℕ) → (v ≤ b → v ≤ r) → (v ≤ r → v ≤ b) → (b < e → r < e) → (r < e → b < e) → nat_le v b && nat_lt b e ≡ nat_le v r && nat_lt r e

@@ -3,11 +3,9 @@
 use Rattle.std.specs.Prelude.{◌≡◌, ℕ, ◌==◌, ◌&&◌, if◌then◌else◌, List, [], ◌∷◌, drop}
 use Rattle.std.specs.Prelude.{slice_get, Option, Some, None, option_map}
 use Rattle.std.specs.Prelude.{option_and_then, zip, filter_map, flat_map}
-use Rattle.goblin_base.specs.declared.endian.Endian.{Endian}
-use Rattle.goblin_base.specs.declared.error.ErrorOf.{ErrorOf}
-use Rattle.goblin_base.specs.declared.error.ErrorOf.TheVariants.{Malformed}
-use Rattle.goblin_base.specs.declared.error.CauseOf.TheVariants.{DirectoryIndex}
-use Rattle.goblin_base.specs.Bytes.{number}
+use Rattle.goblin_base.specs.{declared.endian.Endian.Endian, declared.error.ErrorOf.ErrorOf}
+use Rattle.goblin_base.specs.{declared.error.ErrorOf.TheVariants.Malformed}
+use Rattle.goblin_base.specs.{declared.error.CauseOf.TheVariants.DirectoryIndex, Bytes.number}
 use Rattle.goblin_base.specs.Record.{FieldValue, uint}
 use Rattle.goblin_pe_sect.specs.declared.data_directories.DataDirectory.{DataDirectory}
 use Rattle.goblin_pe_sect.specs.declared.data_directories.DataDirectoryType.{DataDirectoryType}

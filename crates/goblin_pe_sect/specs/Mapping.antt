@@ -6,13 +6,12 @@ use Rattle.std.specs.Int.{is_power_of_two}
 use Rattle.goblin_base.specs.declared.error.CauseOf.TheVariants.{Message}
 use Rattle.goblin_base.specs.declared.error.ErrorOf.{ErrorOf}
 use Rattle.goblin_base.specs.declared.error.ErrorOf.TheVariants.{Malformed}
-use Rattle.goblin_pe_sect.specs.declared.options.Mapping.{Mapping}
-use Rattle.goblin_pe_sect.specs.declared.options.RawPointerRule.{RawPointerRule}
+use Rattle.goblin_pe_sect.specs.{declared.options.Mapping.Mapping}
+use Rattle.goblin_pe_sect.specs.{declared.options.RawPointerRule.RawPointerRule}
+use Rattle.goblin_pe_sect.specs.{declared.options.View.View, SectionTable.Section}
 use Rattle.goblin_pe_sect.specs.declared.options.RawPointerRule.TheVariants.{AsStored, RoundedTo512}
-use Rattle.goblin_pe_sect.specs.declared.options.View.{View}
 use Rattle.goblin_pe_sect.specs.declared.options.View.TheVariants.{LoadedSections, Loader, Sections}
 use Rattle.goblin_pe_sect.specs.Multiples.{greatest_multiple, least_multiple}
-use Rattle.goblin_pe_sect.specs.SectionTable.{Section}
 
 -- PE Format leaves the mapping of addresses to loaders. The windows defined here are goblin's,
 -- except in a loader's view of an alignment below 512. The rule that rounds raw pointers is that of

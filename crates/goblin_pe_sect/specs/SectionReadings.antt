@@ -1,14 +1,10 @@
 -- A section: its section header, its name from the string table, and its data.
 use Rattle.std.specs.Prelude.{◌≡◌, ℕ, ◌+◌, ◌-◌, Bool, List, ◌++◌, Option, Some, replicate}
-use Rattle.goblin_base.specs.declared.endian.Endian.TheVariants.{Little}
-use Rattle.goblin_base.specs.declared.error.ErrorOf.{ErrorOf}
-use Rattle.goblin_base.specs.Answers.{IsMemory, IsSliceFault}
+use Rattle.goblin_base.specs.{declared.endian.Endian.TheVariants.Little}
+use Rattle.goblin_base.specs.{declared.error.ErrorOf.ErrorOf, Answers.IsMemory}
+use Rattle.goblin_base.specs.{Answers.IsSliceFault, Bytes.IsBytes, Reading.Reading, Record.encoding}
 use Rattle.goblin_base.specs.Bytes as bytes_of
-use Rattle.goblin_base.specs.Bytes.{IsBytes}
-use Rattle.goblin_base.specs.Reading.{Reading}
-use Rattle.goblin_base.specs.Record.{encoding}
-use Rattle.goblin_base.proofs.Picks.{by_cases-not_memory}
-use Rattle.goblin_base.proofs.Readings.{slice-not_memory}
+use Rattle.goblin_base.proofs.{Picks.by_cases-not_memory, Readings.slice-not_memory}
 use Rattle.readings.specs.Reads.{◌>>=◌, because_by, bytes_between, mapped, needs_by, or_none}
 use Rattle.readings.specs.Reads.{record_at, taken, text_at}
 use Rattle.goblin_pe_sect.specs.SectionName.{IsNameFault, name_value}

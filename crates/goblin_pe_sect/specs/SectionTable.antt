@@ -1,19 +1,15 @@
 -- What contracts see of a section, and the section header.
 use Rattle.std.specs.Prelude.{◌≡◌, ℕ, ◌+◌, ◌<◌, Bool, List, [], ◌∷◌, Option, None, Some, nat_eq}
 use Rattle.std.specs.Prelude.{◌++◌, replicate, slice_range}
-use Rattle.std.specs.Option.{option_eq}
-use Rattle.std.specs.Ordering.{eq_of_both, on}
+use Rattle.std.specs.{Option.option_eq, Ordering.eq_of_both, Ordering.on}
+use Rattle.std.specs.{Cmp.Lexicographic.options_equiv, Cmp.Lexicographic.pointwise}
 use Rattle.std.specs.Cmp.{IsPartialEquivalence, and_per, on_per, partial_equiv_from_equiv}
-use Rattle.std.specs.Cmp.Lexicographic.{options_equiv, pointwise}
-use Rattle.std.proofs.lemmas.Cmp.{nat_eq_equiv, nat_list_eq_equiv}
-use Rattle.goblin_base.specs.declared.endian.Endian.{Endian}
-use Rattle.goblin_base.specs.declared.error.ErrorOf.{ErrorOf}
-use Rattle.goblin_base.specs.Bytes.{bounded_text_at, number}
-use Rattle.goblin_base.specs.Answers.{IsBoundedTextFault}
+use Rattle.std.proofs.lemmas.Cmp.{nat_list_eq_equiv}
+use Rattle.goblin_base.specs.{declared.endian.Endian.Endian, declared.error.ErrorOf.ErrorOf}
+use Rattle.goblin_base.specs.{Bytes.bounded_text_at, Bytes.number, Answers.IsBoundedTextFault}
+use Rattle.goblin_base.specs.{Record.FieldValue.octets, Record.FieldValue.uint, Tables.records_in}
+use Rattle.goblin_base.specs.{declared.endian.Endian.TheVariants.Little}
 use Rattle.goblin_base.specs.Record.{FieldValue, encoding, record_at}
-use Rattle.goblin_base.specs.Record.FieldValue.{octets, uint}
-use Rattle.goblin_base.specs.Tables.{records_in}
-use Rattle.goblin_base.specs.declared.endian.Endian.TheVariants.{Little}
 use Rattle.goblin_pe_sect.specs.declared.options.View.{View}
 use Rattle.goblin_pe_sect.specs.declared.address_map.records.MappedRecords.{MappedRecords}
 use Rattle.goblin_pe_sect.specs.declared.section_table.records.SectionRecords.{SectionRecords}
@@ -138,39 +134,26 @@ OverlapRawData a b =
     (a.pointer_to_raw_data < b.pointer_to_raw_data + b.size_of_raw_data)
     × (b.pointer_to_raw_data < a.pointer_to_raw_data + a.size_of_raw_data)
 
+-- the numbers of a section
+abbrev pub section_numbers : Section → List ℕ
+section_numbers s =
+    s.virtual_size ∷ s.virtual_address ∷ s.size_of_raw_data ∷ s.pointer_to_raw_data
+    ∷ s.pointer_to_relocations ∷ s.pointer_to_linenumbers
+    ∷ s.number_of_relocations ∷ s.number_of_linenumbers ∷ s.characteristics ∷ []
+
 -- all fields are equal; texts are compared by their bytes
 abbrev pub section_eq : Section → Section → Bool
 section_eq =
     eq_of_both (on (λ (s : Section). s.name) (pointwise nat_eq))
     (eq_of_both (on (λ (s : Section). s.real_name) (option_eq (pointwise nat_eq)))
-    (eq_of_both (on (λ (s : Section). s.virtual_size) nat_eq)
-    (eq_of_both (on (λ (s : Section). s.virtual_address) nat_eq)
-    (eq_of_both (on (λ (s : Section). s.size_of_raw_data) nat_eq)
-    (eq_of_both (on (λ (s : Section). s.pointer_to_raw_data) nat_eq)
-    (eq_of_both (on (λ (s : Section). s.pointer_to_relocations) nat_eq)
-    (eq_of_both (on (λ (s : Section). s.pointer_to_linenumbers) nat_eq)
-    (eq_of_both (on (λ (s : Section). s.number_of_relocations) nat_eq)
-    (eq_of_both (on (λ (s : Section). s.number_of_linenumbers) nat_eq)
-    (on (λ (s : Section). s.characteristics) nat_eq))))))))))
+    (on section_numbers (pointwise nat_eq)))
 
 -- equality of sections is symmetric and transitive
 pub section_per : IsPartialEquivalence section_eq
 section_per =
-    and_per (on_per (λ (s : Section). s.name) (partial_equiv_from_equiv nat_list_eq_equiv))
+    let texts = partial_equiv_from_equiv nat_list_eq_equiv in
+    and_per (on_per (λ (s : Section). s.name) texts)
     (and_per
     (on_per (λ (s : Section). s.real_name)
     (partial_equiv_from_equiv (options_equiv nat_list_eq_equiv)))
-    (and_per (on_per (λ (s : Section). s.virtual_size) (partial_equiv_from_equiv nat_eq_equiv))
-    (and_per (on_per (λ (s : Section). s.virtual_address) (partial_equiv_from_equiv nat_eq_equiv))
-    (and_per (on_per (λ (s : Section). s.size_of_raw_data) (partial_equiv_from_equiv nat_eq_equiv))
-    (and_per
-    (on_per (λ (s : Section). s.pointer_to_raw_data) (partial_equiv_from_equiv nat_eq_equiv))
-    (and_per
-    (on_per (λ (s : Section). s.pointer_to_relocations) (partial_equiv_from_equiv nat_eq_equiv))
-    (and_per
-    (on_per (λ (s : Section). s.pointer_to_linenumbers) (partial_equiv_from_equiv nat_eq_equiv))
-    (and_per
-    (on_per (λ (s : Section). s.number_of_relocations) (partial_equiv_from_equiv nat_eq_equiv))
-    (and_per
-    (on_per (λ (s : Section). s.number_of_linenumbers) (partial_equiv_from_equiv nat_eq_equiv))
-    (on_per (λ (s : Section). s.characteristics) (partial_equiv_from_equiv nat_eq_equiv)))))))))))
+    (on_per section_numbers texts))

@@ -1,9 +1,8 @@
 -- Tables of sections that differ only in the order of the sections.
 use Rattle.std.specs.Prelude.{IsTrue, ℕ, List, AllPairs, IsPermutation}
 use Rattle.std.specs.Int.{is_power_of_two}
-use Rattle.goblin_pe_sect.specs.declared.options.Mapping.{Mapping}
-use Rattle.goblin_pe_sect.specs.SectionTable.{Section}
-use Rattle.goblin_pe_sect.specs.Mapping.{InWindow}
+use Rattle.goblin_pe_sect.specs.{declared.options.Mapping.Mapping, SectionTable.Section}
+use Rattle.goblin_pe_sect.specs.{Mapping.InWindow}
 
 -- no address lies in the windows of both sections
 abbrev pub HaveDisjointWindows : Mapping → ℕ → Section → Section → Type 0

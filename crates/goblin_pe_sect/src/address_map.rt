@@ -2,11 +2,10 @@
 
 ghost use Rattle.std.specs.Prelude.{◌≡◌, ◌^◌, ◌<◌, ℕ, IfErr, IfOk, ◌⊎◌, IfSome, Some};
 ghost use Rattle.goblin_base.specs.Answers.{GivesOrMemory, IsMemory};
-ghost use Rattle.goblin_pe_sect.specs.Mapping.{file_offset};
+ghost use Rattle.goblin_pe_sect.specs.{Mapping.file_offset, WindowIndex.located};
 ghost use Rattle.goblin_pe_sect.specs.Addresses.{IsIndexed, KeepsWindowsAlone, reads_strictly};
 ghost use Rattle.goblin_pe_sect.specs.Addresses.{map_by, map_of, offset_of};
 ghost use Rattle.goblin_pe_sect.specs.Runs.{IsRun, offset_in_run};
-ghost use Rattle.goblin_pe_sect.specs.WindowIndex.{located};
 
 use crate::options::{Mapping, ParseMode, ParseOptions, View};
 use crate::section_table::SectionTable;

@@ -1,8 +1,7 @@
 //! Marks the positions of a file on which a text depends.
 
 ghost use Rattle.std.specs.Prelude.{◌≡◌};
-ghost use Rattle.goblin_base.specs.Footprints.{led_to};
-ghost use Rattle.goblin_base.specs.Marks.{marked};
+ghost use Rattle.goblin_base.specs.{Footprints.led_to, Marks.marked};
 ghost use Rattle.readings.specs.Reads.{text_within};
 
 use goblin_base::footprint::{Marks, add_text};

@@ -24,7 +24,8 @@ pub enum RawPointerRule {
 impl RawPointerRule {
     /// The rule that is right for an image with this file alignment: rounded if the alignment is
     /// 512 or more, else as stored. It is the right rule for every lawful image, because there the
-    /// file alignment is below 512 only if it equals a `section_alignment` below 4,096.
+    /// file alignment is below 512 only if it equals a `section_alignment` below 4,096. The rule says
+    /// where raw data begins, and not how long a window is: that is up to the [`View`].
     pub fn by_file_alignment(file_alignment: u32) -> RawPointerRule
         ensures { result ≡ rule_by_alignment file_alignment }
     {
@@ -36,7 +37,7 @@ impl RawPointerRule {
     }
 }
 
-/// What maps the addresses of an image.
+/// What maps the addresses of an image, and how long the window of a section is.
 #[derive(Debug, PartialEq, Copy, Clone)]
 pub enum View {
     /// The sections, as in goblin. The size of a window is measured from the raw pointer rounded
@@ -56,7 +57,7 @@ pub enum View {
 }
 
 /// How addresses are mapped to file offsets by sections.
-#[derive(Copy, Clone)]
+#[derive(Debug, PartialEq, Copy, Clone)]
 pub struct Mapping {
     /// Whether addresses are mapped. If it is false, an address is a file offset itself.
     pub resolve_rva: bool,

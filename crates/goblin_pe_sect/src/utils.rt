@@ -4,10 +4,8 @@
 
 ghost use Rattle.std.specs.Prelude.{◌≡◌, ◌+◌, ◌^◌, ◌<◌, ◌≤◌, ◌↔◌, ℕ, IfSome, IsTrue};
 ghost use Rattle.std.specs.Prelude.{find, MatchOption};
-ghost use Rattle.std.specs.Int.{is_power_of_two};
-ghost use Rattle.std.specs.Option.{option_copied, option_map};
-ghost use Rattle.goblin_base.specs.Answers.{Answers};
-ghost use Rattle.goblin_base.specs.Reading.{Reads};
+ghost use Rattle.std.specs.{Int.is_power_of_two, Option.option_copied, Option.option_map};
+ghost use Rattle.goblin_base.specs.{Answers.Answers, Reading.Reads};
 ghost use Rattle.goblin_pe_sect.specs.Addresses.{Addressing, with_whole_names};
 ghost use Rattle.goblin_pe_sect.specs.AddressReadings.{data_at, name_or_none, text_at_address};
 ghost use Rattle.goblin_pe_sect.specs.Mapping.{blocks_size, read_size, window_end, window_of};

@@ -1,8 +1,7 @@
 -- The symbols of a table are its heads.
 use Rattle.std.proofs.Common.{◌≡◌, ◌<◌, ◌≤◌, ℕ, zero, suc, ◌+◌, ◌-◌, ◌/◌, List, [], ◌∷◌, ◌++◌, length, refl, ap, sym, subst, ◌∙◌, inl, inr, arith, append_assoc, All, AllPairs, Contains}
-use Rattle.std.proofs.lemmas.Bool.{cases_lt}
+use Rattle.std.proofs.{lemmas.Bool.cases_lt, lemmas.List.Kept.AllPairs-cons}
 use Rattle.std.proofs.lemmas.List.Elements.{All-cons, All-nil, All-weaker, Contains-append_right, Contains-get_or}
-use Rattle.std.proofs.lemmas.List.Kept.{AllPairs-cons}
 use Rattle.goblin_pe_symbol.specs.Symbols.{AreSymbolsOf, IsHead, first, next, SymbolItem, aux, symbol_of, symbols_from, symbols_in}
 
 -- skipped records are left out

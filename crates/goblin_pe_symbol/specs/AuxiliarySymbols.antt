@@ -1,8 +1,6 @@
 -- The auxiliary records of a symbol table, each by its fields.
 use Rattle.std.specs.Prelude.{ℕ, List, [], ◌∷◌, slice_range}
-use Rattle.goblin_base.specs.declared.endian.Endian.{Endian}
-use Rattle.goblin_base.specs.Bytes.{number}
-use Rattle.goblin_base.specs.Record.{FieldValue}
+use Rattle.goblin_base.specs.{declared.endian.Endian.Endian, Bytes.number, Record.FieldValue}
 use Rattle.goblin_base.specs.Record.FieldValue.{octets, uint}
 use Rattle.goblin_pe_symbol.specs.declared.symbol.auxiliary.AuxBeginAndEndFunction.{AuxBeginAndEndFunction}
 use Rattle.goblin_pe_symbol.specs.declared.symbol.auxiliary.AuxFunctionDefinition.{AuxFunctionDefinition}

@@ -1,9 +1,7 @@
 -- The loop that reads a table of slots: what it answers at each way out, value and cause at once.
 use Rattle.std.proofs.Common.{is_some, Option, false, Bool, true, Some, None, ◌≡◌, List, ◌++◌, ◌&&◌, ◌≤◌, ◌+◌, inl, inr, not, [], ℕ}
-use Rattle.goblin_base.specs.declared.error.ErrorOf.{ErrorOf}
-use Rattle.goblin_base.specs.Footprints.{Range}
-use Rattle.goblin_base.specs.Reading.{IsRefused, Reading}
-use Rattle.goblin_base.specs.Tables.{SlotFormat, ends_table}
+use Rattle.goblin_base.specs.{declared.error.ErrorOf.ErrorOf, Footprints.Range, Reading.IsRefused}
+use Rattle.goblin_base.specs.{Reading.Reading, Tables.SlotFormat, Tables.ends_table}
 use Rattle.goblin_base.proofs.SlotTables.{AtSlot, at-end, at-missing, at-missing_first, at-next, at-refused, at-start, at-refused_cause, reads}
 use Rattle.readings.specs.Reads.{table}
 

@@ -1,16 +1,12 @@
 -- What a walk over a table of slots collects is what the table keeps.
 use Rattle.std.proofs.Common.{◌≡◌, ◌≤◌, ℕ, zero, suc, Bool, true, false, cond, List, [], ◌∷◌, ◌++◌, map, length, Option, Some, None, refl, sym, ap, subst, ◌∙◌, add-one, ◌+◌, append-nil, arith, ◌⊎◌, inl, inr, ◌&&◌, not, option_and_then, option_map, is_some}
 use Rattle.std.specs.List.{filter, range_with_len}
-use Rattle.std.proofs.lemmas.List.FromFn.{map-range_with_len_more}
-use Rattle.std.proofs.lemmas.List.{map-append, map-id}
-use Rattle.std.proofs.lemmas.List.Elements.{filter-append}
+use Rattle.std.proofs.{lemmas.List.FromFn.map-range_with_len_more, lemmas.List.map-append}
+use Rattle.std.proofs.{lemmas.List.map-id, lemmas.List.Elements.filter-append}
 use Rattle.goblin_base.specs.Answers.{all_of}
 use Rattle.goblin_base.specs.Tables.{concat_below, each_below, is_kept, join}
-use Rattle.goblin_base.proofs.Below.{join-none}
-use Rattle.goblin_base.proofs.Kept.{without_test}
-use Rattle.goblin_base.proofs.Steps.{same_value}
-use Rattle.readings.specs.Reads.{with_slots}
-use Rattle.readings.specs.Walks.{end_items, items_of, until_refused}
+use Rattle.goblin_base.proofs.{Below.join-none, Kept.without_test, Steps.same_value}
+use Rattle.readings.specs.{Reads.with_slots, Walks.end_items, Walks.items_of, Walks.until_refused}
 
 -- ---- the values of a list, where each is there
 

@@ -1,9 +1,7 @@
 -- A loop over a walk: what has come of it so far.
 use Rattle.std.proofs.Common.{◌≡◌, List, [], ◌∷◌, ◌++◌, map, Option, Some, None, Result, Ok, Err, refl, sym, ap, subst, ◌∙◌, append-nil, append_assoc}
 use Rattle.std.proofs.lemmas.List.{map-append, map-id}
-use Rattle.goblin_base.specs.declared.error.ErrorOf.{ErrorOf}
-use Rattle.goblin_base.specs.Answers.{all_of}
-use Rattle.goblin_base.specs.Tables.{join}
+use Rattle.goblin_base.specs.{declared.error.ErrorOf.ErrorOf, Answers.all_of, Tables.join}
 use Rattle.readings.specs.Walks.{GivesNext}
 use Rattle.readings.proofs.WalkValues.{all_of-append, all_of-made}
 

@@ -3,10 +3,10 @@
 use Rattle.std.specs.Prelude.{◌≡◌, ℕ, Bool, true, false, List, [], ◌++◌, length, Option, Some, None}
 use Rattle.std.specs.Prelude.{option_map, option_to_list, refl, ◌+◌, drop, slice_range}
 use Rattle.std.proofs.Common.{ap, ◌∙◌, cond}
-use Rattle.goblin_base.specs.declared.endian.Endian.{Endian}
-use Rattle.goblin_base.specs.declared.error.CauseOf.{CauseOf}
-use Rattle.goblin_base.specs.declared.error.ErrorOf.{ErrorOf}
-use Rattle.goblin_base.specs.declared.error.ErrorOf.TheVariants.{Malformed}
+use Rattle.goblin_base.specs.{declared.endian.Endian.Endian, declared.error.CauseOf.CauseOf}
+use Rattle.goblin_base.specs.{declared.error.ErrorOf.ErrorOf}
+use Rattle.goblin_base.specs.{declared.error.ErrorOf.TheVariants.Malformed, Reading.Reading}
+use Rattle.goblin_base.specs.{Strtab.IsStringTableFault, Values.IsValueFault}
 use Rattle.goblin_base.specs.Answers as answers
 use Rattle.goblin_base.specs.Answers.{FirstFault, IsFirstMissing, IsMemory}
 use Rattle.goblin_base.specs.Answers.{IsSliceFault, IsTextFault, IsTextFaultWithin, all_at}
@@ -15,15 +15,12 @@ use Rattle.goblin_base.specs.Footprints.{counted_footprint, led_to, rest_footpri
 use Rattle.goblin_base.specs.Footprints.{slice_footprint, slot_footprint, stretch_footprint}
 use Rattle.goblin_base.specs.Parts as parts
 use Rattle.goblin_base.specs.Parts.{between_footprint, moved_by, search_footprint, text_footprint}
-use Rattle.goblin_base.specs.Reading.{Reading}
 use Rattle.goblin_base.specs.Record as records
 use Rattle.goblin_base.specs.Strtab as strings
-use Rattle.goblin_base.specs.Strtab.{IsStringTableFault}
 use Rattle.goblin_base.specs.Tables as tables
 use Rattle.goblin_base.specs.Tables.{Format, IsTableFault, SlotFormat, concat_below, kept_slots}
 use Rattle.goblin_base.specs.Tables.{slot_table}
 use Rattle.goblin_base.specs.Values as values
-use Rattle.goblin_base.specs.Values.{IsValueFault}
 use Rattle.goblin_base.proofs.Below.{concat_below-agree}
 use Rattle.goblin_base.proofs.CutTexts.{same-text_within, text_within-in, text_within-not_memory}
 use Rattle.goblin_base.proofs.Footprints.{same-counted_table_if, same-number_at, same-record_at}

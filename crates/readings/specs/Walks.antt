@@ -1,8 +1,7 @@
 -- Walks: items that are returned one at a time. Only the last may be a refusal.
 use Rattle.std.specs.Prelude.{◌≡◌, ℕ, Bool, ◌&&◌, not, if◌then◌else◌, List, [], ◌∷◌, ◌++◌, map}
 use Rattle.std.specs.Prelude.{Option, Some, None, Result, Ok, Err, option_map, is_some}
-use Rattle.goblin_base.specs.declared.error.ErrorOf.{ErrorOf}
-use Rattle.goblin_base.specs.Answers.{all_of}
+use Rattle.goblin_base.specs.{declared.error.ErrorOf.ErrorOf, Answers.all_of}
 use Rattle.goblin_base.specs.Reading.{IsRefused, Reading}
 use Rattle.goblin_base.specs.Tables.{SlotFormat, concat_below, slot_at, slot_place, stop}
 

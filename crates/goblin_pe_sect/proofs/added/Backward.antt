@@ -2,10 +2,9 @@
 use Rattle.std.proofs.Common.{◌≡◌, ℕ, ◌==◌, Bool, true, false, cond, List, Option, Some, None, find, slice_get, MatchOption, refl, ap, sym, subst, ◌∙◌, arith, rules, tests, option_and_then}
 use Rattle.std.specs.Int.{is_power_of_two}
 use Rattle.std.proofs.lemmas.Bool.Decides.{nat_tests}
-use Rattle.goblin_pe_sect.specs.declared.options.Mapping.{Mapping}
+use Rattle.goblin_pe_sect.specs.{declared.options.Mapping.Mapping, SectionTable.Section}
 use Rattle.goblin_pe_sect.specs.added.Backward.{IsMappedFromNowhere, file_address, is_at, maps_to, rva_in}
 use Rattle.goblin_pe_sect.specs.Mapping.{MapsTo, MapsNowhere, file_offset, offset_in, InWindow}
-use Rattle.goblin_pe_sect.specs.SectionTable.{Section}
 use Rattle.goblin_base.proofs.First.{found_passes, none_passes}
 use Rattle.goblin_pe_sect.proofs.Mapped.{file_offset_first}
 

@@ -1,15 +1,12 @@
 -- Names change no offset.
 use Rattle.std.proofs.Common.{◌≡◌, ℕ, Bool, true, false, cond, List, [], ◌∷◌, find, map, Option, None, Some, refl, ap, sym, ◌∙◌, option_map}
-use Rattle.std.proofs.Math.Path.{fun_ext}
-use Rattle.std.specs.Option.{is_some}
-use Rattle.std.proofs.lemmas.List.{map-append}
-use Rattle.std.specs.Int.{is_power_of_two}
+use Rattle.std.proofs.{Math.Path.fun_ext, lemmas.List.map-append}
+use Rattle.std.specs.{Option.is_some, Int.is_power_of_two}
 use Rattle.goblin_pe_sect.specs.Mapping.{file_offset, is_in_window, offset_in, read_size}
 use Rattle.goblin_pe_sect.specs.SectionTable.{Section, front_section, unnamed, with_front}
-use Rattle.goblin_pe_sect.specs.declared.options.Mapping.{Mapping}
-use Rattle.goblin_pe_sect.specs.declared.options.ParseOptions.{ParseOptions}
-use Rattle.goblin_pe_sect.specs.declared.options.View.{View}
-use Rattle.goblin_pe_sect.specs.Options.{mapping_in}
+use Rattle.goblin_pe_sect.specs.{declared.options.Mapping.Mapping}
+use Rattle.goblin_pe_sect.specs.{declared.options.ParseOptions.ParseOptions}
+use Rattle.goblin_pe_sect.specs.{declared.options.View.View, Options.mapping_in}
 use Rattle.goblin_pe_sect.specs.Addresses.{map_in, map_to, without_null}
 
 unnamed_by : (b : Bool) (s : Section) (x y : Option Section) → x ≡ option_map unnamed y → cond b (Some (unnamed s)) x ≡ option_map unnamed (cond b (Some s) y)

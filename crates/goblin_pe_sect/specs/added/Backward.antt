@@ -2,8 +2,7 @@
 use Rattle.std.specs.Prelude.{ℕ, ◌+◌, ◌-◌, ◌==◌, ◌≡◌, Bool, ◌&&◌, nat_le, false, nat_lt}
 use Rattle.std.specs.Prelude.{if◌then◌else◌, List, Option, Some, None, find, option_and_then}
 use Rattle.std.specs.Int.{is_power_of_two}
-use Rattle.goblin_pe_sect.specs.declared.options.Mapping.{Mapping}
-use Rattle.goblin_pe_sect.specs.SectionTable.{Section}
+use Rattle.goblin_pe_sect.specs.{declared.options.Mapping.Mapping, SectionTable.Section}
 use Rattle.goblin_pe_sect.specs.Mapping.{read_size, raw_begin, file_offset}
 
 -- the address that a section's window has at a file offset; none if the window has no address

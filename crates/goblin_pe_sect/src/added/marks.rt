@@ -2,8 +2,7 @@
 
 ghost use Rattle.std.specs.Prelude.{◌≡◌};
 ghost use Rattle.goblin_base.specs.Marks.{marked};
-ghost use Rattle.goblin_pe_sect.specs.DirectoryReadings.{directories_at};
-ghost use Rattle.goblin_pe_sect.specs.Options.{is_strict};
+ghost use Rattle.goblin_pe_sect.specs.{DirectoryReadings.directories_at, Options.is_strict};
 ghost use Rattle.goblin_pe_sect.specs.SectionReadings.{named_section_at, real_name};
 
 use crate::data_directories::{NUM_DATA_DIRECTORIES, SIZEOF_DATA_DIRECTORY};

@@ -48,13 +48,8 @@ pub fn offset_by_records(
     ensures { result
         ≡ file_offset mapping (mapped_sections records.entry) file_alignment rva }
 {
-    find_by_sections(
-        records,
-        file_alignment,
-        mapping,
-        rva as usize,
-        &mut Run::default(),
-    )
+    let mut run = Run::default();
+    find_by_sections(records, file_alignment, mapping, rva as usize, &mut run)
 }
 
 impl<'s> Windows<'s> {

@@ -3,9 +3,8 @@
 ghost use Rattle.std.specs.Prelude.{◌≡◌, Some, MatchOption, find};
 ghost use Rattle.std.specs.Option.{option_copied};
 ghost use Rattle.goblin_pe_sect.specs.added.Backward.{IsMappedFromNowhere, file_address};
-ghost use Rattle.goblin_pe_sect.specs.Mapping.{file_offset};
+ghost use Rattle.goblin_pe_sect.specs.{Mapping.file_offset, Options.mapping_by};
 ghost use Rattle.goblin_pe_sect.specs.added.Backward.{maps_to, rva_in};
-ghost use Rattle.goblin_pe_sect.specs.Options.{mapping_by};
 
 use crate::options::{Mapping, ParseOptions, View};
 use crate::section_table::SectionTable;
@@ -42,16 +41,9 @@ fn is_mapped_back(
         ≡ maps_to (mapping_by opts.now) sections.now file_alignment offset
         (rva_in (mapping_by opts.now) file_alignment offset section.now) }
 {
-    let Some(rva) = rva_in(
-        offset,
-        section,
-        file_alignment,
-        View::Sections.mapping(opts),
-    ) else {
-        return false;
-    };
-    match find_offset(rva, sections, file_alignment, opts) {
-        Some(found) => found == offset,
+    let mapping = View::Sections.mapping(opts);
+    match rva_in(offset, section, file_alignment, mapping) {
+        Some(rva) => find_offset(rva, sections, file_alignment, opts) == Some(offset),
         None => false,
     }
 }
@@ -84,12 +76,8 @@ fn address_by(
         return Some(offset);
     }
     let section = first_back(offset, sections, file_alignment, opts)?;
-    rva_in(
-        offset,
-        section,
-        file_alignment,
-        View::Sections.mapping(opts),
-    )
+    let mapping = View::Sections.mapping(opts);
+    rva_in(offset, section, file_alignment, mapping)
 }
 
 /// The address that [`find_offset`] maps to the file offset `offset`. If there are several, it is

@@ -4,15 +4,13 @@ ghost use Rattle.std.specs.Prelude.{◌≡◌, ◌+◌, ◌-◌, ◌/◌, ◌%�
 ghost use Rattle.std.specs.Prelude.{Err, IfSome};
 ghost use Rattle.std.specs.Iterator.{UpTo, YieldsFirst, YieldsFirstBy, at_most};
 ghost use Rattle.std.specs.Iterator.SizeHint.{IsWithinCount};
-ghost use Rattle.goblin_base.specs.Reading.{Reads};
-ghost use Rattle.goblin_base.specs.Record.{WritesRecord};
-ghost use Rattle.goblin_pe_sect.specs.declared.relocation.base.RelocationWord.{RelocationWord};
-ghost use Rattle.goblin_pe_sect.specs.AddressReadings.{relocation_data};
+ghost use Rattle.goblin_base.specs.{Reading.Reads, Record.WritesRecord};
+ghost use Rattle.goblin_pe_sect.specs.{declared.relocation.base.RelocationWord.RelocationWord};
+ghost use Rattle.goblin_pe_sect.specs.{AddressReadings.relocation_data, Mapping.file_offset};
 ghost use Rattle.goblin_pe_sect.specs.BaseRelocations.{AreBlocksOf, FindsItem, block_at};
 ghost use Rattle.goblin_pe_sect.specs.BaseRelocations.{block_item, block_items, blocks_left};
 ghost use Rattle.goblin_pe_sect.specs.BaseRelocations.{relocation_bytes, word_fields, word_items};
 ghost use Rattle.goblin_pe_sect.specs.BaseRelocations.{word_record, words_left};
-ghost use Rattle.goblin_pe_sect.specs.Mapping.{file_offset};
 ghost use Rattle.goblin_pe_sect.specs.Options.{default_options, mapping_by};
 
 use crate::data_directories::DataDirectory;

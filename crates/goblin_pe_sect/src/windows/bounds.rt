@@ -2,8 +2,7 @@
 //! itself.
 
 ghost use Rattle.std.specs.Prelude.{◌≡◌, ◌+◌, ◌*◌, ◌^◌, ◌<◌, ◌≤◌, ◌↔◌, IsTrue, length, slice_index};
-ghost use Rattle.goblin_pe_sect.specs.WindowIndex.{begins_of};
-ghost use Rattle.goblin_pe_sect.specs.WindowIndexFields.{KeepsBoundsAlone};
+ghost use Rattle.goblin_pe_sect.specs.{WindowIndex.begins_of, WindowIndexFields.KeepsBoundsAlone};
 
 use super::owners::Owner;
 use std::marker::Model;

@@ -1,8 +1,6 @@
 use Rattle.std.proofs.Common.{◌≡◌, [], sym, arith}
 use Rattle.goblin_base.specs.Footprints.{stretch_footprint}
-use Rattle.goblin_base.proofs.Marks.{marked_nil}
-use Rattle.goblin_base.proofs.SlotFootprints.{stretch-none}
-use Rattle.goblin_base.proofs.Ranges.{stretch-is}
+use Rattle.goblin_base.proofs.{Marks.marked_nil, SlotFootprints.stretch-none, Ranges.stretch-is}
 use Rattle.goblin_base.proofs.footprint.add_stretch.Goals as goal
 
 pub returns-then-bytes-offset : goal.returns-then-bytes-offset

@@ -1,6 +1,5 @@
 use Rattle.std.proofs.Common.{◌++◌, ◌∷◌, [], List, map, drop, append-nil, append_assoc, ap, sym, ◌∙◌}
-use Rattle.goblin_base.specs.Footprints.{Range}
-use Rattle.goblin_base.specs.Marks.{ranges_from, ranges_of}
+use Rattle.goblin_base.specs.{Footprints.Range, Marks.ranges_from, Marks.ranges_of}
 use Rattle.goblin_base.proofs.MarkRanges.{next-smaller, ranges-next, ranges-none}
 use Rattle.goblin_base.proofs.footprint.Marks.list.Goals as goal
 

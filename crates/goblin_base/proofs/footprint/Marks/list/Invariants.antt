@@ -1,6 +1,5 @@
 use Rattle.std.proofs.Common.{◌≡◌, ◌++◌, ◌-◌, length, map, drop}
-use Rattle.goblin_base.specs.Footprints.{Range}
-use Rattle.goblin_base.specs.Marks.{ranges_from, ranges_of}
+use Rattle.goblin_base.specs.{Footprints.Range, Marks.ranges_from, Marks.ranges_of}
 use Rattle.goblin_base.proofs.footprint.Marks.list.Given as goal
 
 abbrev pub invariant-spans : goal.invariant-spans

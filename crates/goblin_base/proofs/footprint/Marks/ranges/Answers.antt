@@ -1,5 +1,4 @@
-use Rattle.std.proofs.Common.{rules, map-id, ◌∙◌}
-use Rattle.std.proofs.lemmas.Result.{IfOk-weaker}
+use Rattle.std.proofs.{Common.rules, Common.map-id, Common.◌∙◌, lemmas.Result.IfOk-weaker}
 use Rattle.goblin_base.specs.Marks.{ranges_of}
 use Rattle.goblin_base.proofs.footprint.Marks.ranges.Goals as goal
 

@@ -1,8 +1,6 @@
 use Rattle.std.proofs.Common.{◌<◌, ◌+◌, ◌*◌, ◌^◌, ℕ, List, length, ap, sym, ◌∙◌, rules, arith}
-use Rattle.goblin_base.specs.Footprints.{Range, slice_footprint}
-use Rattle.goblin_base.specs.Marks.{marked}
-use Rattle.goblin_base.proofs.Marks.{marked_nil}
-use Rattle.goblin_base.proofs.Ranges.{marked_below}
+use Rattle.goblin_base.specs.{Footprints.Range, Footprints.slice_footprint, Marks.marked}
+use Rattle.goblin_base.proofs.{Marks.marked_nil, Ranges.marked_below}
 use Rattle.goblin_pe_sect.proofs.added.CutOffsets.{slice-cut}
 use Rattle.goblin_pe_sect.proofs.added.marks.add_directories.Goals as goal
 

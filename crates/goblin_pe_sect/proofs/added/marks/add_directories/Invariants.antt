@@ -1,8 +1,6 @@
 -- The entries so far are listed.
 use Rattle.std.proofs.Common.{◌≡◌, ◌+◌, ◌*◌}
-use Rattle.goblin_base.specs.Footprints.{slice_footprint}
-use Rattle.goblin_base.specs.Marks.{marked}
-use Rattle.goblin_base.specs.Tables.{concat_below}
+use Rattle.goblin_base.specs.{Footprints.slice_footprint, Marks.marked, Tables.concat_below}
 use Rattle.goblin_pe_sect.proofs.added.marks.add_directories.Given as goal
 
 abbrev pub invariant-entries : goal.invariant-entries

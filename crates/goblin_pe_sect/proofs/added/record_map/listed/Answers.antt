@@ -1,6 +1,5 @@
 use Rattle.std.proofs.Common.{◌<◌, ◌∷◌, [], ◌++◌, List, length, ap, sym, take, ◌∙◌, arith}
-use Rattle.std.proofs.lemmas.List.{take_more}
-use Rattle.std.proofs.lemmas.Option.{get_or_from_slice_get}
+use Rattle.std.proofs.{lemmas.List.take_more, lemmas.Option.get_or_from_slice_get}
 use Rattle.goblin_pe_sect.specs.SectionTable.{Section, mapped_sections}
 use Rattle.goblin_pe_sect.proofs.added.record_map.listed.Goals as goal
 

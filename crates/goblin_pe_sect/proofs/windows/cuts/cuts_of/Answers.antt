@@ -1,7 +1,6 @@
 use Rattle.std.proofs.Common.{◌≡◌, ◌≤◌, ◌++◌, ◌∷◌, [], Some, slice_get, length, arith, rules, eqb, refl}
 use Rattle.std.specs.List.{dedup}
-use Rattle.std.proofs.lemmas.List.Filters.{dedup_is}
-use Rattle.std.proofs.lemmas.Option.{slice_get_read}
+use Rattle.std.proofs.{lemmas.List.Filters.dedup_is, lemmas.Option.slice_get_read}
 use Rattle.goblin_pe_sect.specs.Mapping.{window_end}
 use Rattle.goblin_pe_sect.proofs.Cuts.{cut_from, near_from, cuts_more, cuts_empty}
 use Rattle.goblin_pe_sect.proofs.windows.cuts.cuts_of.Goals as goal

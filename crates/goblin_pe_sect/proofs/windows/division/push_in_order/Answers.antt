@@ -1,6 +1,5 @@
 use Rattle.std.proofs.Common.{◌≡◌, ◌∙◌, ◌^◌, ◌<◌, ◌≤◌, Some, slice_get, refl, ap, inl, inr, arith}
-use Rattle.std.proofs.lemmas.Bool.{cases_lt}
-use Rattle.std.proofs.lemmas.Option.{slice_get_read}
+use Rattle.std.proofs.{lemmas.Bool.cases_lt, lemmas.Option.slice_get_read}
 use Rattle.goblin_pe_sect.specs.Mapping.{read_size, window_end}
 use Rattle.goblin_pe_sect.specs.WindowStretches.{section_window_at}
 use Rattle.goblin_pe_sect.specs.declared.windows.owners.Window.{Window}

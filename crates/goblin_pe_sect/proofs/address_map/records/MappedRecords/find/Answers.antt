@@ -1,7 +1,6 @@
 use Rattle.std.proofs.Common.{◌≡◌, ◌∙◌, ◌+◌, ◌<◌, ℕ, Bool, true, false, cond, List, ◌∷◌, Some, None, length, nat_lt, not, refl, sym, arith}
 use Rattle.std.specs.List.{position_or_len}
-use Rattle.std.proofs.lemmas.Bool.Decides.{nat_tests}
-use Rattle.std.proofs.lemmas.Fn.{says_at}
+use Rattle.std.proofs.{lemmas.Bool.Decides.nat_tests, lemmas.Fn.says_at}
 use Rattle.goblin_pe_sect.specs.SectionTable.{Section}
 use Rattle.goblin_pe_sect.proofs.address_map.records.MappedRecords.find.Goals as goal
 use Rattle.goblin_base.proofs.First.{found-first}

@@ -1,7 +1,6 @@
 -- The first section of those that are left is the first of all.
 use Rattle.std.proofs.Common.{◌≡◌, ◌+◌, Bool, find, length}
-use Rattle.std.specs.Fn.{FnReturnsAt}
-use Rattle.std.specs.List.{position_or_len}
+use Rattle.std.specs.{Fn.FnReturnsAt, List.position_or_len}
 use Rattle.readings.specs.Tests.{IsTest}
 use Rattle.goblin_pe_sect.specs.SectionTable.{Section, mapped_sections}
 use Rattle.goblin_pe_sect.proofs.address_map.records.MappedRecords.find.Given as goal
