@@ -1,6 +1,10 @@
 //! The windows of sections, and the pieces of an index of them.
 
 use fixture::sample::{ALIGNMENT, section};
+use goblin_base::Endian;
+use goblin_pe_sect::added::offset_by_records;
+use goblin_pe_sect::address_map::MappedRecords;
+use goblin_pe_sect::section_table::SectionRecords;
 use goblin_pe_sect::utils::{find_offset, window, window_by};
 use goblin_pe_sect::{ParseOptions, RawPointerRule, SectionTable, View, WindowIndex};
 use std::alloc::Global;
@@ -68,6 +72,32 @@ fn a_loader_maps_whole_blocks_below_512_alone(rt: HostRuntime) {
     assert!(rt; packed(View::LoadedSections, 0x10) == Some((0x1000, 0x1010)));
     assert!(rt; packed(View::Loader, 0x100) == Some((0x1000, 0x1100)));
     assert!(rt; packed(View::Loader, 0x200) == Some((0x1000, 0x1200)));
+}
+
+/// The section whose window begins where a loader's window of [`PACKED`] ends.
+const NEXT: Numbers = (0x1010, 0x10, 0x10, 0x400);
+
+/// The offset of the address of [`NEXT`], whose header follows that of [`PACKED`].
+fn next_offset(view: View) -> Option<usize> {
+    let mut bytes = [0; 80];
+    section_of(PACKED)
+        .try_into_ctx(&mut bytes[..40], Endian::Little)
+        .ok()?;
+    section_of(NEXT)
+        .try_into_ctx(&mut bytes[40..], Endian::Little)
+        .ok()?;
+    let records = SectionRecords::of(&bytes);
+    let mapped = MappedRecords {
+        records,
+        front: None,
+    };
+    offset_by_records(mapped, 0x10, view.mapping(&ParseOptions::default()), 0x1010)
+}
+
+#[test]
+fn windows_of_a_loader_meet(rt: HostRuntime) {
+    assert!(rt; next_offset(View::Sections) == Some(0x3A0));
+    assert!(rt; next_offset(View::Loader) == Some(0x400));
 }
 
 /// How many pieces an index has, an offset, and the most probes to find it.
