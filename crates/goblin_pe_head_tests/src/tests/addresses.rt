@@ -1,7 +1,6 @@
 //! The windows of sections, and the pieces of an index of them.
 
 use fixture::sample::{ALIGNMENT, section};
-use goblin_base::Endian;
 use goblin_pe_sect::added::offset_by_records;
 use goblin_pe_sect::address_map::MappedRecords;
 use goblin_pe_sect::section_table::SectionRecords;
@@ -74,19 +73,14 @@ fn a_loader_maps_whole_blocks_below_512_alone(rt: HostRuntime) {
     assert!(rt; packed(View::Loader, 0x200) == Some((0x1000, 0x1200)));
 }
 
-/// The section whose window begins where a loader's window of [`PACKED`] ends.
-const NEXT: Numbers = (0x1010, 0x10, 0x10, 0x400);
+/// The headers of [`PACKED`], and of a section of 16 bytes at 0x1010, whose data begins at 0x400.
+const HEADERS: &[u8] =
+    b"packed\0\0\x10\0\0\0\0\x10\0\0\x10\0\0\0\x90\x03\0\0\0\0\0\0\0\0\0\0\0\0\0\0\0\0\0\0\
+    next\0\0\0\0\x10\0\0\0\x10\x10\0\0\x10\0\0\0\0\x04\0\0\0\0\0\0\0\0\0\0\0\0\0\0\0\0\0\0";
 
-/// The offset of the address of [`NEXT`], whose header follows that of [`PACKED`].
+/// The offset of the address of the second one.
 fn next_offset(view: View) -> Option<usize> {
-    let mut bytes = [0; 80];
-    section_of(PACKED)
-        .try_into_ctx(&mut bytes[..40], Endian::Little)
-        .ok()?;
-    section_of(NEXT)
-        .try_into_ctx(&mut bytes[40..], Endian::Little)
-        .ok()?;
-    let records = SectionRecords::of(&bytes);
+    let records = SectionRecords::of(HEADERS);
     let mapped = MappedRecords {
         records,
         front: None,
