@@ -1,5 +1,5 @@
 -- A list whose items fill records from an index on.
-use Rattle.std.proofs.Common.{◌≡◌, ◌<◌, ◌≤◌, ◌^◌, ◌*◌, ◌/◌, ◌%◌, ℕ, ◌+◌, List, length, map, drop, set, Option, Some, None, slice_get, ◌∷◌, [], ap, refl, arith, ◌∙◌, inl, inr, slice_range, drop_of_length-le, true, false}
+use Rattle.std.proofs.Common.{◌≡◌, ◌<◌, ◌≤◌, ◌^◌, ◌*◌, ◌/◌, ◌%◌, ℕ, ◌+◌, List, length, map, drop, set, Option, Some, None, slice_get, ◌∷◌, ap, refl, arith, ◌∙◌, inl, inr, slice_range, drop_of_length-le, true, false}
 use Rattle.std.specs.List.{range_with_len}
 use Rattle.std.proofs.lemmas.List.{drop_more}
 use Rattle.std.proofs.lemmas.List.FromFn.{get_or-map-range_with_len, length-map-range_with_len}

@@ -31,13 +31,8 @@ mapped_model m = record {
   mapping = m.mapping;
 }
 
--- the sections of an image, if the file has their headers; none are needed if addresses are offsets
-abbrev pub sections_for : PeOptions → PePlaces → List ℕ → Option (List Section)
-sections_for o p bytes =
-    if maps_addresses o then (placed_sections p).value bytes else Some []
-
 -- What maps the addresses of an image. Nothing does if the options are not known, or if the file
--- has no room for the section headers.
+-- has no room for the section headers; none are needed if addresses are offsets.
 unfoldable pub mapped_image : PeOptions → PePlaces → List ℕ → Option MappedImage
 mapped_image o p bytes =
     if are_known o
@@ -45,7 +40,7 @@ mapped_image o p bytes =
       sections = with_front (front_of (view_of o) p.size_of_headers) sections;
       alignment = p.file_alignment;
       mapping = mapping_in (view_of o) (options_at o p.file_alignment);
-    }) (sections_for o p bytes)
+    }) (if maps_addresses o then (placed_sections p).value bytes else Some [])
     else None
 
 -- the file offset of an address, if it has one; an address has 32 bits

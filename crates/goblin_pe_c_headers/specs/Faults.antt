@@ -37,20 +37,6 @@ number_of status.Options = 6
 number_of status.Steps = 7
 number_of status.Kind = 8
 
--- the status with this number
-abbrev pub status_with : ℕ → Option Status
-status_with number =
-    if number == 0 then Some status.Ok
-    else if number == 1 then Some status.Malformed
-    else if number == 2 then Some status.BadMagic
-    else if number == 3 then Some status.BufferTooShort
-    else if number == 4 then Some status.Read
-    else if number == 5 then Some status.Memory
-    else if number == 6 then Some status.Options
-    else if number == 7 then Some status.Steps
-    else if number == 8 then Some status.Kind
-    else None
-
 -- what a file is too short for, by its number
 abbrev pub word_number : List ℕ → ℕ
 word_number what =

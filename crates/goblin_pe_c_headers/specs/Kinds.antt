@@ -1,9 +1,10 @@
 -- What a file is, by its first bytes.
 use Rattle.std.specs.List.{list_any}
-use Rattle.std.specs.Prelude.{ℕ, Bool, false, ◌==◌, ◌&&◌, if◌then◌else◌, nat_eq, nat_le, List, []}
+use Rattle.std.specs.Prelude.{ℕ, Bool, ◌==◌, ◌&&◌, if◌then◌else◌, nat_eq, nat_le, List, []}
 use Rattle.std.specs.Prelude.{◌∷◌, Option, None, Some}
 use Rattle.goblin_base.specs.declared.endian.Endian.TheVariants.{Little}
 use Rattle.goblin_base.specs.Bytes.{number_at}
+use Rattle.goblin_pe_sect.specs.added.Backward.{is_at}
 use Rattle.goblin_pe_c_headers.specs.declared.kind.Kind.{Kind}
 use Rattle.goblin_pe_c_headers.specs.declared.kind.Kind.TheVariants as kind
 
@@ -38,14 +39,9 @@ abbrev pub kind_by : Option ℕ → Kind
 kind_by None = kind.Unknown
 kind_by (Some magic) = kind_with magic
 
--- this number, if there is one
-abbrev pub is_number : Option ℕ → ℕ → Bool
-is_number None number = false
-is_number (Some found) number = found == number
-
 -- the n bytes at p are there, and are this number
 abbrev pub has_number : ℕ → List ℕ → ℕ → ℕ → Bool
-has_number n bytes p number = is_number (number_at Little n bytes p) number
+has_number n bytes p number = is_at number (number_at Little n bytes p)
 
 -- The identifier of big objects, {D1BAA1C7-BAEE-4BA9-AF20-FAF66AA4DCB8}, in the 16 bytes at 12.
 -- Source: the Windows headers, ANON_OBJECT_HEADER_BIGOBJ.

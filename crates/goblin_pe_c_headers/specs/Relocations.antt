@@ -7,7 +7,6 @@ use Rattle.goblin_pe_sect.specs.declared.relocation.Relocation.{Relocation}
 use Rattle.goblin_pe_sect.specs.Relocations.{relocations_in}
 use Rattle.goblin_pe_sect.specs.SectionTable.{Section}
 use Rattle.goblin_pe_c_headers.specs.declared.cursor.PeCoffRelocationCursor.{PeCoffRelocationCursor}
-use Rattle.goblin_pe_c_headers.specs.Onward.{Batch}
 
 -- the number of a section's relocations is in the first one, as they are more than its header can
 -- say: the number there is 65,535, and the bit IMAGE_SCN_LNK_NRELOC_OVFL is set
@@ -36,6 +35,3 @@ relocations_at p n = pick (n == 0) (given []) (mapped relocations_in (slice_at p
 -- all relocations of a walk
 unfoldable pub all_relocations : PeCoffRelocationCursor → Reading (List Relocation)
 all_relocations c = record_count c >>= relocations_at c.offset
-
-abbrev pub RelocationBatch : Type 0
-RelocationBatch = Batch ℕ Relocation

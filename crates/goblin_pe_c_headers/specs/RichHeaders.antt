@@ -43,24 +43,23 @@ abbrev pub rich_table : ℕ → List ℕ → Table ℕ RichMetadata RichMetadata
 rich_table key stretch =
     record { view = λ r. r; value_of = λ r. r; from = λ i. Some (entries_from key stretch i) }
 
-abbrev pub RichBatch : Type 0
-RichBatch = Batch ℕ RichMetadata
-
 -- The records hold the entries from the old index on, and from the new one on come the others.
-abbrev pub GivesEntriesOf : ℕ → List ℕ → RichBatch → RichBatch → PeBatch → Type 0
+abbrev pub GivesEntriesOf : ℕ → List ℕ → Batch ℕ RichMetadata → Batch ℕ RichMetadata → PeBatch
+    → Type 0
 GivesEntriesOf key stretch old new batch =
     FillsNext (rich_table key stretch) ⊥ (λ left. new.position ≡ old.position + batch.count) old new
     batch
 
 -- the next bytes are no whole entry, and there is room for one
-abbrev pub IsRefusedEntry : ℕ → List ℕ → RichBatch → ErrorOf → Type 0
+abbrev pub IsRefusedEntry : ℕ → List ℕ → Batch ℕ RichMetadata → ErrorOf → Type 0
 IsRefusedEntry key stretch old e =
     (0 < length old.records) × IsRefusedNext (entries_from key stretch old.position)
     × (e ≡ Read TooBig)
 
 -- A call has given the entries of an image's Rich header that come next; or they are not there, or
 -- the next bytes are no whole entry, and nothing else is changed than what is said.
-abbrev pub GivesEntries : PeImage → RichBatch → RichBatch → PeBatch → Result Unit ErrorOf → Type 0
+abbrev pub GivesEntries : PeImage → Batch ℕ RichMetadata → Batch ℕ RichMetadata → PeBatch
+    → Result Unit ErrorOf → Type 0
 GivesEntries image old new batch (Ok x) =
     IsSomeAnd ((rich_stretch image.rich_header).value image.bytes.now)
     (λ stretch. GivesEntriesOf image.rich_header.key stretch old new batch)

@@ -15,7 +15,6 @@ use Rattle.goblin_pe_head.specs.TeHeader.{section_moved}
 use Rattle.goblin_pe_c_headers.specs.declared.batch.PeBatch.{PeBatch}
 use Rattle.goblin_pe_c_headers.specs.declared.cursor.PeCoffRelocationCursor.{PeCoffRelocationCursor}
 use Rattle.goblin_pe_c_headers.specs.declared.image.PeImage.{PeImage}
-use Rattle.goblin_pe_c_headers.specs.declared.section.Naming.{Naming}
 use Rattle.goblin_pe_c_headers.specs.declared.section.PeSection.{PeSection}
 use Rattle.goblin_pe_c_headers.specs.Calls.{ReadsWithout}
 use Rattle.goblin_pe_c_headers.specs.Onward.{Batch, GivesRows, no_batch}
@@ -82,62 +81,39 @@ with_name None row = row
 with_name (Some name) row =
     record row { name = name; section = record (row.section) { real_name = Some name } }
 
--- What the sections of an image are read by: the mode, the limit of a name, the file, the offset of
--- the string table in it, and how far the sections moved to the front.
-pub record NamingModel : Type 0 where
-  pub strict : Bool
-  pub longest : Option ℕ
-  pub bytes : List ℕ
-  pub strings : ℕ
-  pub displacement : Option ℕ
+-- the name from the string table of an image, if these eight bytes lead to one
+abbrev pub long_name : PeImage → List ℕ → Option (List ℕ)
+long_name image name =
+    real_name_in (is_strict (header_options image.options).parse_mode) (longest_of image.options)
+    image.bytes.now (symbols_end image.coff_header) name
 
-abbrev pub naming_for_c : Naming → NamingModel
-naming_for_c n = record {
-  strict = is_strict n.opts.parse_mode;
-  longest = n.longest;
-  bytes = n.bytes.now;
-  strings = n.strings;
-  displacement = n.displacement;
-}
-
--- those of a Terse Executable moved
-abbrev pub naming_of : PeImage → NamingModel
-naming_of image = record {
-  strict = is_strict (header_options image.options).parse_mode;
-  longest = longest_of image.options;
-  bytes = image.bytes.now;
-  strings = symbols_end image.coff_header;
-  displacement = if image.kind == 3 then Some image.moved_by else None;
-}
+-- how far the sections of an image moved to the front: those of a Terse Executable did
+abbrev pub displacement_of : PeImage → Option ℕ
+displacement_of image = if image.kind == 3 then Some image.moved_by else None
 
 -- the row of the section header with these bytes
-abbrev pub row_of : NamingModel → ℕ → List ℕ → SectionRow
-row_of n i header =
-    let s = section_moved n.displacement (section_record Little header) in
-    with_name (real_name_in n.strict n.longest n.bytes n.strings s.name)
-    (unnamed_row header i (unnamed s))
+abbrev pub row_of : PeImage → ℕ → List ℕ → SectionRow
+row_of image i header =
+    let s = section_moved (displacement_of image) (section_record Little header) in
+    with_name (long_name image s.name) (unnamed_row header i (unnamed s))
 
 -- the rows of the section headers in these bytes
-abbrev pub section_rows : NamingModel → List ℕ → List SectionRow
-section_rows n headers =
-    map (λ i. row_of n i (slice_range headers (40 * i) (40 * i + 40)))
+abbrev pub section_rows : PeImage → List ℕ → List SectionRow
+section_rows image headers =
+    map (λ i. row_of image i (slice_range headers (40 * i) (40 * i + 40)))
     (range_with_len 0 (length headers / 40))
-
-abbrev pub SectionBatch : Type 0
-SectionBatch = Batch ℕ PeSection
 
 -- A call has given the rows of an image's sections that come next; or its section headers are not
 -- there.
-abbrev pub ReadsSections : PeImage → SectionBatch → SectionBatch → PeBatch → Result Unit ErrorOf
-    → Type 0
+abbrev pub ReadsSections : PeImage → Batch ℕ PeSection → Batch ℕ PeSection → PeBatch
+    → Result Unit ErrorOf → Type 0
 ReadsSections image old new batch result =
     ReadsWithout (headers_there image.section_count image.section_table) image.bytes.now
-    (λ headers. GivesRows row_model (section_rows (naming_of image) headers) old new batch)
+    (λ headers. GivesRows row_model (section_rows image headers) old new batch)
     ((new ≡ old) × (batch ≡ no_batch)) result
 
 -- The rows of an image hold these sections: its section headers are there.
 abbrev pub RowsHold : PeImage → List Section → Type 0
 RowsHold image sections =
     IsSomeAnd ((headers_there image.section_count image.section_table).value image.bytes.now)
-    (λ headers.
-    map (λ (r : SectionRow). r.section) (section_rows (naming_of image) headers) ≡ sections)
+    (λ headers. map (λ (r : SectionRow). r.section) (section_rows image headers) ≡ sections)

@@ -21,11 +21,8 @@ pub record TeImage : Type 0 where
 unfoldable pub te_file : Reading TeImage
 te_file = mapped (λ both. record { header = both.0; sections = both.1 }) (te_image 0)
 
--- how many bytes the file lost at its front, beyond the 40 of this header
-abbrev pub moved_by : TeHeader → ℕ
-moved_by h = h.stripped_size - 40
-
--- the record of an image with this header
+-- the record of an image with this header; it moved by the bytes that the file lost at its front,
+-- beyond the 40 of the header
 abbrev pub te_record_of : PeOptions → TeHeader → PeImage → PeImage
 te_record_of o h image = record (zero_image o 3 image) {
   section_table = 40;
@@ -34,7 +31,7 @@ te_record_of o h image = record (zero_image o 3 image) {
     machine = h.machine;
     number_of_sections = h.number_of_sections;
   };
-  moved_by = moved_by h;
+  moved_by = h.stripped_size - 40;
 }
 
 -- what a caller passes in to be filled

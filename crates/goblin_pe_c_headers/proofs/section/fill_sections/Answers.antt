@@ -1,18 +1,18 @@
 use Rattle.std.proofs.Common.{◌≡◌, ◌+◌, ◌*◌, ◌/◌, ◌∙◌, ap, arith, length, refl, subst, sym, Some, true, false, ℕ, slice_get, slice_range}
 use Rattle.goblin_pe_c_headers.specs.Onward.{GivesRows}
-use Rattle.goblin_pe_c_headers.specs.Sections.{SectionRow, naming_for_c, row_of, row_model, section_rows}
+use Rattle.goblin_pe_c_headers.specs.Sections.{SectionRow, row_of, row_model, section_rows}
 use Rattle.goblin_pe_c_headers.proofs.GivenOnward.{AtIndex, onward-all, onward-full, onward-more, onward-start, row_inside, row_outside}
 use Rattle.goblin_pe_c_headers.proofs.section.fill_sections.Goals as goal
 
 pub records-init : goal.records-init
 records-init c =
-    let rows = section_rows (naming_for_c c.args.naming.now) c.args.headers.now in
+    let rows = section_rows c.args.image.now c.args.headers.now in
     let first = c.args.position.now in
     subst (λ (n : ℕ). AtIndex row_model rows first c.args.records.now n c.args.records.now 0) (omega arith) (onward-start row_model rows first c.args.records.now)
 
 pub records-preserved : goal.records-preserved
 records-preserved c =
-    let n = naming_for_c c.args.naming.now in
+    let n = c.args.image.now in
     let headers = c.args.headers.now in
     let i = c.args.position.now + c.records.i in
     let own = λ (k : ℕ). row_of n k (slice_range headers (40 * k) (40 * k + 40)) in
@@ -22,7 +22,7 @@ records-preserved c =
 
 pub returns-then-count-records : goal.returns-then-count-records
 returns-then-count-records c =
-    let n = naming_for_c c.args.naming.now in
+    let n = c.args.image.now in
     let headers = c.args.headers.now in
     let first = c.args.position.now in
     let own = λ (k : ℕ). row_of n k (slice_range headers (40 * k) (40 * k + 40)) in
@@ -37,7 +37,7 @@ returns-then-count-records c =
 
 pub returns-else-count-records : goal.returns-else-count-records
 returns-else-count-records c =
-    let n = naming_for_c c.args.naming.now in
+    let n = c.args.image.now in
     let headers = c.args.headers.now in
     let first = c.args.position.now in
     let all : c.records.i ≡ c.min-count.result = omega (arith, c.records-test.false, c.records.auto.i-end) in
