@@ -2,8 +2,8 @@
 
 ghost use Rattle.std.specs.Prelude.{◌≡◌, ◌<◌, ◌^◌, IfOk, MatchResult, length, slice_get};
 ghost use Rattle.goblin_base.specs.Reading.{Reads};
-ghost use Rattle.goblin_pe_head.specs.RichMetadata.{metadata_at, metadata_items};
-ghost use Rattle.goblin_pe_c_headers.specs.Items.{values_of};
+ghost use Rattle.goblin_base.specs.Tables.{records_in};
+ghost use Rattle.goblin_pe_head.specs.RichMetadata.{metadata_at};
 ghost use Rattle.goblin_pe_c_headers.specs.Onward.{rows_at};
 ghost use Rattle.goblin_pe_c_headers.specs.RichHeaders.{GivesEntries, GivesEntriesOf};
 ghost use Rattle.goblin_pe_c_headers.specs.RichHeaders.{HeaderIsWalked, IsRefusedEntry};
@@ -49,9 +49,9 @@ fn entry_of(bytes: &[u8], key: u32) -> RichMetadata
 }
 
 // The entry at an index, if there is one.
-#[tactic(auto, using(crate::proofs::RichEntries::entry_inside, crate::proofs::RichEntries::entry_outside))]
+#[tactic(auto, using(crate::proofs::GivenOnward::record_inside, crate::proofs::GivenOnward::record_outside))]
 fn entry_at(key: u32, stretch: &[u8], index: usize) -> Option<RichMetadata>
-    ensures { result ≡ slice_get (values_of (metadata_items key stretch.now)) index }
+    ensures { result ≡ slice_get (records_in 8 (λ e. metadata_at key e 0) stretch.now) index }
 {
     if stretch.len() / SIZE <= index {
         return None;

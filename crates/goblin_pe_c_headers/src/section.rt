@@ -228,18 +228,18 @@ fn fill_sections<'a>(
     ensures { GivesRows row_model (section_rows image.now headers.now)
         (rows_at position.old records.old) (rows_at position.new records.new) result }
 {
-    let first = *position;
     let there = headers.len() / SIZEOF_SECTION_TABLE;
-    let count = there.saturating_sub(first).min(records.len());
-    'records: for i in 0..count {
-        put_row(&mut records[i], image, headers, first + i);
+    let mut index = *position;
+    'records: for count in 0..records.len() {
+        if there <= index {
+            *position = index;
+            return ended(count);
+        }
+        put_row(&mut records[count], image, headers, index);
+        index += 1;
     }
-    *position = first + count;
-    if count < records.len() {
-        ended(count)
-    } else {
-        goes_on(count)
-    }
+    *position = index;
+    goes_on(records.len())
 }
 
 /// Gives the next section headers. Never faults on a name: a read of an image has tested them, and
