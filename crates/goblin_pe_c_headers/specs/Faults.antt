@@ -14,8 +14,6 @@ use Rattle.goblin_base.specs.declared.error.CauseOf.TheVariants as cause
 use Rattle.goblin_pe_c_headers.specs.declared.fault.PeFault.{PeFault}
 use Rattle.goblin_pe_c_headers.specs.declared.options.PeOptions.{PeOptions}
 use Rattle.goblin_pe_c_headers.specs.Options.{are_known}
-use Rattle.goblin_pe_c_headers.specs.declared.fault.Status.{Status}
-use Rattle.goblin_pe_c_headers.specs.declared.fault.Status.TheVariants as status
 
 abbrev pub fault : ℕ → ℕ → ℕ → ℕ → PeFault
 fault status cause first second = record {
@@ -24,18 +22,6 @@ fault status cause first second = record {
   first = first;
   second = second;
 }
-
--- the number of a status
-abbrev pub number_of : Status → ℕ
-number_of status.Ok = 0
-number_of status.Malformed = 1
-number_of status.BadMagic = 2
-number_of status.BufferTooShort = 3
-number_of status.Read = 4
-number_of status.Memory = 5
-number_of status.Options = 6
-number_of status.Steps = 7
-number_of status.Kind = 8
 
 -- what a file is too short for, by its number
 abbrev pub word_number : List ℕ → ℕ
@@ -113,40 +99,18 @@ image_fault kind o = if kind == 1 then options_fault o else kind_fault kind
 -- Number 1 is a message of the caller's, which has no numbers.
 abbrev pub causes : ℕ → ℕ → List CauseOf
 causes first second =
-    cause.NoDosSignature
-    ∷ cause.DosMagic (first % 2 ^ 16)
-    ∷ cause.NoPePointer
-    ∷ cause.NoPeSignature first
-    ∷ cause.PeMagic (first % 2 ^ 32)
-    ∷ cause.StubBeforeStart (first % 2 ^ 32)
-    ∷ cause.StubPastEnd first second
-    ∷ cause.NoDans
-    ∷ cause.RichBounds first second
-    ∷ cause.StrippedSize (first % 2 ^ 32)
-    ∷ cause.CoffLength
-    ∷ cause.DirectoryIndex first
-    ∷ cause.DirectoryCount first
-    ∷ cause.NameText
-    ∷ cause.NameBase64
-    ∷ cause.NameDecimal
-    ∷ cause.NameOffset first
-    ∷ cause.SymbolName (first % 2 ^ 32)
-    ∷ cause.StringTable first second
-    ∷ cause.FieldTooWide
-    ∷ cause.Unmapped first
-    ∷ cause.NameRead first
-    ∷ cause.HintEntry first
-    ∷ cause.LookupEnd first
-    ∷ cause.ImportRecordEnd first
-    ∷ cause.ExportTable first
-    ∷ cause.Forwarder
-    ∷ cause.ForwarderOrdinal
-    ∷ cause.RelocRange first (second % 2 ^ 32)
-    ∷ cause.BlockSize (first % 2 ^ 32)
-    ∷ cause.BlockRange first second
-    ∷ cause.Overflow
-    ∷ cause.SlotCount first second
-    ∷ []
+    cause.NoDosSignature ∷ cause.DosMagic (first % 2 ^ 16) ∷ cause.NoPePointer
+    ∷ cause.NoPeSignature first ∷ cause.PeMagic (first % 2 ^ 32)
+    ∷ cause.StubBeforeStart (first % 2 ^ 32) ∷ cause.StubPastEnd first second ∷ cause.NoDans
+    ∷ cause.RichBounds first second ∷ cause.StrippedSize (first % 2 ^ 32) ∷ cause.CoffLength
+    ∷ cause.DirectoryIndex first ∷ cause.DirectoryCount first ∷ cause.NameText ∷ cause.NameBase64
+    ∷ cause.NameDecimal ∷ cause.NameOffset first ∷ cause.SymbolName (first % 2 ^ 32)
+    ∷ cause.StringTable first second ∷ cause.FieldTooWide ∷ cause.Unmapped first
+    ∷ cause.NameRead first ∷ cause.HintEntry first ∷ cause.LookupEnd first
+    ∷ cause.ImportRecordEnd first ∷ cause.ExportTable first ∷ cause.Forwarder
+    ∷ cause.ForwarderOrdinal ∷ cause.RelocRange first (second % 2 ^ 32)
+    ∷ cause.BlockSize (first % 2 ^ 32) ∷ cause.BlockRange first second ∷ cause.Overflow
+    ∷ cause.SlotCount first second ∷ []
 
 -- the cause with these numbers
 abbrev pub cause_of : PeFault → Option CauseOf

@@ -6,7 +6,7 @@ ghost use Rattle.goblin_base.specs.declared.error.ErrorOf.TheVariants.{Malformed
 ghost use Rattle.goblin_base.specs.ErrorText.{error_text};
 ghost use Rattle.goblin_pe_c_headers.specs.Faults.{IsNumbered, IsTextOf, call_text, cause_of};
 ghost use Rattle.goblin_pe_c_headers.specs.Faults.{causes, fault, fault_of, file_text, image_fault};
-ghost use Rattle.goblin_pe_c_headers.specs.Faults.{kind_fault, no_fault, number_of, options_fault};
+ghost use Rattle.goblin_pe_c_headers.specs.Faults.{kind_fault, no_fault, options_fault};
 ghost use Rattle.goblin_pe_c_headers.specs.Faults.{read_fault_of, refusal_text, status_of};
 ghost use Rattle.goblin_pe_c_headers.specs.Faults.{word_number, word_of};
 ghost use Rattle.goblin_pe_c_headers.specs.Filled.{Filled};
@@ -27,7 +27,6 @@ fn item_at<T: Copy>(table: &[T], index: u32) -> Option<T>
 
 /// What kind of refusal it is. A later version may add numbers, here and to the causes, but changes
 /// none.
-#[derive(Copy, Clone)]
 pub enum Status {
     /// Nothing is refused.
     Ok = 0,
@@ -168,11 +167,11 @@ pub struct PeFault {
 }
 
 // A fault of this status.
-fn fault(status: Status, cause: u32, first: u64, second: u64) -> PeFault
-    ensures { result ≡ fault (number_of status) cause first second }
+fn fault(status: u32, cause: u32, first: u64, second: u64) -> PeFault
+    ensures { result ≡ fault status cause first second }
 {
     PeFault {
-        status: status as u32,
+        status,
         cause,
         first,
         second,
@@ -183,7 +182,7 @@ fn fault(status: Status, cause: u32, first: u64, second: u64) -> PeFault
 fn malformed(cause: u32, first: usize, second: usize) -> PeFault
     ensures { result ≡ fault 1 cause first second }
 {
-    fault(Status::Malformed, cause, first as u64, second as u64)
+    fault(Status::Malformed as u32, cause, first as u64, second as u64)
 }
 
 // The number of what a file is too short for.
@@ -215,7 +214,7 @@ fn read_number(refused: &ReadFault) -> u32
 pub fn no_fault() -> PeFault
     ensures { result ≡ no_fault }
 {
-    fault(Status::Ok, 0, 0, 0)
+    fault(Status::Ok as u32, 0, 0, 0)
 }
 
 /// Why a call with these options is refused before it begins; no fault if they are known.
@@ -225,7 +224,7 @@ pub fn refused_call(options: &PeOptions) -> PeFault
     if are_known(options) {
         no_fault()
     } else {
-        fault(Status::Options, 0, u64::from(options.mapping), 0)
+        fault(Status::Options as u32, 0, u64::from(options.mapping), 0)
     }
 }
 
@@ -236,7 +235,7 @@ pub fn refused_kind(kind: u32) -> PeFault
     if kind == Kind::Image as u32 {
         no_fault()
     } else {
-        fault(Status::Kind, 0, u64::from(kind), 0)
+        fault(Status::Kind as u32, 0, u64::from(kind), 0)
     }
 }
 
@@ -255,7 +254,7 @@ pub fn refused_image(kind: u32, options: &PeOptions) -> PeFault
 pub fn out_of_steps() -> PeFault
     ensures { result ≡ fault 7 0 0 0 }
 {
-    fault(Status::Steps, 0, 0, 0)
+    fault(Status::Steps as u32, 0, 0, 0)
 }
 
 // The numbers of a cause.
@@ -309,12 +308,13 @@ pub fn fault_of(error: &Error) -> PeFault
 {
     match error {
         Error::Malformed(cause) => cause_for_c(cause),
-        Error::BadMagic(magic) => fault(Status::BadMagic, 0, *magic, 0),
+        Error::BadMagic(magic) => fault(Status::BadMagic as u32, 0, *magic, 0),
         Error::BufferTooShort(count, what) => {
-            fault(Status::BufferTooShort, word_number(what), *count as u64, 0)
+            let status = Status::BufferTooShort as u32;
+            fault(status, word_number(what), *count as u64, 0)
         }
-        Error::Read(refused) => fault(Status::Read, read_number(refused), 0, 0),
-        Error::Memory(_) => fault(Status::Memory, 0, 0, 0),
+        Error::Read(refused) => fault(Status::Read as u32, read_number(refused), 0, 0),
+        Error::Memory(_) => fault(Status::Memory as u32, 0, 0, 0),
     }
 }
 
