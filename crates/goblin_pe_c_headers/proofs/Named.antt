@@ -23,7 +23,7 @@ use Rattle.goblin_pe_head.specs.TeHeader.{section_adjusted, section_moved}
 use Rattle.goblin_pe_c_headers.specs.declared.image.PeImage.{PeImage}
 use Rattle.goblin_pe_c_headers.specs.Options.{header_options, longest_of}
 use Rattle.goblin_pe_c_headers.specs.Places.{headers_there}
-use Rattle.goblin_pe_c_headers.specs.Sections.{RowsHold, SectionRow, displacement_of, long_name, named_in, real_name_in, row_of, section_rows, unnamed_row, with_name}
+use Rattle.goblin_pe_c_headers.specs.Sections.{RowsHold, SectionRow, displacement_of, long_name, named_in, real_name_in, row_of, section_rows}
 use Rattle.goblin_pe_c_headers.proofs.GivenOnward.{record_inside}
 use Rattle.goblin_pe_c_headers.proofs.PlacedSections.{placed, value}
 
@@ -104,18 +104,11 @@ abbrev row_section : PeImage → Section → Section
 row_section n s =
     let moved = section_moved (displacement_of n) s in record moved { real_name = long_name n moved.name }
 
-row-section : (name : Option (List ℕ)) (header : List ℕ) (i : ℕ) (s : Section) → (with_name name (unnamed_row header i (unnamed s))).section ≡ record s { real_name = name }
-row-section None header i s = refl
-row-section (Some name) header i s = refl
-
 rows-of : (n : PeImage) (headers : List ℕ) (len start : ℕ)
     → map (λ (r : SectionRow). r.section) (map (λ (i : ℕ). row_of n i (slice_range headers (40 * i) (40 * i + 40))) (range_with_len start len))
     ≡ map (row_section n) (map (λ (i : ℕ). section_record Little (slice_range headers (40 * i) (40 * i + 40))) (range_with_len start len))
 rows-of n headers zero start = refl
-rows-of n headers (suc len) start =
-    let header = slice_range headers (40 * start) (40 * start + 40) in
-    let s = section_moved (displacement_of n) (section_record Little header) in
-    rw (row-section (long_name n s.name) header start s, rows-of n headers len (start + 1)) refl
+rows-of n headers (suc len) start = rw (rows-of n headers len (start + 1)) refl
 
 rows-sections : (n : PeImage) (headers : List ℕ) → map (λ (r : SectionRow). r.section) (section_rows n headers) ≡ map (row_section n) (sections_in headers)
 unfolding records_in
@@ -140,9 +133,13 @@ pub some-weaker : {A : Type 0} (v : Option A) (P Q : A → Type 0) → ((a : A) 
 some-weaker None P Q then h = absurd h
 some-weaker (Some a) P Q then h = then a h
 
+-- the sections that are read by an image's record
+abbrev pub read_sections : Bool → List ℕ → PeImage → Option (List Section)
+read_sections strict bytes image = all_at (value strict (symbols_end image.coff_header) bytes image.section_table) image.section_count
+
 -- The rows of an image hold the sections that are read with their whole names, and moved.
 pub rows_hold : (image : PeImage) (all : List Section) (d : Option ℕ) → longest_of image.options ≡ None → displacement_of image ≡ d
-    → all_at (value (is_strict (header_options image.options).parse_mode) (symbols_end image.coff_header) image.bytes.now image.section_table) image.section_count ≡ Some all
+    → read_sections (is_strict (header_options image.options).parse_mode) image.bytes.now image ≡ Some all
     → RowsHold image (map (section_moved d) all)
 rows_hold image all d whole moved read =
     let strict = is_strict (header_options image.options).parse_mode in

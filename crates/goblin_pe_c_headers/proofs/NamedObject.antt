@@ -1,5 +1,5 @@
 -- Sections of an object that were read have their names from its string table.
-use Rattle.std.proofs.Common.{◌≡◌, ap, refl, subst, None}
+use Rattle.std.proofs.Common.{◌≡◌, ◌∙◌, ap, subst, None}
 use Rattle.goblin_base.specs.declared.endian.Endian.TheVariants.{Little}
 use Rattle.goblin_base.specs.Record.{record_at}
 use Rattle.goblin_base.proofs.Steps.{mapped, step}
@@ -9,8 +9,8 @@ use Rattle.goblin_pe_head.specs.CoffReadings.{sections_at}
 use Rattle.goblin_pe_c_headers.specs.declared.image.PeImage.{PeImage}
 use Rattle.goblin_pe_c_headers.specs.Objects.{ObjectFile, ObjectRowsAreRead, object_file, object_image, object_sections}
 use Rattle.goblin_pe_c_headers.specs.Options.{header_options}
-use Rattle.goblin_pe_c_headers.specs.Sections.{RowsHold}
-use Rattle.goblin_pe_c_headers.proofs.Named.{rows_hold, unmoved}
+use Rattle.goblin_pe_c_headers.specs.Sections.{RowsHold, displacement_of}
+use Rattle.goblin_pe_c_headers.proofs.Named.{read_sections, rows_hold, unmoved}
 
 pub object_rows : ObjectRowsAreRead
 unfolding ObjectRowsAreRead object_file sections_at
@@ -20,10 +20,6 @@ object_rows image x whole read is =
     let sections = mapped ((object_sections strict header.value).value image.bytes.now) _ x header.then in
     subst (λ (y : ObjectFile). image ≡ object_image image.options y.header image → RowsHold image y.sections) sections.made
     (λ filled.
-    let kind = ap (λ (i : PeImage). i.kind) filled in
-    let coff = ap (λ (i : PeImage). i.coff_header) filled in
-    let table = ap (λ (i : PeImage). i.section_table) filled in
-    let count = ap (λ (i : PeImage). i.section_count) filled in
     subst (RowsHold image) (unmoved sections.value)
-    (rows_hold image sections.value None whole (rw kind refl) (rw (coff, table, count) sections.is)))
+    (rows_hold image sections.value None whole (ap displacement_of filled) (ap (read_sections strict image.bytes.now) filled ∙ sections.is)))
     is

@@ -10,9 +10,9 @@ use Rattle.goblin_pe_head.specs.declared.header.te.TeHeader.{TeHeader}
 use Rattle.goblin_pe_head.specs.TeHeader.{displacement, section_moved}
 use Rattle.goblin_pe_head.specs.TeReadings.{te_header, te_image, te_sections_at}
 use Rattle.goblin_pe_c_headers.specs.declared.image.PeImage.{PeImage}
-use Rattle.goblin_pe_c_headers.specs.Sections.{RowsHold}
+use Rattle.goblin_pe_c_headers.specs.Sections.{RowsHold, displacement_of}
 use Rattle.goblin_pe_c_headers.specs.TeImages.{TeImage, TeRowsAreRead, te_file, te_record_of}
-use Rattle.goblin_pe_c_headers.proofs.Named.{rows_hold}
+use Rattle.goblin_pe_c_headers.proofs.Named.{read_sections, rows_hold}
 use Rattle.goblin_pe_c_headers.proofs.PlacedSections.{value}
 
 pub te_rows : TeRowsAreRead
@@ -31,11 +31,7 @@ te_rows image x whole strict read is =
     subst (λ (y : TeImage). image ≡ te_record_of image.options y.header image → RowsHold image y.sections) all.made
     (subst (λ (both : TeHeader × List Section). image ≡ te_record_of image.options both.0 image → RowsHold image both.1) s2.made
     (λ filled.
-    let kind = ap (λ (i : PeImage). i.kind) filled in
-    let moved = ap (λ (i : PeImage). i.moved_by) filled in
-    let coff = ap (λ (i : PeImage). i.coff_header) filled in
-    let table = ap (λ (i : PeImage). i.section_table) filled in
-    let count = ap (λ (i : PeImage). i.section_count) filled in
     subst (RowsHold image) own.made
-    (rows_hold image own.value (Some s.value) whole (rw (kind, moved) (ap (λ (d : ℕ). Some d) (cond_some _ _ s.value s.is).1)) (rw (strict, coff, table, count) own.is))))
+    (rows_hold image own.value (Some s.value) whole (ap displacement_of filled ∙ ap (λ (d : ℕ). Some d) (cond_some _ _ s.value s.is).1)
+    (rw strict (ap (read_sections true bytes) filled ∙ own.is)))))
     is

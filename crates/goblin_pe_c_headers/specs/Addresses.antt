@@ -2,6 +2,7 @@
 use Rattle.std.specs.Prelude.{ℕ, ◌^◌, nat_lt, if◌then◌else◌, List, [], Option, Some, None, find}
 use Rattle.std.specs.Prelude.{option_and_then, option_map}
 use Rattle.std.specs.Option.{is_some}
+use Rattle.goblin_base.specs.Answers.{◌>>=◌}
 use Rattle.goblin_base.specs.Reading.{Reading}
 use Rattle.readings.specs.Reads.{text_within}
 use Rattle.goblin_pe_sect.specs.AddressReadings.{at_address}
@@ -60,14 +61,10 @@ first_address m offset =
     else Some offset
 
 -- this address, if it is mapped back to the offset
-abbrev pub mapped_address : MappedImage → ℕ → Option ℕ
-mapped_address m offset =
-    option_and_then (λ rva. if is_at offset (mapped_offset m rva) then Some rva else None)
-    (first_address m offset)
-
 abbrev pub image_address : PeOptions → PePlaces → List ℕ → ℕ → Option ℕ
 image_address o p bytes offset =
-    option_and_then (λ m. mapped_address m offset) (mapped_image o p bytes)
+    mapped_image o p bytes >>= λ m. first_address m offset
+    >>= λ rva. if is_at offset (mapped_offset m rva) then Some rva else None
 
 -- the text at an address, cut if the options set a limit
 abbrev pub text_at : PeOptions → PePlaces → List ℕ → ℕ → Reading (List ℕ)

@@ -1,7 +1,7 @@
 -- The rows of sections, as definitions.
 use Rattle.std.specs.Prelude.{◌≡◌, IsSomeAnd, ℕ, Bool, if◌then◌else◌, List, Option, Some, None}
 use Rattle.std.specs.Prelude.{Result, ◌+◌, ◌*◌, ◌/◌, ◌==◌, map, length, option_and_then}
-use Rattle.std.specs.Prelude.{slice_range, take}
+use Rattle.std.specs.Prelude.{slice_range, take, unwrap_or}
 use Rattle.std.specs.List.{range_with_len}
 use Rattle.goblin_base.specs.declared.error.ErrorOf.{ErrorOf}
 use Rattle.goblin_base.specs.declared.endian.Endian.TheVariants.{Little}
@@ -9,7 +9,7 @@ use Rattle.goblin_base.specs.Bytes.{before_nul}
 use Rattle.readings.specs.Reads.{◌>>=◌, taken, text_within}
 use Rattle.goblin_pe_sect.specs.Options.{is_strict}
 use Rattle.goblin_pe_sect.specs.SectionName.{name_value}
-use Rattle.goblin_pe_sect.specs.SectionTable.{Section, section_record, unnamed}
+use Rattle.goblin_pe_sect.specs.SectionTable.{Section, section_record}
 use Rattle.goblin_pe_head.specs.CoffHeader.{symbols_end}
 use Rattle.goblin_pe_head.specs.TeHeader.{section_moved}
 use Rattle.goblin_pe_c_headers.specs.declared.batch.PeBatch.{PeBatch}
@@ -65,22 +65,6 @@ row_model s = record {
   relocations = s.relocations;
 }
 
--- the row of a section with its stored name alone: the bytes at the front of its header before a
--- NUL
-abbrev pub unnamed_row : List ℕ → ℕ → Section → SectionRow
-unnamed_row header i s = record {
-  section = s;
-  name = before_nul (take 8 header);
-  index = i;
-  relocations = relocations_begin s;
-}
-
--- a row with a name from the string table, if there is one
-abbrev pub with_name : Option (List ℕ) → SectionRow → SectionRow
-with_name None row = row
-with_name (Some name) row =
-    record row { name = name; section = record (row.section) { real_name = Some name } }
-
 -- the name from the string table of an image, if these eight bytes lead to one
 abbrev pub long_name : PeImage → List ℕ → Option (List ℕ)
 long_name image name =
@@ -91,11 +75,18 @@ long_name image name =
 abbrev pub displacement_of : PeImage → Option ℕ
 displacement_of image = if image.kind == 3 then Some image.moved_by else None
 
--- the row of the section header with these bytes
+-- the row of the section header with these bytes; its name is from the string table, or else the
+-- bytes at the front of the header before a NUL
 abbrev pub row_of : PeImage → ℕ → List ℕ → SectionRow
 row_of image i header =
     let s = section_moved (displacement_of image) (section_record Little header) in
-    with_name (long_name image s.name) (unnamed_row header i (unnamed s))
+    let name = long_name image s.name in
+    record {
+      section = record s { real_name = name };
+      name = unwrap_or name (before_nul (take 8 header));
+      index = i;
+      relocations = relocations_begin s;
+    }
 
 -- the rows of the section headers in these bytes
 abbrev pub section_rows : PeImage → List ℕ → List SectionRow

@@ -10,7 +10,7 @@ ghost use Rattle.goblin_pe_c_headers.specs.Onward.{GivesRows, rows_at};
 ghost use Rattle.goblin_pe_c_headers.specs.Relocations.{relocations_begin};
 ghost use Rattle.goblin_pe_c_headers.specs.Sections.{ReadsSections, displacement_of, long_name};
 ghost use Rattle.goblin_pe_c_headers.specs.Sections.{row_model, row_of, section_model};
-ghost use Rattle.goblin_pe_c_headers.specs.Sections.{section_rows, unnamed_row, with_name};
+ghost use Rattle.goblin_pe_c_headers.specs.Sections.{section_rows};
 ghost use Rattle.goblin_pe_c_headers.specs.Written.{Output, SetsName, WritesSection};
 
 use crate::batch::{PeBatch, ended, goes_on};
@@ -85,14 +85,28 @@ pub(crate) fn section_of(section: &PeSection) -> SectionTable
 }
 
 // The name of a section from the string table, by the number in its eight bytes.
+#[inline(never)]
 #[tactic(auto, unfolding(crate::specs::Sections::real_name_in))]
-fn long_name<'a>(image: &PeImage<'a>, section: &SectionTable) -> Option<&'a str>
+fn any_long_name<'a>(image: &PeImage<'a>, section: &SectionTable) -> Option<&'a str>
     ensures { option_map (λ s. s.now) result ≡ long_name image.now section.now.name }
 {
     let opts = header_options(&image.options);
     let offset = section.name_offset_with_opts(&opts).ok()??;
     let place = image.coff_header.symbols_end().checked_add(offset)?;
     pread_str_within(image.bytes, place, longest_of(&image.options)).ok()
+}
+
+// The same, without a call if the name begins with no slash, as most names do.
+#[inline(always)]
+#[tactic(auto, unfolding(crate::specs::Sections::real_name_in, goblin_pe_sect::specs::SectionName::name_value))]
+fn long_name<'a>(image: &PeImage<'a>, section: &SectionTable) -> Option<&'a str>
+    ensures { option_map (λ s. s.now) result ≡ long_name image.now section.now.name }
+{
+    if section.name[0] == b'/' {
+        any_long_name(image, section)
+    } else {
+        None
+    }
 }
 
 // Where the walk over the relocations of a section begins.
@@ -132,57 +146,6 @@ fn any_raw_name(header: &[u8]) -> &[u8]
     before_nul(&header[..8])
 }
 
-// The row of a section with its stored name, which is at the front of its header.
-#[inline(always)]
-fn unnamed_row<'a>(header: &'a [u8], index: usize, section: &SectionTable) -> PeSection<'a>
-    requires { length header.now ≡ 40 }
-    ensures { row_model result ≡ unnamed_row header.now index (unnamed section.now) }
-{
-    PeSection {
-        name: raw_name(header),
-        index,
-        relocations: relocations_begin(section),
-        stored_name: section.name,
-        virtual_size: section.virtual_size,
-        virtual_address: section.virtual_address,
-        size_of_raw_data: section.size_of_raw_data,
-        pointer_to_raw_data: section.pointer_to_raw_data,
-        pointer_to_relocations: section.pointer_to_relocations,
-        pointer_to_linenumbers: section.pointer_to_linenumbers,
-        number_of_relocations: section.number_of_relocations,
-        number_of_linenumbers: section.number_of_linenumbers,
-        characteristics: section.characteristics,
-        has_long_name: false,
-        reserved: [0; 7],
-    }
-}
-
-// Gives a row its name from the string table, if there is one.
-#[inline(never)]
-fn give_long_name<'a>(row: &mut PeSection<'a>, image: &PeImage<'a>, section: &SectionTable)
-    requires { (row_model row.old).section ≡ unnamed section.now }
-    ensures { row_model row.new
-        ≡ with_name (long_name image.now section.now.name) (row_model row.old) }
-{
-    if let Some(name) = long_name(image, section) {
-        row.name = name.as_bytes();
-        row.has_long_name = true;
-    }
-}
-
-// The same, without a call if the name begins with no slash, as most names do.
-#[inline(always)]
-#[tactic(auto, unfolding(crate::specs::Sections::real_name_in, goblin_pe_sect::specs::SectionName::name_value))]
-fn name_row<'a>(row: &mut PeSection<'a>, image: &PeImage<'a>, section: &SectionTable)
-    requires { (row_model row.old).section ≡ unnamed section.now }
-    ensures { row_model row.new
-        ≡ with_name (long_name image.now section.now.name) (row_model row.old) }
-{
-    if section.name[0] == b'/' {
-        give_long_name(row, image, section);
-    }
-}
-
 // The section of a section header, where it is in the file.
 #[inline(always)]
 #[tactic(auto, using(crate::proofs::Named::section_inside, crate::proofs::Named::section_there))]
@@ -213,8 +176,27 @@ fn put_row<'a>(place: &mut PeSection<'a>, image: &PeImage<'a>, headers: &'a [u8]
     let begin = SIZEOF_SECTION_TABLE * index;
     let header = &headers[begin..begin + SIZEOF_SECTION_TABLE];
     let section = stored_section(headers, index, displacement_of(image));
-    *place = unnamed_row(header, index, &section);
-    name_row(place, image, &section);
+    let long_name = long_name(image, &section);
+    *place = PeSection {
+        name: match long_name {
+            Some(name) => name.as_bytes(),
+            None => raw_name(header),
+        },
+        index,
+        relocations: relocations_begin(&section),
+        stored_name: section.name,
+        virtual_size: section.virtual_size,
+        virtual_address: section.virtual_address,
+        size_of_raw_data: section.size_of_raw_data,
+        pointer_to_raw_data: section.pointer_to_raw_data,
+        pointer_to_relocations: section.pointer_to_relocations,
+        pointer_to_linenumbers: section.pointer_to_linenumbers,
+        number_of_relocations: section.number_of_relocations,
+        number_of_linenumbers: section.number_of_linenumbers,
+        characteristics: section.characteristics,
+        has_long_name: long_name.is_some(),
+        reserved: [0; 7],
+    };
 }
 
 // Fills rows with section headers from the index `position` on, as far as there is room, and moves
