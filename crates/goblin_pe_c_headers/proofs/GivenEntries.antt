@@ -1,5 +1,5 @@
 -- The entries of a Rich header fill records from an index on.
-use Rattle.std.proofs.Common.{ap, Option, ◌≡◌, ◌≢◌, ◌<◌, ◌≤◌, ◌+◌, ◌%◌, ◌^◌, ℕ, List, length, set, true, false, refl, arith, Some, None, slice_get}
+use Rattle.std.proofs.Common.{ap, Option, ◌≡◌, ◌≢◌, ◌<◌, ◌+◌, ◌%◌, ◌^◌, ℕ, List, length, set, true, false, refl, arith, Some, None, slice_get}
 use Rattle.std.proofs.lemmas.Option.{slice_get_within}
 use Rattle.goblin_base.specs.declared.error.ErrorOf.TheVariants.{Read}
 use Rattle.goblin_base.specs.declared.error.ReadFault.TheVariants.{TooBig}

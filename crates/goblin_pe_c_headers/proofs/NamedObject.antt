@@ -6,7 +6,6 @@ use Rattle.goblin_base.proofs.Steps.{mapped, step}
 use Rattle.goblin_pe_sect.specs.Options.{is_strict}
 use Rattle.goblin_pe_head.specs.CoffHeader.{coff_header}
 use Rattle.goblin_pe_head.specs.CoffReadings.{sections_at}
-use Rattle.goblin_pe_c_headers.specs.declared.image.PeImage.{PeImage}
 use Rattle.goblin_pe_c_headers.specs.Objects.{ObjectFile, ObjectRowsAreRead, object_file, object_image, object_sections}
 use Rattle.goblin_pe_c_headers.specs.Options.{header_options}
 use Rattle.goblin_pe_c_headers.specs.Sections.{RowsHold, displacement_of}

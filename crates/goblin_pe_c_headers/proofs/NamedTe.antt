@@ -9,7 +9,6 @@ use Rattle.goblin_pe_sect.specs.SectionTable.{Section}
 use Rattle.goblin_pe_head.specs.declared.header.te.TeHeader.{TeHeader}
 use Rattle.goblin_pe_head.specs.TeHeader.{displacement, section_moved}
 use Rattle.goblin_pe_head.specs.TeReadings.{te_header, te_image, te_sections_at}
-use Rattle.goblin_pe_c_headers.specs.declared.image.PeImage.{PeImage}
 use Rattle.goblin_pe_c_headers.specs.Sections.{RowsHold, displacement_of}
 use Rattle.goblin_pe_c_headers.specs.TeImages.{TeImage, TeRowsAreRead, te_file, te_record_of}
 use Rattle.goblin_pe_c_headers.proofs.Named.{read_sections, rows_hold}

@@ -1,5 +1,5 @@
 -- The section headers that sections are read from.
-use Rattle.std.proofs.Common.{◌≡◌, ◌≢◌, ◌∙◌, ℕ, zero, suc, ◌+◌, ◌-◌, ◌*◌, ◌/◌, ◌<◌, ◌≤◌, true, false, Bool, List, Option, None, Some, ap, arith, length, map, refl, rules, subst, sym, tests, ◌==◌, nat_le, nat_lt, option_map, slice_range, ne_eqb, min}
+use Rattle.std.proofs.Common.{◌≡◌, ◌≢◌, ◌∙◌, ℕ, zero, suc, ◌+◌, ◌-◌, ◌*◌, ◌/◌, ◌≤◌, false, Bool, List, Option, None, Some, ap, arith, length, map, refl, subst, sym, ◌==◌, option_map, ne_eqb, min}
 use Rattle.goblin_base.specs.Answers.{all_at}
 use Rattle.goblin_base.proofs.Numbers.{slice_at-inside}
 use Rattle.goblin_base.proofs.Steps.{all_at-each, all_at-zero}

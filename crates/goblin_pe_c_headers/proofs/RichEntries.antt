@@ -1,5 +1,5 @@
 -- The entries of a Rich header by their indexes, and the rest after them.
-use Rattle.std.proofs.Common.{append-nil, ◌≡◌, ◌≢◌, ℕ, ◌+◌, ◌*◌, ◌/◌, ◌%◌, ◌<◌, ◌≤◌, Bool, true, false, List, [], ◌∷◌, ◌++◌, length, map, drop, ap, refl, sym, arith, ◌∙◌, inl, inr, Result, Ok, Some, None, Option, ◌==◌, slice_get, slice_range, drop_of_length-le}
+use Rattle.std.proofs.Common.{◌≡◌, ◌≢◌, ℕ, ◌+◌, ◌/◌, ◌%◌, ◌<◌, ◌≤◌, Bool, true, false, List, [], ◌∷◌, ◌++◌, length, map, drop, ap, refl, sym, arith, ◌∙◌, inl, inr, Result, Ok, Some, None, Option, ◌==◌, slice_get, drop_of_length-le}
 use Rattle.std.proofs.lemmas.Bool.{cases_Bool, eqb-false, eqb-true}
 use Rattle.std.proofs.lemmas.List.{drop-append-le, drop-map, length-append, length-map}
 use Rattle.std.proofs.lemmas.Option.{slice_get_within}

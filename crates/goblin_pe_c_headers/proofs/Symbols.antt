@@ -1,5 +1,5 @@
 -- The symbols of a table from an index on, one by one.
-use Rattle.std.proofs.Common.{◌≡◌, ◌<◌, ◌≤◌, ℕ, suc, ◌+◌, ◌/◌, List, length, take, set, true, false, arith, ap, refl, Option, Some, take_all}
+use Rattle.std.proofs.Common.{◌≡◌, ◌<◌, ◌≤◌, ℕ, suc, ◌+◌, ◌/◌, List, length, take, set, true, arith, ap, refl, Option, Some, take_all}
 use Rattle.goblin_pe_symbol.specs.Symbols.{SymbolItem, aux, symbol_of}
 use Rattle.goblin_pe_symbol.proofs.SymbolHeads.{symbols_next, symbols_past}
 use Rattle.goblin_pe_c_headers.specs.declared.symbol.PeSymbol.{PeSymbol}
