@@ -6,15 +6,12 @@ use Rattle.goblin_base.specs.declared.error.ReadFault.TheVariants.{TooBig}
 use Rattle.goblin_pe_head.specs.declared.header.rich.RichMetadata.{RichMetadata}
 use Rattle.goblin_pe_c_headers.specs.RichHeaders.{GivesEntriesOf, IsRefusedEntry, entries_from, is_rest, rich_table}
 use Rattle.goblin_pe_c_headers.proofs.Batches.{items-fault, items-refused, done-refused}
-use Rattle.goblin_pe_c_headers.proofs.GivenOnward.{AtIndex, index-end, index-more, index-start}
+use Rattle.goblin_pe_c_headers.proofs.GivenOnward.{AtIndex, index-end, index-more}
 use Rattle.goblin_pe_c_headers.proofs.RichEntries.{entries, entries_count, entries_more, entries_none, entries_rest}
 
 -- the records hold the entries up to an index
 abbrev pub AtEntry : ℕ → List ℕ → ℕ → List RichMetadata → ℕ → List RichMetadata → ℕ → Type 0
 AtEntry key stretch from old = AtIndex (rich_table key stretch) (entries_from key stretch) (λ n. from + n) from old
-
-pub entry-start : (key : ℕ) (stretch : List ℕ) (from : ℕ) (old : List RichMetadata) → AtEntry key stretch from old from old 0
-entry-start key stretch from old = index-start (rich_table key stretch) (entries_from key stretch) (λ n. from + n) from old refl (omega arith)
 
 module _ (key : ℕ) (stretch : List ℕ) {from : ℕ} {old : List RichMetadata} {index : ℕ} {records : List RichMetadata} {count : ℕ} (h : AtEntry key stretch from old index records count) where
   -- the index after that of an entry is one in 64 bits

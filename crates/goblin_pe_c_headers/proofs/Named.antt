@@ -23,7 +23,7 @@ use Rattle.goblin_pe_head.specs.TeHeader.{section_adjusted, section_moved}
 use Rattle.goblin_pe_c_headers.specs.declared.image.PeImage.{PeImage}
 use Rattle.goblin_pe_c_headers.specs.Options.{header_options, longest_of}
 use Rattle.goblin_pe_c_headers.specs.Places.{headers_there}
-use Rattle.goblin_pe_c_headers.specs.Sections.{RowsHold, SectionRow, displacement_of, long_name, named_in, real_name_in, row_of, section_rows}
+use Rattle.goblin_pe_c_headers.specs.Sections.{RowsHold, SectionRow, displacement_of, long_name, real_name_in, row_of, section_rows}
 use Rattle.goblin_pe_c_headers.proofs.GivenOnward.{record_inside}
 use Rattle.goblin_pe_c_headers.proofs.PlacedSections.{placed, value}
 
@@ -76,15 +76,19 @@ named-made : (strict : Bool) (table : ℕ) (bytes : List ℕ) (s : Section) (val
 unfolding real_name_in
 named-made strict table bytes s value e = rw e refl
 
+-- a section with its name from the string table
+abbrev named_in : Bool → List ℕ → ℕ → Section → Section
+named_in strict bytes table s = record s { real_name = real_name_in strict None bytes table s.name }
+
 -- a section that was read has its name
-pub section-named : (strict : Bool) (table : ℕ) (bytes : List ℕ) (p : ℕ) (s : Section) → (named_section_at strict table p).value bytes ≡ Some s → named_in strict None bytes table s ≡ s
+pub section-named : (strict : Bool) (table : ℕ) (bytes : List ℕ) (p : ℕ) (s : Section) → (named_section_at strict table p).value bytes ≡ Some s → named_in strict bytes table s ≡ s
 unfolding named_section_at
 section-named strict table bytes p s h =
     let first = step (record_at 40 (section_record Little) bytes p) _ s h in
     let second = step (name_value strict first.value.name) _ s first.then in
     let made : Section = record first.value { real_name = (text_in_table table second.value).value bytes } in
-    let named : named_in strict None bytes table made ≡ made = ap (λ (name : Option (List ℕ)). record first.value { real_name = name }) (named-made strict table bytes first.value second.value second.is) in
-    subst (λ (x : Section). named_in strict None bytes table x ≡ x) (same_value made s second.then) named
+    let named : named_in strict bytes table made ≡ made = ap (λ (name : Option (List ℕ)). record first.value { real_name = name }) (named-made strict table bytes first.value second.value second.is) in
+    subst (λ (x : Section). named_in strict bytes table x ≡ x) (same_value made s second.then) named
 
 -- what two functions make alike of each value they make alike of all
 pub all-same : {A : Type 0} (f g : A → A) (value : ℕ → Option A) (len start : ℕ) (xs : List A) → ((i : ℕ) (a : A) → value i ≡ Some a → f a ≡ g a) → all_of (map value (range_with_len start len)) ≡ Some xs → map f xs ≡ map g xs
@@ -115,7 +119,7 @@ unfolding records_in
 rows-sections n headers = rows-of n headers (length headers / 40) 0
 
 -- what moves a section leaves its name
-moved-named : (strict : Bool) (bytes : List ℕ) (table : ℕ) (d : Option ℕ) (s : Section) → named_in strict None bytes table (section_moved d (unnamed s)) ≡ section_moved d (named_in strict None bytes table s)
+moved-named : (strict : Bool) (bytes : List ℕ) (table : ℕ) (d : Option ℕ) (s : Section) → named_in strict bytes table (section_moved d (unnamed s)) ≡ section_moved d (named_in strict bytes table s)
 unfolding section_adjusted
 moved-named strict bytes table None s = refl
 moved-named strict bytes table (Some d) s = refl

@@ -31,11 +31,9 @@ word_number what =
     else if bytes_eq what (codes "address table entries") then 3
     else 0
 
--- nothing is refused
 abbrev pub no_fault : PeFault
 no_fault = fault 0 0 0 0
 
--- the numbers of a refusal
 abbrev pub fault_of : ErrorOf → PeFault
 fault_of (Malformed (cause.Message text)) = fault 1 1 0 0
 fault_of (Malformed cause.NoDosSignature) = fault 1 2 0 0
@@ -112,7 +110,6 @@ causes first second =
     ∷ cause.BlockSize (first % 2 ^ 32) ∷ cause.BlockRange first second ∷ cause.Overflow
     ∷ cause.SlotCount first second ∷ []
 
--- the cause with these numbers
 abbrev pub cause_of : PeFault → Option CauseOf
 cause_of fault =
     if nat_lt fault.cause 2
@@ -128,7 +125,6 @@ word_of number =
     else if number == 3 then Some (codes "address table entries")
     else None
 
--- why a read was refused, by its number
 abbrev pub read_fault_of : ℕ → Option ReadFault
 read_fault_of number =
     if number == 1 then Some BadOffset
@@ -146,7 +142,6 @@ call_text status =
     then Some (codes "the record is not of an image, but of an object or a TE file")
     else None
 
--- the text of a fault of the file
 abbrev pub file_text : PeFault → Option (List ℕ)
 file_text fault =
     if fault.status == 1 then option_map cause_text (cause_of fault)
@@ -156,7 +151,6 @@ file_text fault =
     else if fault.status == 5 then Some memory_text
     else None
 
--- the text of the fault with these numbers
 abbrev pub refusal_text : PeFault → Option (List ℕ)
 refusal_text f = option_or (call_text f.status) (file_text f)
 

@@ -8,7 +8,6 @@ use Rattle.goblin_pe_sect.specs.added.Backward.{is_at}
 use Rattle.goblin_pe_c_headers.specs.declared.kind.Kind.{Kind}
 use Rattle.goblin_pe_c_headers.specs.declared.kind.Kind.TheVariants as kind
 
--- the number of a kind
 abbrev pub kind_number : Kind → ℕ
 kind_number kind.Unknown = 0
 kind_number kind.Image = 1

@@ -23,7 +23,6 @@ use Rattle.goblin_pe_c_headers.specs.Options.{are_known, options_at, view_of}
 
 -- ---- what a record says
 
--- the number of a region
 abbrev pub region_number : Region → ℕ
 region_number region.Unmapped = 0
 region_number region.Headers = 1
@@ -61,7 +60,6 @@ known found missing index where_from = record {
   reserved = 0;
 }
 
--- all bytes are missing
 abbrev pub unknown : ℕ → ℕ → Memory
 unknown missing index = known ([], 0) missing index region.Unmapped
 

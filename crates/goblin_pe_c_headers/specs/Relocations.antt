@@ -21,7 +21,6 @@ relocations_begin s = record {
   reserved = 0;
 }
 
--- how many relocations there are
 abbrev pub record_count : PeCoffRelocationCursor → Reading ℕ
 record_count c = pick c.is_extended (number_at Little 4 c.offset) (given c.count)
 

@@ -21,15 +21,11 @@ use Rattle.goblin_pe_c_headers.specs.ImageRecords.{no_rich_header}
 use Rattle.goblin_pe_c_headers.specs.Items.{without_causes}
 use Rattle.goblin_pe_c_headers.specs.Onward.{Batch, FillsNext, IsRefusedNext, Table, no_batch}
 
--- where the entries begin
-abbrev pub entries_begin : PeRichHeader → ℕ
-entries_begin r = r.start_offset + 4 + r.padding_size
-
 -- the entries, as stored: what lies between the padding and the marker Rich
 abbrev pub rich_stretch : PeRichHeader → Reading (List ℕ)
 rich_stretch r =
-    pick (nat_le r.end_offset (entries_begin r)) (given [])
-    (slice_at (entries_begin r) (r.end_offset - entries_begin r))
+    let begin = r.start_offset + 4 + r.padding_size in
+    pick (nat_le r.end_offset begin) (given []) (slice_at begin (r.end_offset - begin))
 
 -- bytes that are no whole entry are at this index
 abbrev pub is_rest : List ℕ → ℕ → Bool

@@ -29,11 +29,6 @@ real_name_in strict longest bytes table name =
     option_and_then (λ place. (taken place >>= λ n. text_within longest (table + n)).value bytes)
     (name_value strict name)
 
--- a section with its name from the string table at `table`
-abbrev pub named_in : Bool → Option ℕ → List ℕ → ℕ → Section → Section
-named_in strict longest bytes table s =
-    record s { real_name = real_name_in strict longest bytes table s.name }
-
 -- what a row holds of a section; its real name is the name if that is from the string table
 abbrev pub section_model : PeSection → Section
 section_model s = record {

@@ -1,11 +1,11 @@
 use Rattle.std.proofs.Common.{◌∙◌, arith, refl, sym}
-use Rattle.goblin_pe_c_headers.proofs.GivenOnward.{index-full}
-use Rattle.goblin_pe_c_headers.proofs.GivenEntries.{entry-end, entry-fault, entry-next, entry-rest, entry-start}
+use Rattle.goblin_pe_c_headers.proofs.GivenOnward.{index-full, index-start}
+use Rattle.goblin_pe_c_headers.proofs.GivenEntries.{entry-end, entry-fault, entry-next, entry-rest}
 use Rattle.goblin_pe_c_headers.proofs.rich.fill_entries.Goals as goal
 use Rattle.goblin_pe_c_headers.proofs.rich.fill_entries.Goals.{else-has_rest-via-then-has_rest+else-count-eq0, else-has_rest-via-else-has_rest}
 
 pub records-init : goal.records-init
-records-init c = record { made = entry-start _ _ _ _; stays = refl }
+records-init c = record { made = index-start _ _ _ _ _ refl (omega arith); stays = refl }
 
 pub records-preserved : goal.records-preserved
 records-preserved c = record {
