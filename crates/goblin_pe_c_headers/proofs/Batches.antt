@@ -2,12 +2,12 @@
 use Rattle.std.proofs.Common.{◌≡◌, ◌≢◌, ◌⊎◌, ◌==◌, ◌&&◌, not, ℕ, ◌+◌, ◌<◌, ◌≤◌, List, [], ◌∷◌, ◌++◌, length, map, take, drop, set, ap, subst, sym, refl, arith, ◌∙◌, inl, inr, Option, None, Some, IsSomeAnd, MatchResult, Result, Ok, Err, append-nil, Bool, true, false}
 use Rattle.std.proofs.lemmas.Bool.Decides.{nat_tests}
 use Rattle.std.proofs.Math.Seq.{drop-append_seam, take-append_seam}
-use Rattle.std.proofs.lemmas.List.{append_assoc, length-append, length-map, length-set, map-append, take_all}
+use Rattle.std.proofs.lemmas.List.{append_assoc, drop-set-lt, length-append, length-map, length-set, map-append, take_all, take_more_set}
+use Rattle.std.proofs.lemmas.Grind.{drop_more_same}
 use Rattle.goblin_base.specs.declared.error.ErrorOf.{ErrorOf}
 use Rattle.goblin_base.specs.Reading.{Reading}
 use Rattle.goblin_pe_c_headers.specs.Filled.{Filled}
 use Rattle.goblin_pe_c_headers.specs.Onward.{AtBatch, Batch, FillsFrom, FillsNext, GivesFrom, IsBatch, IsNextFault, IsRefusedNext, Table, TellsEnd, unrefused, values_before}
-use Rattle.goblin_pe_c_headers.proofs.Items.{room}
 
 -- ---- the values before a refusal
 
@@ -16,15 +16,20 @@ unfolding values_before
 before-all [] items = refl
 before-all {A} (x ∷ xs) items = ap (λ (ys : List A). x ∷ ys) (before-all xs items)
 
-before-refused : {A : Type 0} (items : List (Option A)) → items ≡ None ∷ [] → values_before items ≡ []
-unfolding values_before
-before-refused items is = rw is refl
-
-before-end : {A : Type 0} (items : List (Option A)) → items ≡ [] → values_before items ≡ []
-unfolding values_before
-before-end items is = rw is refl
-
 -- ---- the records
+
+-- where there is room for one more
+pub room : {R B : Type 0} (view : R → B) (done : List B) (old records : List R) (b : B) (r : R) (n : ℕ) → Filled view done old records → length records ≡ length old → length done ≡ n → view r ≡ b → n < length old → Filled view (done ++ b ∷ []) old (set records n r)
+room {R} {B} view done old records b r n h same is says lt =
+    let count : length (done ++ b ∷ []) ≡ n + 1 = length-append done (b ∷ []) ∙ ap (λ (m : ℕ). m + 1) is in
+    let here : n < length records = omega (arith, same, lt) in
+    let first : map view (take n records) ≡ take (length old) done = rw (← is) (h.0) in
+    let all : take (length old) done ≡ done = take_all (length old) done (omega (arith, is, lt)) in
+    let more : take (length old) (done ++ b ∷ []) ≡ done ++ b ∷ [] = take_all (length old) (done ++ b ∷ []) (omega (arith, count, lt)) in
+    let rest : drop n records ≡ drop n old = rw (← is) (h.1) in (
+      rw count (ap (map view) (take_more_set records n r here) ∙ map-append view (take n records) (r ∷ []) ∙ ap (λ (t : List B). t ++ view r ∷ []) (first ∙ all) ∙ ap (λ (x : B). done ++ x ∷ []) says ∙ sym more),
+      rw count (drop-set-lt (n + 1) records n r (omega arith) ∙ drop_more_same records old n rest),
+    )
 
 module _ {R A B : Type 0} (view : R → B) (value_of : A → B) (old : List R) where
   pub batch-start : AtBatch view value_of old [] old 0
@@ -175,14 +180,16 @@ module _ {P R A B S : Type 0} {table : Table P R A B} {left : S → List (Option
 
   -- nothing more comes
   pub items-end : {IsCut : Type 0} (q : P) → left now ≡ [] → table.from q ≡ Some [] → (length old ≡ 0 → q ≡ at) → Given IsCut q
+  unfolding values_before
   items-end q none goes stays =
-      whole q (inr (before-end (left now) none)) (λ first refused. absurd (subst (λ (items : List (Option A)). IsRefusedNext items) none refused))
+      whole q (inr (rw none refl)) (λ first refused. absurd (subst (λ (items : List (Option A)). IsRefusedNext items) none refused))
       (goes ∙ ap (λ (items : List (Option A)). Some items) (sym none)) stays
 
   -- a refusal comes after something
   pub items-refused : {IsCut : Type 0} → left now ≡ None ∷ [] → count ≢ 0 → Given IsCut p
+  unfolding values_before
   items-refused is some =
-      whole p (inr (before-refused (left now) is)) (λ none refused. absurd (some none)) h.goes items-stay
+      whole p (inr (rw is refl)) (λ none refused. absurd (some none)) h.goes items-stay
 
   -- or at once
   pub items-fault : left now ≡ None ∷ [] → count ≡ 0 → count < length records

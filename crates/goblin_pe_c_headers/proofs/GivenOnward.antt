@@ -1,13 +1,13 @@
--- A list whose items fill records from an index on.
-use Rattle.std.proofs.Common.{◌≡◌, ◌<◌, ◌≤◌, ◌^◌, ◌*◌, ◌/◌, ◌%◌, ℕ, ◌+◌, List, length, map, drop, set, Option, Some, None, slice_get, ◌∷◌, [], ap, refl, arith, ◌∙◌, inl, inr, slice_range, drop_of_length-le, true, false}
+-- Items that fill records from an index on.
+use Rattle.std.proofs.Common.{[], Bool, ◌≡◌, ◌<◌, ◌≤◌, ◌^◌, ◌*◌, ◌/◌, ◌%◌, ℕ, ◌+◌, List, length, map, drop, set, Option, Some, None, slice_get, ◌∷◌, ap, refl, arith, ◌∙◌, inl, inr, slice_range, drop_of_length-le, true, false}
 use Rattle.std.specs.List.{range_with_len}
 use Rattle.std.proofs.lemmas.List.{drop_more}
 use Rattle.std.proofs.lemmas.List.FromFn.{get_or-map-range_with_len, length-map-range_with_len}
 use Rattle.std.proofs.lemmas.Option.{get_or_from_slice_get, slice_get_cases, slice_get-get_or, slice_get_past, slice_get_within}
 use Rattle.goblin_base.specs.Tables.{records_in}
 use Rattle.goblin_base.proofs.RecordItems.{length-records_in}
-use Rattle.goblin_pe_c_headers.specs.Onward.{GivesRows, row_table, unrefused}
-use Rattle.goblin_pe_c_headers.proofs.Batches.{AtItems, items-end, items-full, items-more, items-start, items-stay, done-end, done-full}
+use Rattle.goblin_pe_c_headers.specs.Onward.{FillsNext, GivesRows, Table, TellsEnd, row_table, unrefused}
+use Rattle.goblin_pe_c_headers.proofs.Batches.{AtItems, items-end, items-full, items-gives, items-more, items-start, items-stay, done-end, done-full}
 
 -- ---- the items of a list from an index on
 
@@ -23,43 +23,65 @@ past-end items i none = elim (slice_get_cases items i).1 [
 
 -- ---- a loop that fills records
 
--- the items at an index, and those that come next
-abbrev pub onward : {B : Type 0} → List B → ℕ → List (Option B)
-onward items i = unrefused (drop i items)
+-- the records hold the items up to an index, which their number says
+module _ {W A B : Type 0} (table : Table ℕ W A B) (left : ℕ → List (Option A)) (place : ℕ → ℕ) (from : ℕ) (old : List W) where
+  pub record AtIndex (index : ℕ) (records : List W) (count : ℕ) : Type 0 where
+    pub at : AtItems table left from from old index index records count
+    pub moved : index ≡ place count
 
--- the records hold the items up to an index
-pub record AtIndex {W B : Type 0} (view : W → B) (items : List B) (from : ℕ) (old : List W) (index : ℕ) (records : List W) (count : ℕ) : Type 0 where
-  pub at : AtItems (row_table view items) (onward items) from from old index index records count
-  pub moved : index ≡ from + count
+  pub index-start : table.from from ≡ Some (left from) → from ≡ place 0 → AtIndex from old 0
+  index-start begins first = record { at = items-start table left from from old begins; moved = first }
 
-pub onward-start : {W B : Type 0} (view : W → B) (items : List B) (from : ℕ) (old : List W) → AtIndex view items from old from old 0
-onward-start view items from old = record { at = items-start (row_table view items) (onward items) from from old refl; moved = omega arith }
+module _ {W A B : Type 0} {table : Table ℕ W A B} {left : ℕ → List (Option A)} {place : ℕ → ℕ} {from : ℕ} {old : List W}
+    {index : ℕ} {records : List W} {count : ℕ} (h : AtIndex table left place from old index records count) where
+  pub index-more : (x : A) (next : ℕ) (r : W) → left index ≡ Some x ∷ left next → table.from next ≡ Some (left next) → next ≡ place (count + 1)
+      → count < length records → table.view r ≡ table.value_of x → AtIndex table left place from old next (set records count r) (count + 1)
+  index-more x next r given goes moved room says = record { at = items-more h.at x next next r given room says goes; moved = moved }
 
-module _ {W B : Type 0} {view : W → B} {items : List B} {from : ℕ} {old : List W} {index : ℕ} {records : List W} {count : ℕ} (h : AtIndex view items from old index records count) where
-  pub onward-more : (next : ℕ) (r : W) → slice_get items index ≡ Some (view r) → next ≡ index + 1
-      → count < length records → AtIndex view items from old next (set records count r) (count + 1)
-  onward-more next r there after room =
-      let moved = h.moved in
-      rw after (record { at = items-more h.at (view r) (index + 1) (index + 1) r (ap unrefused (from-item items index (view r) there)) room refl refl; moved = omega (arith, moved) })
-
-  -- the index after that of an item is one in 64 bits
-  pub onward-next : (next : ℕ) (r : W) → length items < 2 ^ 64 → slice_get items index ≡ Some (view r) → next ≡ (index + 1) % 2 ^ 64
-      → count < length records → AtIndex view items from old next (set records count r) (count + 1)
-  onward-next next r short there place room =
-      let within = slice_get_within items index (view r) there in
-      onward-more next r there (omega (arith, within, short, place)) room
+  -- what the batch has given
+  abbrev pub Gives : ℕ → Bool → Type 0
+  Gives n is_done =
+      FillsNext table ⊥ (λ all. index ≡ place n) (record { position = from; records = old }) (record { position = index; records = records }) (record { count = n; is_done = is_done })
 
   -- where no item is left
-  pub onward-all : slice_get items index ≡ None → count < length records
-      → GivesRows view items (record { position = from; records = old }) (record { position = index; records = records }) (record { count = count; is_done = true })
-  onward-all none within =
-      let no = drop_of_length-le items (past-end items index none) in
-      (items-end h.at index (ap unrefused no) (ap (λ (xs : List B). Some (unrefused xs)) no) (items-stay h.at), (done-end h.at (ap unrefused no) within, h.moved))
+  pub index-end : left index ≡ [] → table.from index ≡ Some [] → count < length records → Gives count true
+  index-end none goes within =
+      items-gives h.at (λ all. TellsEnd ⊥ (drop count all) (length old) count true × (index ≡ place count)) index
+      (items-end h.at index none goes (items-stay h.at)) (done-end h.at none within, h.moved)
 
   -- and where no room is
-  pub onward-full : (n : ℕ) → n ≡ count → length records ≤ count
-      → GivesRows view items (record { position = from; records = old }) (record { position = index; records = records }) (record { count = n; is_done = false })
-  onward-full n all full = rw all (items-full h.at full, (done-full h.at full, h.moved))
+  pub index-full : (n : ℕ) → n ≡ count → length records ≤ count → Gives n false
+  index-full n all full =
+      rw all (items-gives h.at (λ all. TellsEnd ⊥ (drop count all) (length old) count false × (index ≡ place count)) index
+      (items-full h.at full) (done-full h.at full, h.moved))
+
+-- ---- the items of a list
+
+-- the records hold the items of a list up to an index
+abbrev pub AtRow : {W B : Type 0} → (W → B) → List B → ℕ → List W → ℕ → List W → ℕ → Type 0
+AtRow view items from old = AtIndex (row_table view items) (λ i. unrefused (drop i items)) (λ n. from + n) from old
+
+pub row-start : {W B : Type 0} (view : W → B) (items : List B) (from : ℕ) (old : List W) → AtRow view items from old from old 0
+row-start view items from old = index-start (row_table view items) (λ i. unrefused (drop i items)) (λ n. from + n) from old refl (omega arith)
+
+module _ {W B : Type 0} {view : W → B} {items : List B} {from : ℕ} {old : List W} {index : ℕ} {records : List W} {count : ℕ} (h : AtRow view items from old index records count) where
+  pub row-more : (r : W) → slice_get items index ≡ Some (view r) → count < length records → AtRow view items from old (index + 1) (set records count r) (count + 1)
+  row-more r there room =
+      let moved = h.moved in
+      index-more h (view r) (index + 1) r (ap unrefused (from-item items index (view r) there)) refl (omega (arith, moved)) room refl
+
+  -- the index after that of an item is one in 64 bits
+  pub row-next : (next : ℕ) (r : W) → length items < 2 ^ 64 → slice_get items index ≡ Some (view r) → next ≡ (index + 1) % 2 ^ 64
+      → count < length records → AtRow view items from old next (set records count r) (count + 1)
+  row-next next r short there place room =
+      let after : next ≡ index + 1 = omega (arith, slice_get_within items index (view r) there, short, place) in
+      rw after (row-more r there room)
+
+  pub row-end : slice_get items index ≡ None → count < length records
+      → GivesRows view items (record { position = from; records = old }) (record { position = index; records = records }) (record { count = count; is_done = true })
+  row-end none within =
+      let no = drop_of_length-le items (past-end items index none) in
+      index-end h (ap unrefused no) (ap (λ (xs : List B). Some (unrefused xs)) no) within
 
 -- ---- the records in bytes
 

@@ -1,5 +1,5 @@
 -- The base relocations of a block from a cursor on.
-use Rattle.std.proofs.Common.{append-nil, ◌≡◌, ◌∙◌, ◌≤◌, ℕ, zero, suc, ◌+◌, ◌*◌, ◌/◌, List, [], ◌∷◌, drop, length, min, take, refl, ap, arith, subst, sym, Option, Some, length-drop, length-take}
+use Rattle.std.proofs.Common.{append-nil, ◌≡◌, ◌∙◌, ◌≤◌, ℕ, zero, suc, ◌+◌, ◌*◌, ◌/◌, List, [], drop, length, min, take, refl, ap, arith, subst, sym, Option, Some, length-drop, length-take}
 use Rattle.std.proofs.lemmas.List.{drop-drop}
 use Rattle.goblin_base.specs.declared.endian.Endian.TheVariants.{Little}
 use Rattle.goblin_base.specs.Tables.{records_in}

@@ -2,7 +2,6 @@ pub mod Batches
 pub mod GivenEntries
 pub mod GivenOnward
 pub mod GivenWords
-pub mod Items
 pub mod SeenBytes
 pub mod Named
 pub mod NamedObject

@@ -23,7 +23,7 @@ use Rattle.goblin_pe_head.specs.TeHeader.{section_adjusted, section_moved}
 use Rattle.goblin_pe_c_headers.specs.declared.image.PeImage.{PeImage}
 use Rattle.goblin_pe_c_headers.specs.Options.{header_options, longest_of}
 use Rattle.goblin_pe_c_headers.specs.Places.{headers_there}
-use Rattle.goblin_pe_c_headers.specs.Sections.{NamingModel, RowsHold, SectionRow, named_in, naming_of, real_name_in, row_of, section_rows, unnamed_row, with_name}
+use Rattle.goblin_pe_c_headers.specs.Sections.{RowsHold, SectionRow, displacement_of, long_name, real_name_in, row_of, section_rows}
 use Rattle.goblin_pe_c_headers.proofs.GivenOnward.{record_inside}
 use Rattle.goblin_pe_c_headers.proofs.PlacedSections.{placed, value}
 
@@ -76,15 +76,19 @@ named-made : (strict : Bool) (table : ℕ) (bytes : List ℕ) (s : Section) (val
 unfolding real_name_in
 named-made strict table bytes s value e = rw e refl
 
+-- a section with its name from the string table
+abbrev named_in : Bool → List ℕ → ℕ → Section → Section
+named_in strict bytes table s = record s { real_name = real_name_in strict None bytes table s.name }
+
 -- a section that was read has its name
-pub section-named : (strict : Bool) (table : ℕ) (bytes : List ℕ) (p : ℕ) (s : Section) → (named_section_at strict table p).value bytes ≡ Some s → named_in strict None bytes table s ≡ s
+pub section-named : (strict : Bool) (table : ℕ) (bytes : List ℕ) (p : ℕ) (s : Section) → (named_section_at strict table p).value bytes ≡ Some s → named_in strict bytes table s ≡ s
 unfolding named_section_at
 section-named strict table bytes p s h =
     let first = step (record_at 40 (section_record Little) bytes p) _ s h in
     let second = step (name_value strict first.value.name) _ s first.then in
     let made : Section = record first.value { real_name = (text_in_table table second.value).value bytes } in
-    let named : named_in strict None bytes table made ≡ made = ap (λ (name : Option (List ℕ)). record first.value { real_name = name }) (named-made strict table bytes first.value second.value second.is) in
-    subst (λ (x : Section). named_in strict None bytes table x ≡ x) (same_value made s second.then) named
+    let named : named_in strict bytes table made ≡ made = ap (λ (name : Option (List ℕ)). record first.value { real_name = name }) (named-made strict table bytes first.value second.value second.is) in
+    subst (λ (x : Section). named_in strict bytes table x ≡ x) (same_value made s second.then) named
 
 -- what two functions make alike of each value they make alike of all
 pub all-same : {A : Type 0} (f g : A → A) (value : ℕ → Option A) (len start : ℕ) (xs : List A) → ((i : ℕ) (a : A) → value i ≡ Some a → f a ≡ g a) → all_of (map value (range_with_len start len)) ≡ Some xs → map f xs ≡ map g xs
@@ -100,28 +104,22 @@ all-same {A} f g value (suc len) start xs same h =
 -- ---- the sections of the rows
 
 -- the section of a row, by its header
-abbrev row_section : NamingModel → Section → Section
-row_section n s = named_in n.strict n.longest n.bytes n.strings (section_moved n.displacement s)
+abbrev row_section : PeImage → Section → Section
+row_section n s =
+    let moved = section_moved (displacement_of n) s in record moved { real_name = long_name n moved.name }
 
-row-section : (name : Option (List ℕ)) (header : List ℕ) (i : ℕ) (s : Section) → (with_name name (unnamed_row header i (unnamed s))).section ≡ record s { real_name = name }
-row-section None header i s = refl
-row-section (Some name) header i s = refl
-
-rows-of : (n : NamingModel) (headers : List ℕ) (len start : ℕ)
+rows-of : (n : PeImage) (headers : List ℕ) (len start : ℕ)
     → map (λ (r : SectionRow). r.section) (map (λ (i : ℕ). row_of n i (slice_range headers (40 * i) (40 * i + 40))) (range_with_len start len))
     ≡ map (row_section n) (map (λ (i : ℕ). section_record Little (slice_range headers (40 * i) (40 * i + 40))) (range_with_len start len))
 rows-of n headers zero start = refl
-rows-of n headers (suc len) start =
-    let header = slice_range headers (40 * start) (40 * start + 40) in
-    let s = section_moved n.displacement (section_record Little header) in
-    rw (row-section (real_name_in n.strict n.longest n.bytes n.strings s.name) header start s, rows-of n headers len (start + 1)) refl
+rows-of n headers (suc len) start = rw (rows-of n headers len (start + 1)) refl
 
-rows-sections : (n : NamingModel) (headers : List ℕ) → map (λ (r : SectionRow). r.section) (section_rows n headers) ≡ map (row_section n) (sections_in headers)
+rows-sections : (n : PeImage) (headers : List ℕ) → map (λ (r : SectionRow). r.section) (section_rows n headers) ≡ map (row_section n) (sections_in headers)
 unfolding records_in
 rows-sections n headers = rows-of n headers (length headers / 40) 0
 
 -- what moves a section leaves its name
-moved-named : (strict : Bool) (bytes : List ℕ) (table : ℕ) (d : Option ℕ) (s : Section) → named_in strict None bytes table (section_moved d (unnamed s)) ≡ section_moved d (named_in strict None bytes table s)
+moved-named : (strict : Bool) (bytes : List ℕ) (table : ℕ) (d : Option ℕ) (s : Section) → named_in strict bytes table (section_moved d (unnamed s)) ≡ section_moved d (named_in strict bytes table s)
 unfolding section_adjusted
 moved-named strict bytes table None s = refl
 moved-named strict bytes table (Some d) s = refl
@@ -139,21 +137,24 @@ pub some-weaker : {A : Type 0} (v : Option A) (P Q : A → Type 0) → ((a : A) 
 some-weaker None P Q then h = absurd h
 some-weaker (Some a) P Q then h = then a h
 
+-- the sections that are read by an image's record
+abbrev pub read_sections : Bool → List ℕ → PeImage → Option (List Section)
+read_sections strict bytes image = all_at (value strict (symbols_end image.coff_header) bytes image.section_table) image.section_count
+
 -- The rows of an image hold the sections that are read with their whole names, and moved.
-pub rows_hold : (image : PeImage) (all : List Section) (d : Option ℕ) → longest_of image.options ≡ None → (naming_of image).displacement ≡ d
-    → all_at (value (is_strict (header_options image.options).parse_mode) (symbols_end image.coff_header) image.bytes.now image.section_table) image.section_count ≡ Some all
+pub rows_hold : (image : PeImage) (all : List Section) (d : Option ℕ) → longest_of image.options ≡ None → displacement_of image ≡ d
+    → read_sections (is_strict (header_options image.options).parse_mode) image.bytes.now image ≡ Some all
     → RowsHold image (map (section_moved d) all)
 rows_hold image all d whole moved read =
     let strict = is_strict (header_options image.options).parse_mode in
     let strings = symbols_end image.coff_header in
     let bytes = image.bytes.now in
-    let n = naming_of image in
     let there = headers-there bytes image.section_count image.section_table (map unnamed all) (placed strict strings bytes image.section_table image.section_count all read image.section_count refl) in
     some-weaker ((headers_there image.section_count image.section_table).value bytes) (λ headers. sections_in headers ≡ map unnamed all)
-    (λ headers. map (λ (r : SectionRow). r.section) (section_rows n headers) ≡ map (section_moved d) all)
+    (λ headers. map (λ (r : SectionRow). r.section) (section_rows image headers) ≡ map (section_moved d) all)
     (λ headers are.
-    rows-sections n headers ∙ ap (map (row_section n)) are ∙ map-map (row_section n) unnamed all
-    ∙ all-same (λ (s : Section). row_section n (unnamed s)) (section_moved d) (value strict strings bytes image.section_table) image.section_count 0 all
+    rows-sections image headers ∙ ap (map (row_section image)) are ∙ map-map (row_section image) unnamed all
+    ∙ all-same (λ (s : Section). row_section image (unnamed s)) (section_moved d) (value strict strings bytes image.section_table) image.section_count 0 all
     (λ i s is.
     rw (whole, moved) (moved-named strict bytes strings d s ∙ ap (section_moved d) (section-named strict strings bytes (image.section_table + 40 * i) s is)))
     read)

@@ -1,7 +1,7 @@
 -- The section headers that sections are read from.
-use Rattle.std.proofs.Common.{◌≡◌, ◌≢◌, ◌∙◌, ℕ, zero, suc, ◌+◌, ◌-◌, ◌*◌, ◌/◌, ◌<◌, ◌≤◌, true, false, Bool, List, Option, None, Some, ap, arith, length, map, refl, rules, subst, sym, tests, ◌==◌, nat_le, nat_lt, option_map, slice_range, ne_eqb, min}
+use Rattle.std.proofs.Common.{◌≡◌, ◌≢◌, ◌∙◌, ℕ, zero, suc, ◌+◌, ◌-◌, ◌*◌, ◌/◌, ◌≤◌, false, Bool, List, Option, None, Some, ap, arith, length, map, refl, subst, sym, ◌==◌, option_map, ne_eqb, min}
 use Rattle.goblin_base.specs.Answers.{all_at}
-use Rattle.goblin_base.specs.Bytes.{slice_at}
+use Rattle.goblin_base.proofs.Numbers.{slice_at-inside}
 use Rattle.goblin_base.proofs.Steps.{all_at-each, all_at-zero}
 use Rattle.goblin_pe_sect.specs.SectionReadings.{named_section_at}
 use Rattle.goblin_pe_sect.specs.SectionTable.{Section, unnamed}
@@ -33,21 +33,16 @@ module _ (strict : Bool) (table : ℕ) (bytes : List ℕ) (p : ℕ) where
       let end = section_end strict table bytes (p + 40 * n) s.0 s.1 in
       omega (arith, end)
 
-  slice-there : (n : ℕ) → 0 < n → p + n ≤ length bytes → slice_at bytes p n ≡ Some (slice_range bytes p (p + n))
-  slice-there n some fits =
-      let before : nat_lt p (length bytes) ≡ true = search (rules, tests) in
-      let whole : nat_le (p + n) (length bytes) ≡ true = search (rules, tests) in
-      rw (before, whole) refl
-
   -- what n sections are read from
   pub placed : (n : ℕ) (all : List Section) → all_at value n ≡ Some all → (count : ℕ) → count ≡ n
       → (sections_there count p).value bytes ≡ Some (map unnamed all)
   placed zero all read count is = rw is (sym (first zero all read zero (omega arith)) ∙ ap (option_map (map unnamed)) read)
   placed (suc n) all read count is =
-      let slice = slice-there (40 * suc n) (omega arith) (within n all read) in
+      let end = within n all read in
+      let slice = slice_at-inside bytes p (40 * suc n) (omega (arith, end)) end in
       let some : (suc n == 0) ≡ false = ne_eqb (suc n) 0 (λ e. omega (arith, e)) in
       rw (is, some, slice)
-      (ap (λ (xs : List Section). Some xs) (sections_of_slice bytes p (suc n) (within n all read))
+      (ap (λ (xs : List Section). Some xs) (sections_of_slice bytes p (suc n) end)
       ∙ sym (first (suc n) all read (suc n) (omega arith)) ∙ ap (option_map (map unnamed)) read)
 
   -- all of them are there

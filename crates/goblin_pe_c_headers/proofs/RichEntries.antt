@@ -1,5 +1,5 @@
 -- The entries of a Rich header by their indexes, and the rest after them.
-use Rattle.std.proofs.Common.{append-nil, ◌≡◌, ◌≢◌, ℕ, ◌+◌, ◌*◌, ◌/◌, ◌%◌, ◌<◌, ◌≤◌, Bool, true, false, List, [], ◌∷◌, ◌++◌, length, map, drop, ap, refl, sym, arith, ◌∙◌, inl, inr, Result, Ok, Some, None, Option, ◌==◌, slice_get, slice_range, drop_of_length-le}
+use Rattle.std.proofs.Common.{◌≡◌, ◌≢◌, ℕ, ◌+◌, ◌/◌, ◌%◌, ◌<◌, ◌≤◌, Bool, true, false, List, [], ◌∷◌, ◌++◌, length, map, drop, ap, refl, sym, arith, ◌∙◌, inl, inr, Result, Ok, Some, None, Option, ◌==◌, slice_get, drop_of_length-le}
 use Rattle.std.proofs.lemmas.Bool.{cases_Bool, eqb-false, eqb-true}
 use Rattle.std.proofs.lemmas.List.{drop-append-le, drop-map, length-append, length-map}
 use Rattle.std.proofs.lemmas.Option.{slice_get_within}
@@ -8,11 +8,10 @@ use Rattle.goblin_base.specs.Tables.{record_items, records_in, rest_item}
 use Rattle.goblin_base.proofs.RecordItems.{length-records_in}
 use Rattle.goblin_pe_head.specs.declared.header.rich.RichMetadata.{RichMetadata}
 use Rattle.goblin_pe_head.specs.RichMetadata.{metadata_at, metadata_items}
-use Rattle.goblin_pe_c_headers.specs.Items.{values_of, without_causes}
-use Rattle.goblin_pe_c_headers.specs.Onward.{unrefused, values_before}
+use Rattle.goblin_pe_c_headers.specs.Items.{without_causes}
+use Rattle.goblin_pe_c_headers.specs.Onward.{unrefused}
 use Rattle.goblin_pe_c_headers.specs.RichHeaders.{entries_from, is_rest}
-use Rattle.goblin_pe_c_headers.proofs.GivenOnward.{from-item, past-end, record_inside, record_outside}
-use Rattle.goblin_pe_c_headers.proofs.Batches.{before-all}
+use Rattle.goblin_pe_c_headers.proofs.GivenOnward.{from-item, past-end}
 
 -- ---- the entries, and a rest after them
 
@@ -31,48 +30,22 @@ left-over n = elim (cases_Bool (n == 0)) [
   | inr some ↦ rw some refl
 ]
 
-before-left : (whole : Bool) → values_before (left_over whole) ≡ []
-unfolding values_before
-before-left true = refl
-before-left false = refl
-
 module _ (key : ℕ) (bytes : List ℕ) where
-  abbrev value : List ℕ → RichMetadata
-  value entry = metadata_at key entry 0
-
-  abbrev records : List RichMetadata
-  records = records_in 8 value bytes
-
-  abbrev entries : List RichMetadata
-  entries = values_of (metadata_items key bytes)
+  abbrev pub entries : List RichMetadata
+  entries = records_in 8 (λ (entry : List ℕ). metadata_at key entry 0) bytes
 
   abbrev rest : List (Option RichMetadata)
   rest = left_over (length bytes % 8 == 0)
 
-  record-items : without_causes (metadata_items key bytes) ≡ unrefused records ++ rest
-  unfolding metadata_items record_items
-  record-items =
-      without-refused records (rest_item (length bytes % 8))
-      ∙ ap (λ (r : List (Option RichMetadata)). unrefused records ++ r) (left-over (length bytes % 8))
-
-  -- the entries are records
-  entries-records : entries ≡ records
-  entries-records =
-      ap (λ (items : List (Option RichMetadata)). values_before items) record-items ∙ before-all records rest
-      ∙ ap (λ (xs : List RichMetadata). records ++ xs) (before-left (length bytes % 8 == 0)) ∙ append-nil records
-
   all-items : without_causes (metadata_items key bytes) ≡ unrefused entries ++ rest
-  all-items = record-items ∙ ap (λ (xs : List RichMetadata). unrefused xs ++ rest) (sym entries-records)
+  unfolding metadata_items record_items
+  all-items =
+      without-refused entries (rest_item (length bytes % 8))
+      ∙ ap (λ (r : List (Option RichMetadata)). unrefused entries ++ r) (left-over (length bytes % 8))
 
   -- there are as many as fit
-  pub entries_count : length (values_of (metadata_items key bytes)) ≡ length bytes / 8
-  entries_count = ap (λ (xs : List RichMetadata). length xs) entries-records ∙ length-records_in 8 value bytes
-
-  pub entry_inside : (i : ℕ) → i < length bytes / 8 → slice_get (values_of (metadata_items key bytes)) i ≡ Some (value (slice_range bytes (8 * i) (8 * i + 8)))
-  entry_inside i within = rw entries-records (record_inside 8 value bytes i within)
-
-  pub entry_outside : (i : ℕ) → length bytes / 8 ≤ i → slice_get (values_of (metadata_items key bytes)) i ≡ None
-  entry_outside i past = rw entries-records (record_outside 8 value bytes i past)
+  pub entries_count : length entries ≡ length bytes / 8
+  entries_count = length-records_in 8 (λ (entry : List ℕ). metadata_at key entry 0) bytes
 
   count : length (unrefused entries) ≡ length entries
   count = length-map entries (λ (e : RichMetadata). Some e)

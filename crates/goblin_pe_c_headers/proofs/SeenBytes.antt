@@ -11,7 +11,7 @@ use Rattle.goblin_pe_sect.proofs.Mapped.{found_in_window}
 use Rattle.goblin_pe_c_headers.specs.declared.options.PeOptions.{PeOptions}
 use Rattle.goblin_pe_c_headers.specs.declared.places.PePlaces.{PePlaces}
 use Rattle.goblin_pe_c_headers.specs.Addresses.{MappedImage, mapped_image, mapped_offset}
-use Rattle.goblin_pe_c_headers.specs.Memory.{Memory, SeesFile, front_at, holder, holder_index, is_unstored, memory_at, memory_by, memory_in_file, memory_length, memory_mapped, stored_in_memory, stored_of, stored_size, window_size}
+use Rattle.goblin_pe_c_headers.specs.Memory.{Memory, SeesFile, front_at, holder, holder_index, is_unstored, memory_at, memory_by, memory_in_file, memory_length, memory_mapped, stored_in_memory, stored_size, window_size}
 
 module _ (file : List ℕ) (p : ℕ) (inside : p < length file) where
   -- the byte at the offset, and nothing else, is known
@@ -37,15 +37,15 @@ module _ (file : List ℕ) (p : ℕ) (inside : p < length file) where
       at : raw_begin m.mapping s + (rva - s.virtual_address) ≡ p
       there : is_unstored s ≡ false
 
-    stored-one : (s : Section) → Holds s → stored_of m.mapping m.alignment (length file) s (rva - s.virtual_address) 1 ≡ 1
+    stored-one : (s : Section) → Holds s → min 1 (stored_in_memory m (length file) s - (rva - s.virtual_address)) ≡ 1
     stored-one s h =
-        let window : window_size m.mapping m.alignment s ≡ read_size m.mapping.view s m.alignment = rw even refl in
-        let most : stored_in_memory m.mapping m.alignment (length file) s ≡ max (min (window_size m.mapping m.alignment s) (length file - raw_begin m.mapping s)) (min (memory_length m.mapping m.alignment s) (stored_size m.mapping s)) = rw (h.there) refl in
+        let window : window_size m s ≡ read_size m.mapping.view s m.alignment = rw even refl in
+        let most : stored_in_memory m (length file) s ≡ max (min (window_size m s) (length file - raw_begin m.mapping s)) (min (memory_length m s) (stored_size m.mapping s)) = rw (h.there) refl in
         omega (arith, window, most, h.within.0, h.within.1, h.at, inside)
 
-    most-one : (s : Section) → Holds s → min 1 (memory_length m.mapping m.alignment s - (rva - s.virtual_address)) ≡ 1
+    most-one : (s : Section) → Holds s → min 1 (memory_length m s - (rva - s.virtual_address)) ≡ 1
     most-one s h =
-        let window : window_size m.mapping m.alignment s ≡ read_size m.mapping.view s m.alignment = rw even refl in
+        let window : window_size m s ≡ read_size m.mapping.view s m.alignment = rw even refl in
         omega (arith, window, h.within.0, h.within.1)
 
     in_section : (index : ℕ) (s : Section) → Holds s → Sees (memory_by m file outside rva 1 index (Some s))

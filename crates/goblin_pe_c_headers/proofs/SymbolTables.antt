@@ -1,5 +1,5 @@
 -- Where a symbol table and its string table lie.
-use Rattle.std.proofs.Common.{◌≡◌, ℕ, ◌+◌, ◌-◌, ◌*◌, Bool, true, false, cond, List, [], length, refl, ap, sym, subst, ◌∙◌, arith, inl, inr, ◌==◌, drop, Option, Some, None, nat_le, nat_lt, option_map, slice_range, le-leb, leb-true, length-drop, length-take}
+use Rattle.std.proofs.Common.{◌≡◌, ℕ, ◌+◌, ◌-◌, ◌*◌, Bool, true, false, cond, List, [], length, refl, ap, sym, subst, ◌∙◌, arith, inl, inr, ◌==◌, drop, Option, Some, None, nat_le, nat_lt, slice_range, le-leb, leb-true, length-drop, length-take}
 use Rattle.std.proofs.lemmas.Option.{cond_some}
 use Rattle.std.proofs.lemmas.Bool.{cases_Bool}
 use Rattle.std.specs.Option.{unwrap_or}
@@ -16,26 +16,20 @@ use Rattle.goblin_pe_head.specs.CoffReadings.{strings_at, strings_of, symbols_of
 use Rattle.goblin_pe_c_headers.specs.Symbols.{FindsTables, found_tables, symbol_tables, texts_at, texts_of}
 
 -- the texts of a string table are the bytes where they lie
-texts_long : (bytes : List ℕ) (p n : ℕ) (s : List ℕ) → string_table bytes p n ≡ Some s → length s ≡ n
-texts_long bytes p n s is =
-    let table = cond_some_by (nat_le (p + n) (length bytes)) (text_of (slice_range bytes p (p + n))) s is in
-    let same : s ≡ slice_range bytes p (p + n) = sym ((cond_some _ _ s table.1).1) in
-    let le = leb-true (p + n) (length bytes) table.0 in
-    ap length same ∙ omega (arith, length-take (p + n - p) (drop p bytes), length-drop p bytes, le)
-
-texts_there : (bytes : List ℕ) (p n : ℕ) (s : List ℕ) → string_table bytes p n ≡ Some s → bytes_between bytes p (p + length s) ≡ Some s
+texts_there : (bytes : List ℕ) (p n : ℕ) (s : List ℕ) → string_table bytes p n ≡ Some s → (length s ≡ n) × (bytes_between bytes p (p + length s) ≡ Some s)
 texts_there bytes p n s is =
     let table = cond_some_by (nat_le (p + n) (length bytes)) (text_of (slice_range bytes p (p + n))) s is in
     let same : s ≡ slice_range bytes p (p + n) = sym ((cond_some _ _ s table.1).1) in
-    let long = texts_long bytes p n s is in
+    let le = leb-true (p + n) (length bytes) table.0 in
+    let long : length s ≡ n = ap length same ∙ omega (arith, length-take (p + n - p) (drop p bytes), length-drop p bytes, le) in
     let begins : nat_le p (p + n) ≡ true = le-leb p (p + n) (omega arith) in
-    rw (long, begins, table.0) (ap (λ (xs : List ℕ). Some xs) (sym same))
+    (long, rw (long, begins, table.0) (ap (λ (xs : List ℕ). Some xs) (sym same)))
 
 -- what is read of a string table is its texts
 strings_there : (bytes : List ℕ) (p : ℕ) (s : List ℕ) → (strings_at p).value bytes ≡ Some s → bytes_between bytes (p + 4) (p + 4 + length s) ≡ Some s
 strings_there bytes p s is =
     let size = step (number_at Little 4 bytes p) _ s is in
-    texts_there bytes (p + 4) (size.value - 4) s (without_test (nat_lt size.value 4) (string_table bytes (p + 4) (size.value - 4)) s size.then)
+    (texts_there bytes (p + 4) (size.value - 4) s (without_test (nat_lt size.value 4) (string_table bytes (p + 4) (size.value - 4)) s size.then)).1
 
 not_few : (few : Bool) (table : Option (List ℕ)) (s : List ℕ) → cond few None table ≡ Some s → few ≡ false
 not_few true table s is = absurd (cc is)
@@ -47,8 +41,8 @@ texts_length bytes p s is =
     let size = step (number_at Little 4 bytes p) _ s is in
     let table = string_table bytes (p + 4) (size.value - 4) in
     let few = not_few (nat_lt size.value 4) table s size.then in
-    let long = texts_long bytes (p + 4) (size.value - 4) s (without_test (nat_lt size.value 4) table s size.then) in
-    rw (size.is, few, long) refl
+    let there = texts_there bytes (p + 4) (size.value - 4) s (without_test (nat_lt size.value 4) table s size.then) in
+    rw (size.is, few, there.0) refl
 
 -- ---- tables that are found
 
@@ -71,20 +65,13 @@ module _ (header : CoffHeader) (bytes : List ℕ) where
   both_found records strings some placed ended =
       rw (some, texts_length bytes (symbols_end header) strings ended, placed, strings_there bytes (symbols_end header) strings ended) refl
 
-  symbols_placed : (header.pointer_to_symbol_table == 0) ≡ false → (symbols_of header).value bytes ≡ option_map (λ (t : List ℕ). Some t) (slice_at bytes header.pointer_to_symbol_table (18 * header.number_of_symbol_table))
-  unfolding symbols_of
-  symbols_placed some = rw some refl
-
-  strings_placed : (header.pointer_to_symbol_table == 0) ≡ false → (strings_of header).value bytes ≡ option_map (λ (t : List ℕ). Some t) ((strings_at (symbols_end header)).value bytes)
-  unfolding strings_of string_table_offset
-  strings_placed some = rw some refl
-
   some_found : (x : Option (List ℕ) × Option (List ℕ)) → (header.pointer_to_symbol_table == 0) ≡ false → (symbol_tables header).value bytes ≡ Some x → Found x
+  unfolding symbols_of strings_of string_table_offset
   some_found x some is =
       let read = step ((symbols_of header).value bytes) _ x is in
       let both = mapped ((strings_of header).value bytes) (λ (strings : Option (List ℕ)). (read.value, strings)) x read.then in
-      let records = mapped (slice_at bytes header.pointer_to_symbol_table (18 * header.number_of_symbol_table)) (λ (t : List ℕ). Some t) read.value (sym (symbols_placed some) ∙ read.is) in
-      let strings = mapped ((strings_at (symbols_end header)).value bytes) (λ (t : List ℕ). Some t) both.value (sym (strings_placed some) ∙ both.is) in
+      let records = mapped (slice_at bytes header.pointer_to_symbol_table (18 * header.number_of_symbol_table)) (λ (t : List ℕ). Some t) read.value (sym (rw some refl) ∙ read.is) in
+      let strings = mapped ((strings_at (symbols_end header)).value bytes) (λ (t : List ℕ). Some t) both.value (sym (rw some refl) ∙ both.is) in
       subst Found both.made
       (subst (λ (symbols : Option (List ℕ)). Found (symbols, both.value)) records.made
       (subst (λ (texts : Option (List ℕ)). Found (Some records.value, texts)) strings.made (both_found records.value strings.value some records.is strings.is)))

@@ -1,11 +1,11 @@
 -- The symbols of a table from an index on, one by one.
-use Rattle.std.proofs.Common.{◌≡◌, ◌<◌, ◌≤◌, ℕ, suc, ◌+◌, ◌/◌, List, length, take, set, true, false, arith, ap, refl, Option, Some, take_all}
+use Rattle.std.proofs.Common.{◌≡◌, ◌<◌, ◌≤◌, ℕ, suc, ◌+◌, ◌/◌, List, length, take, set, true, arith, ap, refl, Option, Some, take_all}
 use Rattle.goblin_pe_symbol.specs.Symbols.{SymbolItem, aux, symbol_of}
 use Rattle.goblin_pe_symbol.proofs.SymbolHeads.{symbols_next, symbols_past}
 use Rattle.goblin_pe_c_headers.specs.declared.symbol.PeSymbol.{PeSymbol}
 use Rattle.goblin_pe_c_headers.specs.Symbols.{GivesSymbols, index_after, named_symbol, named_symbol_table, named_symbol_model, next_index, symbols_onward}
 use Rattle.goblin_pe_c_headers.specs.Onward.{unrefused}
-use Rattle.goblin_pe_c_headers.proofs.Batches.{AtItems, items-end, items-full, items-more, items-start, items-stay, done-end, done-full}
+use Rattle.goblin_pe_c_headers.proofs.GivenOnward.{AtIndex, index-end, index-more, index-start}
 
 -- all bytes are fewer than were asked for
 pub all_left : (n : ℕ) (xs : List ℕ) → length xs < n → take n xs ≡ xs
@@ -16,15 +16,14 @@ abbrev symbols : List ℕ → ℕ → List (Option SymbolItem)
 symbols table i = unrefused (symbols_onward table i)
 
 -- the records hold the symbols up to a position
-pub record IsGiving (table : List ℕ) (names : ℕ → Option (List ℕ)) (from : ℕ) (old : List PeSymbol) (position : ℕ) (records : List PeSymbol) (count : ℕ) : Type 0 where
-  pub at : AtItems (named_symbol_table table names) (symbols table) from from old position position records count
-  pub moved : position ≡ index_after table count from
+abbrev pub IsGiving : List ℕ → (ℕ → Option (List ℕ)) → ℕ → List PeSymbol → ℕ → List PeSymbol → ℕ → Type 0
+IsGiving table names from old = AtIndex (named_symbol_table table names) (symbols table) (λ n. index_after table n from) from old
 
 pub giving_start : (table : List ℕ) (names : ℕ → Option (List ℕ)) (from : ℕ) (old : List PeSymbol) → IsGiving table names from old from old 0
 unfolding index_after
-giving_start table names from old = record { at = items-start (named_symbol_table table names) (symbols table) from from old refl; moved = refl }
+giving_start table names from old = index-start (named_symbol_table table names) (symbols table) (λ n. index_after table n from) from old refl refl
 
-module _ {table : List ℕ} {names : ℕ → Option (List ℕ)} {from : ℕ} {old : List PeSymbol} {position : ℕ} {records : List PeSymbol} {count : ℕ}
+module _ (table : List ℕ) (names : ℕ → Option (List ℕ)) {from : ℕ} {old : List PeSymbol} {position : ℕ} {records : List PeSymbol} {count : ℕ}
     (h : IsGiving table names from old position records count) where
   pub giving_next : (n : ℕ) (r : PeSymbol) → count < length records → position < length table / 18 → n ≡ aux table position
       → named_symbol_model r ≡ named_symbol table names (symbol_of table position) → IsGiving table names from old (position + (1 + n)) (set records count r) (count + 1)
@@ -33,19 +32,11 @@ module _ {table : List ℕ} {names : ℕ → Option (List ℕ)} {from : ℕ} {ol
       let next : position + (1 + n) ≡ next_index table position = omega (arith, size) in
       let step = symbols_next (length table / 18) table position inside in
       let one : count + 1 ≡ suc count = omega arith in
-      rw next (record {
-        at = items-more h.at (symbol_of table position) (next_index table position) (next_index table position) r (ap unrefused step) room is refl;
-        moved = rw one (ap (next_index table) h.moved);
-      })
+      rw next (index-more h (symbol_of table position) (next_index table position) r (ap unrefused step) refl (rw one (ap (next_index table) h.moved)) room is)
 
   -- where no more symbols come
   pub giving_all : length table / 18 ≤ position → count < length records
       → GivesSymbols table names (record { position = from; records = old }) (record { position = position; records = records }) (record { count = count; is_done = true })
   giving_all past within =
       let none = symbols_past (length table / 18) table position past in
-      (items-end h.at position (ap unrefused none) (ap (λ (xs : List SymbolItem). Some (unrefused xs)) none) (items-stay h.at), (done-end h.at (ap unrefused none) within, h.moved))
-
-  -- where there is no more room
-  pub giving_full : (n : ℕ) → n ≡ count → length records ≤ count
-      → GivesSymbols table names (record { position = from; records = old }) (record { position = position; records = records }) (record { count = n; is_done = false })
-  giving_full n is full = rw is (items-full h.at full, (done-full h.at full, h.moved))
+      index-end h (ap unrefused none) (ap (λ (xs : List SymbolItem). Some (unrefused xs)) none) within

@@ -2,6 +2,7 @@
 use Rattle.std.specs.Prelude.{ℕ, ◌^◌, nat_lt, if◌then◌else◌, List, [], Option, Some, None, find}
 use Rattle.std.specs.Prelude.{option_and_then, option_map}
 use Rattle.std.specs.Option.{is_some}
+use Rattle.goblin_base.specs.Answers.{◌>>=◌}
 use Rattle.goblin_base.specs.Reading.{Reading}
 use Rattle.readings.specs.Reads.{text_within}
 use Rattle.goblin_pe_sect.specs.AddressReadings.{at_address}
@@ -31,13 +32,8 @@ mapped_model m = record {
   mapping = m.mapping;
 }
 
--- the sections of an image, if the file has their headers; none are needed if addresses are offsets
-abbrev pub sections_for : PeOptions → PePlaces → List ℕ → Option (List Section)
-sections_for o p bytes =
-    if maps_addresses o then (placed_sections p).value bytes else Some []
-
 -- What maps the addresses of an image. Nothing does if the options are not known, or if the file
--- has no room for the section headers.
+-- has no room for the section headers; none are needed if addresses are offsets.
 unfoldable pub mapped_image : PeOptions → PePlaces → List ℕ → Option MappedImage
 mapped_image o p bytes =
     if are_known o
@@ -45,7 +41,7 @@ mapped_image o p bytes =
       sections = with_front (front_of (view_of o) p.size_of_headers) sections;
       alignment = p.file_alignment;
       mapping = mapping_in (view_of o) (options_at o p.file_alignment);
-    }) (sections_for o p bytes)
+    }) (if maps_addresses o then (placed_sections p).value bytes else Some [])
     else None
 
 -- the file offset of an address, if it has one; an address has 32 bits
@@ -65,14 +61,10 @@ first_address m offset =
     else Some offset
 
 -- this address, if it is mapped back to the offset
-abbrev pub mapped_address : MappedImage → ℕ → Option ℕ
-mapped_address m offset =
-    option_and_then (λ rva. if is_at offset (mapped_offset m rva) then Some rva else None)
-    (first_address m offset)
-
 abbrev pub image_address : PeOptions → PePlaces → List ℕ → ℕ → Option ℕ
 image_address o p bytes offset =
-    option_and_then (λ m. mapped_address m offset) (mapped_image o p bytes)
+    mapped_image o p bytes >>= λ m. first_address m offset
+    >>= λ rva. if is_at offset (mapped_offset m rva) then Some rva else None
 
 -- the text at an address, cut if the options set a limit
 abbrev pub text_at : PeOptions → PePlaces → List ℕ → ℕ → Reading (List ℕ)

@@ -34,7 +34,6 @@ kind_of s records =
     then kind.None
     else kind_with s
 
--- the number of a kind
 abbrev pub kind_number : AuxiliaryKind → ℕ
 kind_number kind.None = 0
 kind_number kind.FunctionDefinition = 1
@@ -67,7 +66,6 @@ zero_auxiliary a = record a {
 abbrev pub file_offset : List ℕ → ℕ
 file_offset records = if number Little 4 records 0 == 0 then number Little 4 records 4 else 0
 
--- the name of a file
 abbrev pub file_name : AuxiliaryKind → List ℕ → List ℕ
 file_name kind.File records = before_nul records
 file_name other records = []

@@ -14,8 +14,6 @@ use Rattle.goblin_base.specs.declared.error.CauseOf.TheVariants as cause
 use Rattle.goblin_pe_c_headers.specs.declared.fault.PeFault.{PeFault}
 use Rattle.goblin_pe_c_headers.specs.declared.options.PeOptions.{PeOptions}
 use Rattle.goblin_pe_c_headers.specs.Options.{are_known}
-use Rattle.goblin_pe_c_headers.specs.declared.fault.Status.{Status}
-use Rattle.goblin_pe_c_headers.specs.declared.fault.Status.TheVariants as status
 
 abbrev pub fault : ℕ → ℕ → ℕ → ℕ → PeFault
 fault status cause first second = record {
@@ -25,32 +23,6 @@ fault status cause first second = record {
   second = second;
 }
 
--- the number of a status
-abbrev pub number_of : Status → ℕ
-number_of status.Ok = 0
-number_of status.Malformed = 1
-number_of status.BadMagic = 2
-number_of status.BufferTooShort = 3
-number_of status.Read = 4
-number_of status.Memory = 5
-number_of status.Options = 6
-number_of status.Steps = 7
-number_of status.Kind = 8
-
--- the status with this number
-abbrev pub status_with : ℕ → Option Status
-status_with number =
-    if number == 0 then Some status.Ok
-    else if number == 1 then Some status.Malformed
-    else if number == 2 then Some status.BadMagic
-    else if number == 3 then Some status.BufferTooShort
-    else if number == 4 then Some status.Read
-    else if number == 5 then Some status.Memory
-    else if number == 6 then Some status.Options
-    else if number == 7 then Some status.Steps
-    else if number == 8 then Some status.Kind
-    else None
-
 -- what a file is too short for, by its number
 abbrev pub word_number : List ℕ → ℕ
 word_number what =
@@ -59,11 +31,9 @@ word_number what =
     else if bytes_eq what (codes "address table entries") then 3
     else 0
 
--- nothing is refused
 abbrev pub no_fault : PeFault
 no_fault = fault 0 0 0 0
 
--- the numbers of a refusal
 abbrev pub fault_of : ErrorOf → PeFault
 fault_of (Malformed (cause.Message text)) = fault 1 1 0 0
 fault_of (Malformed cause.NoDosSignature) = fault 1 2 0 0
@@ -127,42 +97,19 @@ image_fault kind o = if kind == 1 then options_fault o else kind_fault kind
 -- Number 1 is a message of the caller's, which has no numbers.
 abbrev pub causes : ℕ → ℕ → List CauseOf
 causes first second =
-    cause.NoDosSignature
-    ∷ cause.DosMagic (first % 2 ^ 16)
-    ∷ cause.NoPePointer
-    ∷ cause.NoPeSignature first
-    ∷ cause.PeMagic (first % 2 ^ 32)
-    ∷ cause.StubBeforeStart (first % 2 ^ 32)
-    ∷ cause.StubPastEnd first second
-    ∷ cause.NoDans
-    ∷ cause.RichBounds first second
-    ∷ cause.StrippedSize (first % 2 ^ 32)
-    ∷ cause.CoffLength
-    ∷ cause.DirectoryIndex first
-    ∷ cause.DirectoryCount first
-    ∷ cause.NameText
-    ∷ cause.NameBase64
-    ∷ cause.NameDecimal
-    ∷ cause.NameOffset first
-    ∷ cause.SymbolName (first % 2 ^ 32)
-    ∷ cause.StringTable first second
-    ∷ cause.FieldTooWide
-    ∷ cause.Unmapped first
-    ∷ cause.NameRead first
-    ∷ cause.HintEntry first
-    ∷ cause.LookupEnd first
-    ∷ cause.ImportRecordEnd first
-    ∷ cause.ExportTable first
-    ∷ cause.Forwarder
-    ∷ cause.ForwarderOrdinal
-    ∷ cause.RelocRange first (second % 2 ^ 32)
-    ∷ cause.BlockSize (first % 2 ^ 32)
-    ∷ cause.BlockRange first second
-    ∷ cause.Overflow
-    ∷ cause.SlotCount first second
-    ∷ []
+    cause.NoDosSignature ∷ cause.DosMagic (first % 2 ^ 16) ∷ cause.NoPePointer
+    ∷ cause.NoPeSignature first ∷ cause.PeMagic (first % 2 ^ 32)
+    ∷ cause.StubBeforeStart (first % 2 ^ 32) ∷ cause.StubPastEnd first second ∷ cause.NoDans
+    ∷ cause.RichBounds first second ∷ cause.StrippedSize (first % 2 ^ 32) ∷ cause.CoffLength
+    ∷ cause.DirectoryIndex first ∷ cause.DirectoryCount first ∷ cause.NameText ∷ cause.NameBase64
+    ∷ cause.NameDecimal ∷ cause.NameOffset first ∷ cause.SymbolName (first % 2 ^ 32)
+    ∷ cause.StringTable first second ∷ cause.FieldTooWide ∷ cause.Unmapped first
+    ∷ cause.NameRead first ∷ cause.HintEntry first ∷ cause.LookupEnd first
+    ∷ cause.ImportRecordEnd first ∷ cause.ExportTable first ∷ cause.Forwarder
+    ∷ cause.ForwarderOrdinal ∷ cause.RelocRange first (second % 2 ^ 32)
+    ∷ cause.BlockSize (first % 2 ^ 32) ∷ cause.BlockRange first second ∷ cause.Overflow
+    ∷ cause.SlotCount first second ∷ []
 
--- the cause with these numbers
 abbrev pub cause_of : PeFault → Option CauseOf
 cause_of fault =
     if nat_lt fault.cause 2
@@ -178,7 +125,6 @@ word_of number =
     else if number == 3 then Some (codes "address table entries")
     else None
 
--- why a read was refused, by its number
 abbrev pub read_fault_of : ℕ → Option ReadFault
 read_fault_of number =
     if number == 1 then Some BadOffset
@@ -196,7 +142,6 @@ call_text status =
     then Some (codes "the record is not of an image, but of an object or a TE file")
     else None
 
--- the text of a fault of the file
 abbrev pub file_text : PeFault → Option (List ℕ)
 file_text fault =
     if fault.status == 1 then option_map cause_text (cause_of fault)
@@ -206,7 +151,6 @@ file_text fault =
     else if fault.status == 5 then Some memory_text
     else None
 
--- the text of the fault with these numbers
 abbrev pub refusal_text : PeFault → Option (List ℕ)
 refusal_text f = option_or (call_text f.status) (file_text f)
 

@@ -1,9 +1,5 @@
 -- What a call does to the records of its caller.
-use Rattle.std.specs.Prelude.{◌≡◌, ℕ, List, [], length, map, take, drop}
-
--- a value, and nothing in place of a text that it does not have
-abbrev pub without_text : {A : Type 0} → A → A × List ℕ
-without_text x = (x, [])
+use Rattle.std.specs.Prelude.{◌≡◌, List, length, map, take, drop}
 
 -- The records after a call: the front holds what was made, as far as there is room, and the rest
 -- are the caller's own.

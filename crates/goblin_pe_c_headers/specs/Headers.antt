@@ -5,7 +5,6 @@ use Rattle.goblin_pe_head.specs.declared.optional_header.standard_fields.Standar
 use Rattle.goblin_pe_head.specs.added.HeaderParts.{no_windows_fields}
 use Rattle.goblin_pe_c_headers.specs.declared.headers.PeOptionalHeader.{PeOptionalHeader}
 
--- standard fields of zeros
 abbrev pub no_standard_fields : StandardFields
 no_standard_fields = record {
   magic = 0;

@@ -9,7 +9,6 @@ use Rattle.goblin_pe_c_headers.specs.declared.options.PeOptions.{PeOptions}
 use Rattle.goblin_pe_c_headers.specs.Headers.{no_standard_fields}
 use Rattle.goblin_pe_sect.specs.DataDirectories.{no_directory}
 
--- a COFF header of zeros
 abbrev pub zero_coff_header : CoffHeader
 zero_coff_header = record {
   machine = 0;

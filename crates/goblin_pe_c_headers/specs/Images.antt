@@ -2,6 +2,5 @@
 use Rattle.std.specs.Prelude.{ℕ, List}
 use Rattle.goblin_pe_c_headers.specs.declared.image.PeSlice.{PeSlice}
 
--- the bytes of a slice
 abbrev pub slice_model : PeSlice → List ℕ
 slice_model text = text.bytes.now

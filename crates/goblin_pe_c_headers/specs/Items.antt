@@ -2,12 +2,7 @@
 use Rattle.std.specs.Prelude.{List, map, Option, Result}
 use Rattle.std.specs.Result.{result_ok}
 use Rattle.goblin_base.specs.declared.error.ErrorOf.{ErrorOf}
-use Rattle.goblin_pe_c_headers.specs.Onward.{values_before}
 
 -- each refusal without its cause
 abbrev pub without_causes : {A : Type 0} → List (Result A ErrorOf) → List (Option A)
 without_causes items = map result_ok items
-
--- the values before the first one
-abbrev pub values_of : {A : Type 0} → List (Result A ErrorOf) → List A
-values_of items = values_before (without_causes items)

@@ -1,13 +1,13 @@
 -- What a file is, by its first bytes.
 use Rattle.std.specs.List.{list_any}
 use Rattle.std.specs.Prelude.{ℕ, Bool, false, ◌==◌, ◌&&◌, if◌then◌else◌, nat_eq, nat_le, List, []}
-use Rattle.std.specs.Prelude.{◌∷◌, Option, None, Some}
+use Rattle.std.specs.Prelude.{◌∷◌, option_map, unwrap_or}
 use Rattle.goblin_base.specs.declared.endian.Endian.TheVariants.{Little}
 use Rattle.goblin_base.specs.Bytes.{number_at}
+use Rattle.goblin_pe_sect.specs.added.Backward.{is_at}
 use Rattle.goblin_pe_c_headers.specs.declared.kind.Kind.{Kind}
 use Rattle.goblin_pe_c_headers.specs.declared.kind.Kind.TheVariants as kind
 
--- the number of a kind
 abbrev pub kind_number : Kind → ℕ
 kind_number kind.Unknown = 0
 kind_number kind.Image = 1
@@ -33,19 +33,9 @@ kind_with magic =
     else if list_any (λ machine. nat_eq machine magic) machines then kind.Object
     else kind.Unknown
 
--- the kind by these bytes, unknown if they are not there
-abbrev pub kind_by : Option ℕ → Kind
-kind_by None = kind.Unknown
-kind_by (Some magic) = kind_with magic
-
--- this number, if there is one
-abbrev pub is_number : Option ℕ → ℕ → Bool
-is_number None number = false
-is_number (Some found) number = found == number
-
 -- the n bytes at p are there, and are this number
 abbrev pub has_number : ℕ → List ℕ → ℕ → ℕ → Bool
-has_number n bytes p number = is_number (number_at Little n bytes p) number
+has_number n bytes p number = is_at number (number_at Little n bytes p)
 
 -- The identifier of big objects, {D1BAA1C7-BAEE-4BA9-AF20-FAF66AA4DCB8}, in the 16 bytes at 12.
 -- Source: the Windows headers, ANON_OBJECT_HEADER_BIGOBJ.
@@ -55,19 +45,17 @@ is_big bytes =
 
 -- The kind by the version, of what begins with 0 and 0xFFFF.
 -- Source: PE Format, "Import Header"; the Windows headers, ANON_OBJECT_HEADER.
-abbrev pub anonymous_by : Bool → Option ℕ → Kind
-anonymous_by is_big None = kind.Unknown
-anonymous_by is_big (Some version) =
-    if version == 0 then kind.ImportObject
-    else if nat_le 2 version && is_big then kind.BigObject
+abbrev pub anonymous_kind : List ℕ → Kind
+anonymous_kind bytes =
+    if has_number 2 bytes 4 0 then kind.ImportObject
+    else if unwrap_or (option_map (nat_le 2) (number_at Little 2 bytes 4)) false && is_big bytes
+    then kind.BigObject
     else kind.Unknown
 
-abbrev pub anonymous_kind : List ℕ → Kind
-anonymous_kind bytes = anonymous_by (is_big bytes) (number_at Little 2 bytes 4)
-
--- the kind of a file: `!<arch>` and a line feed, 0 and 0xFFFF, or by the first two bytes
+-- the kind of a file: `!<arch>` and a line feed, 0 and 0xFFFF, or by the first two bytes, unknown
+-- if they are not there
 abbrev pub kind_of : List ℕ → Kind
 kind_of bytes =
     if has_number 8 bytes 0 0xA3E686372613C21 then kind.Archive
     else if has_number 4 bytes 0 0xFFFF0000 then anonymous_kind bytes
-    else kind_by (number_at Little 2 bytes 0)
+    else unwrap_or (option_map kind_with (number_at Little 2 bytes 0)) kind.Unknown

@@ -23,7 +23,6 @@ use Rattle.goblin_pe_c_headers.specs.Options.{are_known, options_at, view_of}
 
 -- ---- what a record says
 
--- the number of a region
 abbrev pub region_number : Region → ℕ
 region_number region.Unmapped = 0
 region_number region.Headers = 1
@@ -61,7 +60,6 @@ known found missing index where_from = record {
   reserved = 0;
 }
 
--- all bytes are missing
 abbrev pub unknown : ℕ → ℕ → Memory
 unknown missing index = known ([], 0) missing index region.Unmapped
 
@@ -96,51 +94,44 @@ stored_size mapping s =
     then 0
     else s.pointer_to_raw_data + s.size_of_raw_data - raw_begin mapping s
 
--- how many zeros follow these up to the size in memory
-abbrev pub zeros_after : Mapping → Section → ℕ
-zeros_after mapping s = memory_size s - stored_size mapping s
-
--- the raw data of a section as far as the file has it, and the zeros that follow where it has all
-abbrev pub contents_in : Mapping → List ℕ → ℕ → Section → Memory
-contents_in mapping bytes index s =
-    let stored = stored_size mapping s in
-    let found = available bytes (raw_begin mapping s) stored (zeros_after mapping s) in
-    known found (stored - length found.0) index
-    (if stored == 0 then region.Zeros else region.RawData)
-
--- the contents of a section of an image with this file alignment; if the options are not known,
--- all is missing
+-- The contents of a section of an image with this file alignment: its raw data as far as the file
+-- has it, and, where it has all, the zeros that follow up to the size in memory. If the options are
+-- not known, all is missing.
 abbrev pub section_data : PeOptions → ℕ → List ℕ → ℕ → Section → Memory
 section_data o alignment bytes index s =
     let mapping = mapping_in (view_of o) (options_at o alignment) in
+    let stored = stored_size mapping s in
+    let zeros = memory_size s - stored in
+    let found = available bytes (raw_begin mapping s) stored zeros in
     if are_known o
-    then contents_in mapping bytes index s
-    else unknown (stored_size mapping s + zeros_after mapping s) index
+    then known found (stored - length found.0) index
+    (if stored == 0 then region.Zeros else region.RawData)
+    else unknown (stored + zeros) index
 
 -- ---- a section's memory
 
 -- how many bytes a section's window has; there is none if the alignment is not a power of two
-abbrev pub window_size : Mapping → ℕ → Section → ℕ
-window_size mapping alignment s =
-    if is_power_of_two alignment then read_size mapping.view s alignment else 0
+abbrev pub window_size : MappedImage → Section → ℕ
+window_size m s =
+    if is_power_of_two m.alignment then read_size m.mapping.view s m.alignment else 0
 
 -- the address is one of the `length` addresses from the section's on
 abbrev pub is_among : ℕ → ℕ → Section → Bool
 is_among size rva s = nat_le s.virtual_address rva && nat_lt rva (s.virtual_address + size)
 
 -- how many bytes the section's memory has, in which its window lies
-abbrev pub memory_length : Mapping → ℕ → Section → ℕ
-memory_length mapping alignment s = max (memory_size s) (window_size mapping alignment s)
+abbrev pub memory_length : MappedImage → Section → ℕ
+memory_length m s = max (memory_size s) (window_size m s)
 
 -- How many bytes of a section's memory are the file's: those of its raw data, and of the file
 -- blocks in its window as far as the file, whose end is given, has them. None are, if it has no
 -- place in the file. Of raw data that the file lacks it is not known what it is.
-abbrev pub stored_in_memory : Mapping → ℕ → ℕ → Section → ℕ
-stored_in_memory mapping alignment end s =
+abbrev pub stored_in_memory : MappedImage → ℕ → Section → ℕ
+stored_in_memory m end s =
     if is_unstored s
     then 0
-    else max (min (window_size mapping alignment s) (end - raw_begin mapping s))
-    (min (memory_length mapping alignment s) (stored_size mapping s))
+    else max (min (window_size m s) (end - raw_begin m.mapping s))
+    (min (memory_length m s) (stored_size m.mapping s))
 
 -- ---- what holds an address
 
@@ -148,34 +139,29 @@ stored_in_memory mapping alignment end s =
 -- front, if it is mapped, comes after all sections
 abbrev pub holder : MappedImage → ℕ → Option Section
 holder m rva =
-    option_or (find (λ s. is_among (window_size m.mapping m.alignment s) rva s) m.sections)
-    (find (λ s. is_among (memory_length m.mapping m.alignment s) rva s) m.sections)
+    option_or (find (λ s. is_among (window_size m s) rva s) m.sections)
+    (find (λ s. is_among (memory_length m s) rva s) m.sections)
 
 -- its index
 abbrev pub holder_index : MappedImage → ℕ → Option ℕ
 holder_index m rva =
-    option_or (position (λ s. is_among (window_size m.mapping m.alignment s) rva s) m.sections)
-    (position (λ s. is_among (memory_length m.mapping m.alignment s) rva s) m.sections)
+    option_or (position (λ s. is_among (window_size m s) rva s) m.sections)
+    (position (λ s. is_among (memory_length m s) rva s) m.sections)
 
 -- ---- `size` bytes
-
--- how many of `size` bytes of a section's memory, from a distance on, are the file's
-abbrev pub stored_of : Mapping → ℕ → ℕ → Section → ℕ → ℕ → ℕ
-stored_of mapping alignment end s distance size =
-    min size (stored_in_memory mapping alignment end s - distance)
 
 -- at most `size` bytes of a section's memory, from an address in it on
 abbrev pub memory_of : MappedImage → List ℕ → ℕ → ℕ → Section → List ℕ × ℕ
 memory_of m bytes rva size s =
     let distance = rva - s.virtual_address in
-    let most = min size (memory_length m.mapping m.alignment s - distance) in
-    let stored = stored_of m.mapping m.alignment (length bytes) s distance most in
+    let most = min size (memory_length m s - distance) in
+    let stored = min most (stored_in_memory m (length bytes) s - distance) in
     available bytes (raw_begin m.mapping s + distance) stored (most - stored)
 
 -- what is at an address in a section's memory
 abbrev pub region_in : MappedImage → List ℕ → ℕ → Section → Region
 region_in m bytes rva s =
-    if nat_lt (rva - s.virtual_address) (stored_in_memory m.mapping m.alignment (length bytes) s)
+    if nat_lt (rva - s.virtual_address) (stored_in_memory m (length bytes) s)
     then region.RawData
     else region.Zeros
 
@@ -209,17 +195,12 @@ unfoldable pub memory_at : PeOptions → PePlaces → List ℕ → ℕ → ℕ �
 memory_at o p bytes rva size =
     memory_mapped bytes p.number_of_sections rva size (mapped_image o p bytes)
 
--- an address lies in uninitialized data, which has no place in the file
-abbrev pub IsUnstored : PeOptions → PePlaces → List ℕ → ℕ → Type 0
-IsUnstored o p bytes rva =
-    IsSomeAnd (option_and_then (λ m. holder m rva) (mapped_image o p bytes))
-    (λ s. IsTrue (is_unstored s))
-
 -- Where an address has an offset inside the file, the byte there is what is in memory, but in
--- uninitialized data.
+-- uninitialized data, which has no place in the file.
 abbrev pub SeesFile : PeOptions → PePlaces → List ℕ → Type 0
 SeesFile o p bytes =
     (rva offset : ℕ) → image_map o p bytes rva ≡ Some offset → offset < length bytes
-    → ¬ IsUnstored o p bytes rva
+    → ¬ IsSomeAnd (option_and_then (λ m. holder m rva) (mapped_image o p bytes))
+    (λ s. IsTrue (is_unstored s))
     → let seen = memory_at o p bytes rva 1 in
     (seen.bytes ≡ slice_range bytes offset (offset + 1)) × (seen.missing ≡ 0)

@@ -14,22 +14,17 @@ use Rattle.goblin_pe_c_headers.specs.ImageRecords.{zero_image}
 use Rattle.goblin_pe_c_headers.specs.Options.{header_options, longest_of}
 use Rattle.goblin_pe_c_headers.specs.Sections.{RowsHold}
 
--- an object: its header and its sections
 pub record ObjectFile : Type 0 where
   pub header : CoffHeader
   pub sections : List Section
 
--- the sections of an object, which follow the header and what it says of an optional header
-abbrev pub object_sections : Bool → CoffHeader → Reading (List Section)
-object_sections strict h =
-    sections_at strict (symbols_end h) h.number_of_sections (20 + h.size_of_optional_header)
-
--- an object: its header is at the front of the file
+-- an object: its header is at the front of the file, and the sections follow the header and what it
+-- says of an optional header
 unfoldable pub object_file : Bool → Reading ObjectFile
 object_file strict =
-    record_at 20 (coff_header Little) 0 >>= λ header.
-    mapped (λ sections. record { header = header; sections = sections })
-    (object_sections strict header)
+    record_at 20 (coff_header Little) 0 >>= λ h.
+    mapped (λ sections. record { header = h; sections = sections })
+    (sections_at strict (symbols_end h) h.number_of_sections (20 + h.size_of_optional_header))
 
 -- the record of an object with this header
 abbrev pub object_image : PeOptions → CoffHeader → PeImage → PeImage

@@ -13,6 +13,9 @@ pub record Batch (P R : Type 0) : Type 0 where
   pub position : P
   pub records : List R
 
+abbrev pub rows_at : {P R : Type 0} → P → List R → Batch P R
+rows_at position records = record { position = position; records = records }
+
 -- A table that comes in batches: what contracts see of a record, the value of an item, and the
 -- items that come from a position on, `None` in place of one that is refused. Nothing is there
 -- where what leads to the items is refused.
@@ -52,21 +55,16 @@ pub record AtBatch {R A B : Type 0} (view : R → B) (value_of : A → B) (old :
   pub same : length records ≡ length old
   pub fits : count ≤ length old
 
--- There is room for nothing more, or all is given up to a refusal; the very next is no refusal, if
--- there is room for any.
-abbrev pub IsWhole : {A : Type 0} → List (Option A) → ℕ → ℕ → Type 0
-IsWhole left room count =
-    (count ≡ min room (length (values_before left))) × (IsRefusedNext left → room ≡ 0)
-
 -- Of these that are left the records hold those that come first, and from the new position on come
--- the others; without room the position stays. Where more would come, and there is room, the batch
--- was cut.
+-- the others; without room the position stays. The batch was cut; or there is room for nothing more,
+-- or all is given up to a refusal, and the very next is no refusal, if there is room for any.
 pub record FillsFrom {P R A B : Type 0} (table : Table P R A B) (IsCut : Type 0)
     (left : List (Option A)) (old new : Batch P R) (count : ℕ) : Type 0 where
   pub batch : IsBatch table.view table.value_of (take count (values_before left)) old.records
       new.records count
   pub later : table.from new.position ≡ Some (drop count left)
-  pub whole : IsCut ⊎ IsWhole left (length old.records) count
+  pub whole : IsCut ⊎ ((count ≡ min (length old.records) (length (values_before left)))
+      × (IsRefusedNext left → length old.records ≡ 0))
   pub stays : length old.records ≡ 0 → new.position ≡ old.position
 
 -- What every batch gives: what comes from the old position on, as above; and what holds of its

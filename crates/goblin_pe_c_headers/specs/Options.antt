@@ -4,7 +4,6 @@ use Rattle.std.specs.Prelude.{Some, None}
 use Rattle.std.specs.List.{list_all}
 use Rattle.goblin_base.specs.declared.permissive.ParseMode.TheVariants.{Strict, Permissive}
 use Rattle.goblin_pe_sect.specs.declared.options.ParseOptions.{ParseOptions}
-use Rattle.goblin_pe_sect.specs.declared.options.RawPointerRule.{RawPointerRule}
 use Rattle.goblin_pe_sect.specs.declared.options.RawPointerRule.TheVariants.{AsStored}
 use Rattle.goblin_pe_sect.specs.declared.options.View.{View}
 use Rattle.goblin_pe_sect.specs.declared.options.View.TheVariants.{LoadedSections, Loader, Sections}
@@ -17,13 +16,6 @@ use Rattle.goblin_pe_c_headers.specs.declared.options.PeOptions.{PeOptions}
 -- the options are known: the mapping has a number of its own, and zeros follow
 abbrev pub are_known : PeOptions → Bool
 are_known o = nat_le o.mapping 3 && list_all (λ b. b == 0) o.reserved
-
--- the rule for raw pointers by this mapping, at this file alignment
-abbrev pub rule_at : ℕ → ℕ → RawPointerRule
-rule_at mapping alignment =
-    if mapping == 0 then rule_by_alignment alignment
-    else if mapping == 1 then rule_by_alignment alignment
-    else AsStored
 
 -- what addresses are mapped by: with the mapping 0 as the Windows loader does, and with 1 without
 -- the front
@@ -47,7 +39,10 @@ maps_addresses o = if o.mapping == 3 then false else true
 abbrev pub options_at : PeOptions → ℕ → ParseOptions
 options_at o alignment = record (header_options o) {
   resolve_rva = maps_addresses o;
-  raw_pointer_rule = rule_at o.mapping alignment;
+  raw_pointer_rule =
+      if o.mapping == 0 then rule_by_alignment alignment
+      else if o.mapping == 1 then rule_by_alignment alignment
+      else AsStored;
 }
 
 -- the limit of a name's length that a number says; 0 is none

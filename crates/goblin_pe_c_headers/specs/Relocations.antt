@@ -1,5 +1,5 @@
 -- The relocations of a section of an object, as a call gives them.
-use Rattle.std.specs.Prelude.{ℕ, ◌*◌, ◌==◌, ◌&&◌, Bool, List, [], bit_and, not}
+use Rattle.std.specs.Prelude.{ℕ, ◌*◌, ◌==◌, ◌&&◌, List, [], bit_and, not}
 use Rattle.goblin_base.specs.declared.endian.Endian.TheVariants.{Little}
 use Rattle.goblin_base.specs.Reading.{Reading}
 use Rattle.readings.specs.Reads.{◌>>=◌, given, mapped, number_at, pick, slice_at}
@@ -7,35 +7,25 @@ use Rattle.goblin_pe_sect.specs.declared.relocation.Relocation.{Relocation}
 use Rattle.goblin_pe_sect.specs.Relocations.{relocations_in}
 use Rattle.goblin_pe_sect.specs.SectionTable.{Section}
 use Rattle.goblin_pe_c_headers.specs.declared.cursor.PeCoffRelocationCursor.{PeCoffRelocationCursor}
-use Rattle.goblin_pe_c_headers.specs.Onward.{Batch}
 
--- the number of a section's relocations is in the first one, as they are more than its header can
--- say: the number there is 65,535, and the bit IMAGE_SCN_LNK_NRELOC_OVFL is set
-abbrev pub counts_in_first : Section → Bool
-counts_in_first s =
-    (s.number_of_relocations == 0xFFFF) && not (bit_and s.characteristics 0x0100_0000 == 0)
-
--- where the walk over the relocations of a section begins
+-- Where the walk over the relocations of a section begins. If they are more than its header can
+-- say, their number is in the first one: the number in the header is 65,535, and the bit
+-- IMAGE_SCN_LNK_NRELOC_OVFL is set.
 abbrev pub relocations_begin : Section → PeCoffRelocationCursor
 relocations_begin s = record {
   index = 0;
   offset = s.pointer_to_relocations;
   count = s.number_of_relocations;
-  is_extended = counts_in_first s;
+  is_extended =
+      (s.number_of_relocations == 0xFFFF) && not (bit_and s.characteristics 0x0100_0000 == 0);
   reserved = 0;
 }
 
--- how many relocations there are
 abbrev pub record_count : PeCoffRelocationCursor → Reading ℕ
 record_count c = pick c.is_extended (number_at Little 4 c.offset) (given c.count)
 
--- n relocations at p; of none, p does not matter
-abbrev pub relocations_at : ℕ → ℕ → Reading (List Relocation)
-relocations_at p n = pick (n == 0) (given []) (mapped relocations_in (slice_at p (10 * n)))
-
--- all relocations of a walk
+-- all relocations of a walk; of none, the offset does not matter
 unfoldable pub all_relocations : PeCoffRelocationCursor → Reading (List Relocation)
-all_relocations c = record_count c >>= relocations_at c.offset
-
-abbrev pub RelocationBatch : Type 0
-RelocationBatch = Batch ℕ Relocation
+all_relocations c =
+    record_count c
+    >>= λ n. pick (n == 0) (given []) (mapped relocations_in (slice_at c.offset (10 * n)))

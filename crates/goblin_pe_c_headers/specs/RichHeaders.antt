@@ -21,15 +21,11 @@ use Rattle.goblin_pe_c_headers.specs.ImageRecords.{no_rich_header}
 use Rattle.goblin_pe_c_headers.specs.Items.{without_causes}
 use Rattle.goblin_pe_c_headers.specs.Onward.{Batch, FillsNext, IsRefusedNext, Table, no_batch}
 
--- where the entries begin
-abbrev pub entries_begin : PeRichHeader → ℕ
-entries_begin r = r.start_offset + 4 + r.padding_size
-
 -- the entries, as stored: what lies between the padding and the marker Rich
 abbrev pub rich_stretch : PeRichHeader → Reading (List ℕ)
 rich_stretch r =
-    pick (nat_le r.end_offset (entries_begin r)) (given [])
-    (slice_at (entries_begin r) (r.end_offset - entries_begin r))
+    let begin = r.start_offset + 4 + r.padding_size in
+    pick (nat_le r.end_offset begin) (given []) (slice_at begin (r.end_offset - begin))
 
 -- bytes that are no whole entry are at this index
 abbrev pub is_rest : List ℕ → ℕ → Bool
@@ -43,24 +39,23 @@ abbrev pub rich_table : ℕ → List ℕ → Table ℕ RichMetadata RichMetadata
 rich_table key stretch =
     record { view = λ r. r; value_of = λ r. r; from = λ i. Some (entries_from key stretch i) }
 
-abbrev pub RichBatch : Type 0
-RichBatch = Batch ℕ RichMetadata
-
 -- The records hold the entries from the old index on, and from the new one on come the others.
-abbrev pub GivesEntriesOf : ℕ → List ℕ → RichBatch → RichBatch → PeBatch → Type 0
+abbrev pub GivesEntriesOf : ℕ → List ℕ → Batch ℕ RichMetadata → Batch ℕ RichMetadata → PeBatch
+    → Type 0
 GivesEntriesOf key stretch old new batch =
     FillsNext (rich_table key stretch) ⊥ (λ left. new.position ≡ old.position + batch.count) old new
     batch
 
 -- the next bytes are no whole entry, and there is room for one
-abbrev pub IsRefusedEntry : ℕ → List ℕ → RichBatch → ErrorOf → Type 0
+abbrev pub IsRefusedEntry : ℕ → List ℕ → Batch ℕ RichMetadata → ErrorOf → Type 0
 IsRefusedEntry key stretch old e =
     (0 < length old.records) × IsRefusedNext (entries_from key stretch old.position)
     × (e ≡ Read TooBig)
 
 -- A call has given the entries of an image's Rich header that come next; or they are not there, or
 -- the next bytes are no whole entry, and nothing else is changed than what is said.
-abbrev pub GivesEntries : PeImage → RichBatch → RichBatch → PeBatch → Result Unit ErrorOf → Type 0
+abbrev pub GivesEntries : PeImage → Batch ℕ RichMetadata → Batch ℕ RichMetadata → PeBatch
+    → Result Unit ErrorOf → Type 0
 GivesEntries image old new batch (Ok x) =
     IsSomeAnd ((rich_stretch image.rich_header).value image.bytes.now)
     (λ stretch. GivesEntriesOf image.rich_header.key stretch old new batch)

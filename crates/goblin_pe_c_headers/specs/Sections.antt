@@ -1,7 +1,7 @@
 -- The rows of sections, as definitions.
 use Rattle.std.specs.Prelude.{◌≡◌, IsSomeAnd, ℕ, Bool, if◌then◌else◌, List, Option, Some, None}
 use Rattle.std.specs.Prelude.{Result, ◌+◌, ◌*◌, ◌/◌, ◌==◌, map, length, option_and_then}
-use Rattle.std.specs.Prelude.{slice_range, take}
+use Rattle.std.specs.Prelude.{slice_range, take, unwrap_or}
 use Rattle.std.specs.List.{range_with_len}
 use Rattle.goblin_base.specs.declared.error.ErrorOf.{ErrorOf}
 use Rattle.goblin_base.specs.declared.endian.Endian.TheVariants.{Little}
@@ -9,13 +9,12 @@ use Rattle.goblin_base.specs.Bytes.{before_nul}
 use Rattle.readings.specs.Reads.{◌>>=◌, taken, text_within}
 use Rattle.goblin_pe_sect.specs.Options.{is_strict}
 use Rattle.goblin_pe_sect.specs.SectionName.{name_value}
-use Rattle.goblin_pe_sect.specs.SectionTable.{Section, section_record, unnamed}
+use Rattle.goblin_pe_sect.specs.SectionTable.{Section, section_record}
 use Rattle.goblin_pe_head.specs.CoffHeader.{symbols_end}
 use Rattle.goblin_pe_head.specs.TeHeader.{section_moved}
 use Rattle.goblin_pe_c_headers.specs.declared.batch.PeBatch.{PeBatch}
 use Rattle.goblin_pe_c_headers.specs.declared.cursor.PeCoffRelocationCursor.{PeCoffRelocationCursor}
 use Rattle.goblin_pe_c_headers.specs.declared.image.PeImage.{PeImage}
-use Rattle.goblin_pe_c_headers.specs.declared.section.Naming.{Naming}
 use Rattle.goblin_pe_c_headers.specs.declared.section.PeSection.{PeSection}
 use Rattle.goblin_pe_c_headers.specs.Calls.{ReadsWithout}
 use Rattle.goblin_pe_c_headers.specs.Onward.{Batch, GivesRows, no_batch}
@@ -29,11 +28,6 @@ unfoldable pub real_name_in : Bool → Option ℕ → List ℕ → ℕ → List 
 real_name_in strict longest bytes table name =
     option_and_then (λ place. (taken place >>= λ n. text_within longest (table + n)).value bytes)
     (name_value strict name)
-
--- a section with its name from the string table at `table`
-abbrev pub named_in : Bool → Option ℕ → List ℕ → ℕ → Section → Section
-named_in strict longest bytes table s =
-    record s { real_name = real_name_in strict longest bytes table s.name }
 
 -- what a row holds of a section; its real name is the name if that is from the string table
 abbrev pub section_model : PeSection → Section
@@ -66,78 +60,46 @@ row_model s = record {
   relocations = s.relocations;
 }
 
--- the row of a section with its stored name alone: the bytes at the front of its header before a
--- NUL
-abbrev pub unnamed_row : List ℕ → ℕ → Section → SectionRow
-unnamed_row header i s = record {
-  section = s;
-  name = before_nul (take 8 header);
-  index = i;
-  relocations = relocations_begin s;
-}
+-- the name from the string table of an image, if these eight bytes lead to one
+abbrev pub long_name : PeImage → List ℕ → Option (List ℕ)
+long_name image name =
+    real_name_in (is_strict (header_options image.options).parse_mode) (longest_of image.options)
+    image.bytes.now (symbols_end image.coff_header) name
 
--- a row with a name from the string table, if there is one
-abbrev pub with_name : Option (List ℕ) → SectionRow → SectionRow
-with_name None row = row
-with_name (Some name) row =
-    record row { name = name; section = record (row.section) { real_name = Some name } }
+-- how far the sections of an image moved to the front: those of a Terse Executable did
+abbrev pub displacement_of : PeImage → Option ℕ
+displacement_of image = if image.kind == 3 then Some image.moved_by else None
 
--- What the sections of an image are read by: the mode, the limit of a name, the file, the offset of
--- the string table in it, and how far the sections moved to the front.
-pub record NamingModel : Type 0 where
-  pub strict : Bool
-  pub longest : Option ℕ
-  pub bytes : List ℕ
-  pub strings : ℕ
-  pub displacement : Option ℕ
-
-abbrev pub naming_for_c : Naming → NamingModel
-naming_for_c n = record {
-  strict = is_strict n.opts.parse_mode;
-  longest = n.longest;
-  bytes = n.bytes.now;
-  strings = n.strings;
-  displacement = n.displacement;
-}
-
--- those of a Terse Executable moved
-abbrev pub naming_of : PeImage → NamingModel
-naming_of image = record {
-  strict = is_strict (header_options image.options).parse_mode;
-  longest = longest_of image.options;
-  bytes = image.bytes.now;
-  strings = symbols_end image.coff_header;
-  displacement = if image.kind == 3 then Some image.moved_by else None;
-}
-
--- the row of the section header with these bytes
-abbrev pub row_of : NamingModel → ℕ → List ℕ → SectionRow
-row_of n i header =
-    let s = section_moved n.displacement (section_record Little header) in
-    with_name (real_name_in n.strict n.longest n.bytes n.strings s.name)
-    (unnamed_row header i (unnamed s))
+-- the row of the section header with these bytes; its name is from the string table, or else the
+-- bytes at the front of the header before a NUL
+abbrev pub row_of : PeImage → ℕ → List ℕ → SectionRow
+row_of image i header =
+    let s = section_moved (displacement_of image) (section_record Little header) in
+    let name = long_name image s.name in
+    record {
+      section = record s { real_name = name };
+      name = unwrap_or name (before_nul (take 8 header));
+      index = i;
+      relocations = relocations_begin s;
+    }
 
 -- the rows of the section headers in these bytes
-abbrev pub section_rows : NamingModel → List ℕ → List SectionRow
-section_rows n headers =
-    map (λ i. row_of n i (slice_range headers (40 * i) (40 * i + 40)))
+abbrev pub section_rows : PeImage → List ℕ → List SectionRow
+section_rows image headers =
+    map (λ i. row_of image i (slice_range headers (40 * i) (40 * i + 40)))
     (range_with_len 0 (length headers / 40))
-
-abbrev pub SectionBatch : Type 0
-SectionBatch = Batch ℕ PeSection
 
 -- A call has given the rows of an image's sections that come next; or its section headers are not
 -- there.
-abbrev pub ReadsSections : PeImage → SectionBatch → SectionBatch → PeBatch → Result Unit ErrorOf
-    → Type 0
+abbrev pub ReadsSections : PeImage → Batch ℕ PeSection → Batch ℕ PeSection → PeBatch
+    → Result Unit ErrorOf → Type 0
 ReadsSections image old new batch result =
     ReadsWithout (headers_there image.section_count image.section_table) image.bytes.now
-    (λ headers. GivesRows row_model (section_rows (naming_of image) headers) old new batch)
+    (λ headers. GivesRows row_model (section_rows image headers) old new batch)
     ((new ≡ old) × (batch ≡ no_batch)) result
 
 -- The rows of an image hold these sections: its section headers are there.
 abbrev pub RowsHold : PeImage → List Section → Type 0
 RowsHold image sections =
     IsSomeAnd ((headers_there image.section_count image.section_table).value image.bytes.now)
-    (λ headers.
-    map (λ (r : SectionRow). r.section) (section_rows (naming_of image) headers) ≡ sections)
+    (λ headers. map (λ (r : SectionRow). r.section) (section_rows image headers) ≡ sections)

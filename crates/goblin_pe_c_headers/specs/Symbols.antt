@@ -19,21 +19,19 @@ use Rattle.goblin_pe_head.specs.declared.header.coff.CoffHeader.{CoffHeader}
 use Rattle.goblin_pe_head.specs.CoffHeader.{string_table_offset, symbols_end}
 use Rattle.goblin_pe_head.specs.CoffReadings.{strings_of, symbols_of}
 use Rattle.goblin_pe_c_headers.specs.declared.symbol.PeSymbol.{PeSymbol}
-use Rattle.goblin_pe_c_headers.specs.Filled.{without_text}
 use Rattle.goblin_pe_c_headers.specs.Onward.{Batch, FillsNext, Table, unrefused}
 use Rattle.goblin_pe_c_headers.specs.declared.batch.PeBatch.{PeBatch}
 use Rattle.goblin_pe_c_headers.specs.declared.image.PeImage.{PeImage}
 use Rattle.goblin_pe_c_headers.specs.Options.{longest_of}
 
--- the name at the end of the bytes of a string table: an empty one, if a piece ends there
-abbrev pub name_at_end : List ℕ → Option (List ℕ)
-name_at_end strings = if is_in_piece strings (length strings) then Some [] else None
-
--- the name at an offset of the bytes of a string table: what is left of the piece there, where that
--- is UTF-8, whatever the other bytes are, whole or, where there is a limit, cut there
+-- The name at an offset of the bytes of a string table: what is left of the piece there, where that
+-- is UTF-8, whatever the other bytes are, whole or, where there is a limit, cut there. At the end
+-- it is an empty one, if a piece ends there.
 abbrev pub name_in_piece : Option ℕ → List ℕ → ℕ → Option (List ℕ)
 name_in_piece longest strings o =
-    if o == length strings then name_at_end strings else text_within longest strings o
+    if o == length strings
+    then (if is_in_piece strings o then Some [] else None)
+    else text_within longest strings o
 
 -- Of bytes that are UTF-8 as a whole, these are the texts of the string table that they are.
 abbrev pub NamesOfText : Type 0
@@ -60,20 +58,18 @@ pub record NamedSymbol : Type 0 where
 abbrev pub auxiliary_of : List ℕ → ℕ → Symbol → List ℕ
 auxiliary_of table i symbol = take (18 * symbol.number_of_aux_symbols) (drop (18 * (i + 1)) table)
 
--- a symbol at an index of a table, with this name and its auxiliary records
-abbrev pub symbol_named : List ℕ → ℕ → Option (List ℕ) → Symbol → NamedSymbol × List ℕ
-symbol_named table i name symbol =
-    without_text (record {
-      index = i;
-      name = name;
-      auxiliary = auxiliary_of table i symbol;
-      symbol = symbol;
-    })
-
--- a symbol of a table with its name from the record or a string table
+-- a symbol of a table with its name from the record or a string table, its auxiliary records, and
+-- nothing in place of a missing name
 abbrev pub named_symbol : List ℕ → (ℕ → Option (List ℕ)) → SymbolItem → NamedSymbol × List ℕ
-named_symbol table names item =
-    symbol_named table item.0 (name_in names item.1 item.2) item.2
+named_symbol table names item = (
+  record {
+    index = item.0;
+    name = name_in names item.1 item.2;
+    auxiliary = auxiliary_of table item.0 item.2;
+    symbol = item.2;
+  },
+  [],
+)
 
 -- what a record holds of it, and what replaces a missing name
 abbrev pub named_symbol_model : PeSymbol → NamedSymbol × List ℕ
@@ -100,9 +96,6 @@ unfoldable pub index_after : List ℕ → ℕ → ℕ → ℕ
 index_after table zero i = i
 index_after table (suc n) i = next_index table (index_after table n i)
 
-abbrev pub SymbolBatch : Type 0
-SymbolBatch = Batch ℕ PeSymbol
-
 -- the symbols of a table with their names, from any record on
 abbrev pub named_symbol_table : List ℕ → (ℕ → Option (List ℕ))
     → Table ℕ PeSymbol SymbolItem (NamedSymbol × List ℕ)
@@ -114,7 +107,7 @@ named_symbol_table table names = record {
 
 -- The records hold the symbols from the position on, as far as there is room. The position is then
 -- that of the symbols that come next.
-abbrev pub GivesSymbols : List ℕ → (ℕ → Option (List ℕ)) → SymbolBatch → SymbolBatch
+abbrev pub GivesSymbols : List ℕ → (ℕ → Option (List ℕ)) → Batch ℕ PeSymbol → Batch ℕ PeSymbol
     → PeBatch → Type 0
 GivesSymbols table names old new batch =
     FillsNext (named_symbol_table table names) ⊥
@@ -139,24 +132,21 @@ texts_at p =
     reads.◌>>=◌ (number_at Little 4 p)
     (λ n. pick (nat_lt n 4) (needs None CoffLength) (given (Some (n - 4))))
 
-abbrev pub texts_where : Option ℕ → Reading (Option ℕ)
-texts_where None = given None
-texts_where (Some p) = texts_at p
+-- what is read by a number, or this value where there is none
+abbrev pub read_by : {A : Type 0} → A → (ℕ → Reading A) → Option ℕ → Reading A
+read_by none reading None = given none
+read_by none reading (Some n) = reading n
 
 unfoldable pub texts_of : CoffHeader → Reading (Option ℕ)
-texts_of header = texts_where (string_table_offset header)
+texts_of header = read_by None texts_at (string_table_offset header)
 
--- the bytes of the symbol table and of the texts of the string table, by how many bytes these have;
--- no bytes if there are none
-abbrev pub tables_with : CoffHeader → Option ℕ → Reading (List ℕ × List ℕ)
-tables_with header None = given ([], [])
-tables_with header (Some n) =
-    slice_at header.pointer_to_symbol_table (18 * header.number_of_symbol_table)
-    beside strings_from_c (symbols_end header + 4) n
-
--- the tables that a header leads to, whatever their bytes are
+-- the bytes of the symbol table that a header leads to, and of the texts of the string table,
+-- whatever these are; no bytes if there are none
 unfoldable pub found_tables : CoffHeader → Reading (List ℕ × List ℕ)
-found_tables header = reads.◌>>=◌ (texts_of header) (tables_with header)
+found_tables header =
+    reads.◌>>=◌ (texts_of header) (read_by ([], []) (λ n.
+    slice_at header.pointer_to_symbol_table (18 * header.number_of_symbol_table)
+    beside strings_from_c (symbols_end header + 4) n))
 
 -- Where the tables are read whose texts are tested, those are found that they are.
 abbrev pub FindsTables : Type 0
@@ -165,14 +155,11 @@ FindsTables =
     → (symbol_tables header).value bytes ≡ Some tables
     → (found_tables header).value bytes ≡ Some (unwrap_or tables.0 [], unwrap_or tables.1 [])
 
--- the texts of the string table, by how many bytes these have
-abbrev pub strings_with : CoffHeader → Option ℕ → Reading (Option (List ℕ))
-strings_with header None = given None
-strings_with header (Some n) = mapped (λ s. Some s) (strings_from_c (symbols_end header + 4) n)
-
 -- the texts of the string table that a header leads to, if there is one
 unfoldable pub string_bytes : CoffHeader → Reading (Option (List ℕ))
-string_bytes header = reads.◌>>=◌ (texts_of header) (strings_with header)
+string_bytes header =
+    reads.◌>>=◌ (texts_of header)
+    (read_by None (λ n. mapped (λ s. Some s) (strings_from_c (symbols_end header + 4) n)))
 
 -- the text at an offset of the string table of an image, whose first four bytes are its length:
 -- what is left of the piece there, where that is UTF-8, by the limit

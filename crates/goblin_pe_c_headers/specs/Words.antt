@@ -26,9 +26,6 @@ words_for_c page words = records_in 2 (λ bytes. word_for_c page (word_record Li
 abbrev pub block_words : List ℕ → PeBaseRelocationCursor → List ℕ
 block_words bytes c = drop c.offset (take (min c.end (length bytes)) bytes)
 
-abbrev pub WordBatch : Type 0
-WordBatch = Batch PeBaseRelocationCursor PeBaseRelocation
-
 abbrev pub word_table : List ℕ
     → Table PeBaseRelocationCursor PeBaseRelocation PeBaseRelocation PeBaseRelocation
 word_table bytes = record {
@@ -38,7 +35,8 @@ word_table bytes = record {
 }
 
 -- The rows hold the words from the cursor on, which then is after them.
-abbrev pub GivesWords : List ℕ → WordBatch → WordBatch → PeBatch → Type 0
+abbrev pub GivesWords : List ℕ → Batch PeBaseRelocationCursor PeBaseRelocation
+    → Batch PeBaseRelocationCursor PeBaseRelocation → PeBatch → Type 0
 GivesWords bytes old new batch =
     FillsNext (word_table bytes) ⊥
     (λ left. new.position

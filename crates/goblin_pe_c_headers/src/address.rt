@@ -1,10 +1,9 @@
 //! The file offset of an RVA, the RVA of a file offset, and the text at an RVA.
 
 ghost use Rattle.std.specs.Prelude.{◌≡◌, option_map};
-ghost use Rattle.goblin_pe_sect.specs.SectionTable.{recorded_sections};
 ghost use Rattle.goblin_pe_c_headers.specs.Addresses.{first_address, image_address, image_map};
 ghost use Rattle.goblin_pe_c_headers.specs.Addresses.{mapped_image, mapped_offset};
-ghost use Rattle.goblin_pe_c_headers.specs.Addresses.{mapped_model, sections_for, text_at};
+ghost use Rattle.goblin_pe_c_headers.specs.Addresses.{mapped_model, text_at};
 ghost use Rattle.goblin_pe_c_headers.specs.Calls.{ReadsWithout};
 ghost use Rattle.goblin_pe_c_headers.specs.Images.{slice_model};
 
@@ -29,24 +28,9 @@ pub(crate) struct Mapped<'a> {
     pub(crate) mapping: Mapping,
 }
 
-// The section headers, if the file has room for them; none are needed if RVAs are offsets.
-#[tactic(auto, using(goblin_pe_sect::proofs::SectionRecords::sections_none))]
-fn records_for<'a>(
-    bytes: &'a [u8],
-    options: &PeOptions,
-    places: &PePlaces,
-) -> Option<SectionRecords<'a>>
-    ensures { option_map recorded_sections result ≡ sections_for options.now places.now bytes.now }
-{
-    if !maps_addresses(options) {
-        return Some(SectionRecords::of(&bytes[..0]));
-    }
-    section_records(bytes, places).ok()
-}
-
 // What maps the RVAs of an image. Nothing does if the options are not known, or if the file has no
-// room for the section headers.
-#[tactic(auto, unfolding(crate::specs::Addresses::mapped_image))]
+// room for the section headers, which are not needed if RVAs are offsets.
+#[tactic(auto, unfolding(crate::specs::Addresses::mapped_image), using(goblin_pe_sect::proofs::SectionRecords::sections_none))]
 pub(crate) fn mapped_by<'a>(
     bytes: &'a [u8],
     options: &PeOptions,
@@ -57,7 +41,11 @@ pub(crate) fn mapped_by<'a>(
     if !are_known(options) {
         return None;
     }
-    let records = records_for(bytes, options, places)?;
+    let records = if maps_addresses(options) {
+        section_records(bytes, places).ok()?
+    } else {
+        SectionRecords::of(&bytes[..0])
+    };
     let view = view_of(options);
     let front = view.front(places.size_of_headers);
     Some(Mapped {
@@ -71,15 +59,8 @@ pub(crate) fn mapped_by<'a>(
 fn mapped_offset(mapped: &Mapped, rva: usize) -> Option<usize>
     ensures { result ≡ mapped_offset (mapped_model mapped.now) rva }
 {
-    if rva > u32::MAX as usize {
-        return None;
-    }
-    offset_by_records(
-        mapped.records,
-        mapped.file_alignment,
-        mapped.mapping,
-        rva as u32,
-    )
+    let rva = u32::try_from(rva).ok()?;
+    offset_by_records(mapped.records, mapped.file_alignment, mapped.mapping, rva)
 }
 
 /// The file offset of an RVA, as the options map. If several sections hold it, the first one

@@ -32,15 +32,6 @@ pub enum AuxiliaryKind {
     SectionDefinition = 5,
 }
 
-const _: () = prove!(
-    AuxiliaryKind::None as u32 == 0
-        && AuxiliaryKind::FunctionDefinition as u32 == 1
-        && AuxiliaryKind::BeginAndEndFunction as u32 == 2
-        && AuxiliaryKind::WeakExternal as u32 == 3
-        && AuxiliaryKind::File as u32 == 4
-        && AuxiliaryKind::SectionDefinition as u32 == 5
-);
-
 /// The first auxiliary record of a symbol: the fields of its kind; all others are zeros.
 #[repr(C)]
 #[derive(Copy, Clone)]

@@ -4,29 +4,19 @@ ghost use Rattle.std.specs.Prelude.{◌≡◌, ◌≤◌, Some, length, option_m
 ghost use Rattle.std.specs.Fmt.InlineText.{inline_text};
 ghost use Rattle.goblin_base.specs.declared.error.ErrorOf.TheVariants.{Malformed, Read};
 ghost use Rattle.goblin_base.specs.ErrorText.{error_text};
-ghost use Rattle.goblin_pe_c_headers.specs.Faults.{IsNumbered, IsTextOf, cause_of, causes, fault};
-ghost use Rattle.goblin_pe_c_headers.specs.Faults.{call_text, fault_of, file_text, image_fault};
-ghost use Rattle.goblin_pe_c_headers.specs.Faults.{kind_fault, number_of, options_fault, status_of};
-ghost use Rattle.goblin_pe_c_headers.specs.Faults.{status_with, no_fault, read_fault_of};
-ghost use Rattle.goblin_pe_c_headers.specs.Faults.{refusal_text, word_number, word_of};
+ghost use Rattle.goblin_pe_c_headers.specs.Faults.{IsNumbered, IsTextOf, call_text, cause_of};
+ghost use Rattle.goblin_pe_c_headers.specs.Faults.{causes, fault, fault_of, file_text, image_fault};
+ghost use Rattle.goblin_pe_c_headers.specs.Faults.{kind_fault, no_fault, options_fault};
+ghost use Rattle.goblin_pe_c_headers.specs.Faults.{read_fault_of, refusal_text, status_of};
+ghost use Rattle.goblin_pe_c_headers.specs.Faults.{word_number, word_of};
 ghost use Rattle.goblin_pe_c_headers.specs.Filled.{Filled};
 
 use crate::kind::Kind;
 use crate::options::{PeOptions, are_known};
+use CauseNumber as Number;
 use goblin_base::{Cause, Error, ReadFault, Result};
 use std::alloc::AllocError;
 use std::fmt::InlineText;
-
-// The number of the first cause that numbers say in full.
-const FIRST_CAUSE: u32 = 2;
-
-// How many causes there are from it on.
-const CAUSES: usize = 33;
-
-// How many bytes of a text there is room for. A longer text is cut, and ends in three dots.
-const TEXT_ROOM: usize = 160;
-
-const _: () = prove!(TEXT_ROOM == 160);
 
 // The item of a table at this index.
 fn item_at<T: Copy>(table: &[T], index: u32) -> Option<T>
@@ -37,7 +27,6 @@ fn item_at<T: Copy>(table: &[T], index: u32) -> Option<T>
 
 /// What kind of refusal it is. A later version may add numbers, here and to the causes, but changes
 /// none.
-#[derive(Copy, Clone)]
 pub enum Status {
     /// Nothing is refused.
     Ok = 0,
@@ -59,40 +48,6 @@ pub enum Status {
     Kind = 8,
 }
 
-const _: () = prove!(
-    Status::Ok as u32 == 0
-        && Status::Malformed as u32 == 1
-        && Status::BadMagic as u32 == 2
-        && Status::BufferTooShort as u32 == 3
-        && Status::Read as u32 == 4
-        && Status::Memory as u32 == 5
-        && Status::Options as u32 == 6
-        && Status::Steps as u32 == 7
-        && Status::Kind as u32 == 8
-);
-
-// The statuses in the order of their numbers.
-const STATUSES: [Status; 9] = [
-    Status::Ok,
-    Status::Malformed,
-    Status::BadMagic,
-    Status::BufferTooShort,
-    Status::Read,
-    Status::Memory,
-    Status::Options,
-    Status::Steps,
-    Status::Kind,
-];
-
-impl Status {
-    // The status with this number.
-    fn of(number: u32) -> Option<Status>
-        ensures { result ≡ status_with number }
-    {
-        item_at(&STATUSES, number)
-    }
-}
-
 /// What a file is too short for.
 #[derive(Copy, Clone)]
 enum Counted {
@@ -106,21 +61,6 @@ enum Counted {
     AddressTableEntries = 3,
 }
 
-const _: () = prove!(
-    Counted::Other as u32 == 0
-        && Counted::Sections as u32 == 1
-        && Counted::NamePointers as u32 == 2
-        && Counted::AddressTableEntries as u32 == 3
-);
-
-// What a file can be too short for, in the order of its numbers.
-const COUNTED: [Counted; 4] = [
-    Counted::Other,
-    Counted::Sections,
-    Counted::NamePointers,
-    Counted::AddressTableEntries,
-];
-
 /// Why a read was refused.
 #[derive(Copy, Clone)]
 enum ReadRefusal {
@@ -131,19 +71,6 @@ enum ReadRefusal {
     /// The bytes are not UTF-8.
     BadInput = 3,
 }
-
-const _: () = prove!(
-    ReadRefusal::BadOffset as u32 == 1
-        && ReadRefusal::TooBig as u32 == 2
-        && ReadRefusal::BadInput as u32 == 3
-);
-
-// The refusals of a read in the order of their numbers.
-const READ_REFUSALS: [ReadRefusal; 3] = [
-    ReadRefusal::BadOffset,
-    ReadRefusal::TooBig,
-    ReadRefusal::BadInput,
-];
 
 /// What is wrong with a file. `first` and `second` are the two numbers of the cause; offsets are
 /// file offsets in bytes.
@@ -224,43 +151,6 @@ enum CauseNumber {
     SlotCount = 34,
 }
 
-const _: () = prove!(
-    CauseNumber::Message as u32 == 1
-        && CauseNumber::NoDosSignature as u32 == 2
-        && CauseNumber::DosMagic as u32 == 3
-        && CauseNumber::NoPePointer as u32 == 4
-        && CauseNumber::NoPeSignature as u32 == 5
-        && CauseNumber::PeMagic as u32 == 6
-        && CauseNumber::StubBeforeStart as u32 == 7
-        && CauseNumber::StubPastEnd as u32 == 8
-        && CauseNumber::NoDans as u32 == 9
-        && CauseNumber::RichBounds as u32 == 10
-        && CauseNumber::StrippedSize as u32 == 11
-        && CauseNumber::CoffLength as u32 == 12
-        && CauseNumber::DirectoryIndex as u32 == 13
-        && CauseNumber::DirectoryCount as u32 == 14
-        && CauseNumber::NameText as u32 == 15
-        && CauseNumber::NameBase64 as u32 == 16
-        && CauseNumber::NameDecimal as u32 == 17
-        && CauseNumber::NameOffset as u32 == 18
-        && CauseNumber::SymbolName as u32 == 19
-        && CauseNumber::StringTable as u32 == 20
-        && CauseNumber::FieldTooWide as u32 == 21
-        && CauseNumber::Unmapped as u32 == 22
-        && CauseNumber::NameRead as u32 == 23
-        && CauseNumber::HintEntry as u32 == 24
-        && CauseNumber::LookupEnd as u32 == 25
-        && CauseNumber::ImportRecordEnd as u32 == 26
-        && CauseNumber::ExportTable as u32 == 27
-        && CauseNumber::Forwarder as u32 == 28
-        && CauseNumber::ForwarderOrdinal as u32 == 29
-        && CauseNumber::RelocRange as u32 == 30
-        && CauseNumber::BlockSize as u32 == 31
-        && CauseNumber::BlockRange as u32 == 32
-        && CauseNumber::Overflow as u32 == 33
-        && CauseNumber::SlotCount as u32 == 34
-);
-
 /// Why a call gave no value, in numbers; the status 0 is that it gave one.
 #[repr(C)]
 #[derive(Copy, Clone)]
@@ -277,11 +167,11 @@ pub struct PeFault {
 }
 
 // A fault of this status.
-fn fault(status: Status, cause: u32, first: u64, second: u64) -> PeFault
-    ensures { result ≡ fault (number_of status) cause first second }
+fn fault(status: u32, cause: u32, first: u64, second: u64) -> PeFault
+    ensures { result ≡ fault status cause first second }
 {
     PeFault {
-        status: status as u32,
+        status,
         cause,
         first,
         second,
@@ -292,21 +182,18 @@ fn fault(status: Status, cause: u32, first: u64, second: u64) -> PeFault
 fn malformed(cause: u32, first: usize, second: usize) -> PeFault
     ensures { result ≡ fault 1 cause first second }
 {
-    fault(Status::Malformed, cause, first as u64, second as u64)
+    fault(Status::Malformed as u32, cause, first as u64, second as u64)
 }
 
 // The number of what a file is too short for.
 fn word_number(what: &str) -> u32
     ensures { result ≡ word_number what.now }
 {
-    let counted = if what == "sections" {
-        Counted::Sections
-    } else if what == "name pointers" {
-        Counted::NamePointers
-    } else if what == "address table entries" {
-        Counted::AddressTableEntries
-    } else {
-        Counted::Other
+    let counted = match what {
+        "sections" => Counted::Sections,
+        "name pointers" => Counted::NamePointers,
+        "address table entries" => Counted::AddressTableEntries,
+        _ => Counted::Other,
     };
     counted as u32
 }
@@ -327,7 +214,7 @@ fn read_number(refused: &ReadFault) -> u32
 pub fn no_fault() -> PeFault
     ensures { result ≡ no_fault }
 {
-    fault(Status::Ok, 0, 0, 0)
+    fault(Status::Ok as u32, 0, 0, 0)
 }
 
 /// Why a call with these options is refused before it begins; no fault if they are known.
@@ -337,7 +224,7 @@ pub fn refused_call(options: &PeOptions) -> PeFault
     if are_known(options) {
         no_fault()
     } else {
-        fault(Status::Options, 0, u64::from(options.mapping), 0)
+        fault(Status::Options as u32, 0, u64::from(options.mapping), 0)
     }
 }
 
@@ -348,7 +235,7 @@ pub fn refused_kind(kind: u32) -> PeFault
     if kind == Kind::Image as u32 {
         no_fault()
     } else {
-        fault(Status::Kind, 0, u64::from(kind), 0)
+        fault(Status::Kind as u32, 0, u64::from(kind), 0)
     }
 }
 
@@ -367,7 +254,7 @@ pub fn refused_image(kind: u32, options: &PeOptions) -> PeFault
 pub fn out_of_steps() -> PeFault
     ensures { result ≡ fault 7 0 0 0 }
 {
-    fault(Status::Steps, 0, 0, 0)
+    fault(Status::Steps as u32, 0, 0, 0)
 }
 
 // The numbers of a cause.
@@ -377,64 +264,40 @@ fn cause_for_c(cause: &Cause) -> PeFault
         → refusal_text result ≡ Some (error_text (Malformed cause.now)) }
 {
     match cause {
-        Cause::Message(_) => malformed(CauseNumber::Message as u32, 0, 0),
-        Cause::NoDosSignature => malformed(CauseNumber::NoDosSignature as u32, 0, 0),
-        Cause::DosMagic(magic) => malformed(CauseNumber::DosMagic as u32, usize::from(*magic), 0),
-        Cause::NoPePointer => malformed(CauseNumber::NoPePointer as u32, 0, 0),
-        Cause::NoPeSignature(offset) => malformed(CauseNumber::NoPeSignature as u32, *offset, 0),
-        Cause::PeMagic(magic) => malformed(CauseNumber::PeMagic as u32, *magic as usize, 0),
-        Cause::StubBeforeStart(offset) => malformed(
-            CauseNumber::StubBeforeStart as u32,
-            *offset as usize,
-            0,
-        ),
-        Cause::StubPastEnd(length, end) => malformed(
-            CauseNumber::StubPastEnd as u32,
-            *length,
-            *end,
-        ),
-        Cause::NoDans => malformed(CauseNumber::NoDans as u32, 0, 0),
-        Cause::RichBounds(begin, end) => malformed(CauseNumber::RichBounds as u32, *begin, *end),
-        Cause::StrippedSize(size) => malformed(CauseNumber::StrippedSize as u32, *size as usize, 0),
-        Cause::CoffLength => malformed(CauseNumber::CoffLength as u32, 0, 0),
-        Cause::DirectoryIndex(index) => malformed(CauseNumber::DirectoryIndex as u32, *index, 0),
-        Cause::DirectoryCount(count) => malformed(CauseNumber::DirectoryCount as u32, *count, 0),
-        Cause::NameText => malformed(CauseNumber::NameText as u32, 0, 0),
-        Cause::NameBase64 => malformed(CauseNumber::NameBase64 as u32, 0, 0),
-        Cause::NameDecimal => malformed(CauseNumber::NameDecimal as u32, 0, 0),
-        Cause::NameOffset(offset) => malformed(CauseNumber::NameOffset as u32, *offset, 0),
-        Cause::SymbolName(offset) => malformed(CauseNumber::SymbolName as u32, *offset as usize, 0),
-        Cause::StringTable(offset, length) => malformed(
-            CauseNumber::StringTable as u32,
-            *offset,
-            *length,
-        ),
-        Cause::FieldTooWide => malformed(CauseNumber::FieldTooWide as u32, 0, 0),
-        Cause::Unmapped(rva) => malformed(CauseNumber::Unmapped as u32, *rva, 0),
-        Cause::NameRead(offset) => malformed(CauseNumber::NameRead as u32, *offset, 0),
-        Cause::HintEntry(offset) => malformed(CauseNumber::HintEntry as u32, *offset, 0),
-        Cause::LookupEnd(offset) => malformed(CauseNumber::LookupEnd as u32, *offset, 0),
-        Cause::ImportRecordEnd(offset) => malformed(
-            CauseNumber::ImportRecordEnd as u32,
-            *offset,
-            0,
-        ),
-        Cause::ExportTable(offset) => malformed(CauseNumber::ExportTable as u32, *offset, 0),
-        Cause::Forwarder => malformed(CauseNumber::Forwarder as u32, 0, 0),
-        Cause::ForwarderOrdinal => malformed(CauseNumber::ForwarderOrdinal as u32, 0, 0),
-        Cause::RelocRange(offset, size) => malformed(
-            CauseNumber::RelocRange as u32,
-            *offset,
-            *size as usize,
-        ),
-        Cause::BlockSize(size) => malformed(CauseNumber::BlockSize as u32, *size as usize, 0),
-        Cause::BlockRange(begin, size) => malformed(CauseNumber::BlockRange as u32, *begin, *size),
-        Cause::Overflow => malformed(CauseNumber::Overflow as u32, 0, 0),
-        Cause::SlotCount(entries, slots) => malformed(
-            CauseNumber::SlotCount as u32,
-            *entries,
-            *slots,
-        ),
+        Cause::Message(_) => malformed(Number::Message as u32, 0, 0),
+        Cause::NoDosSignature => malformed(Number::NoDosSignature as u32, 0, 0),
+        Cause::DosMagic(magic) => malformed(Number::DosMagic as u32, usize::from(*magic), 0),
+        Cause::NoPePointer => malformed(Number::NoPePointer as u32, 0, 0),
+        Cause::NoPeSignature(offset) => malformed(Number::NoPeSignature as u32, *offset, 0),
+        Cause::PeMagic(magic) => malformed(Number::PeMagic as u32, *magic as usize, 0),
+        Cause::StubBeforeStart(at) => malformed(Number::StubBeforeStart as u32, *at as usize, 0),
+        Cause::StubPastEnd(length, end) => malformed(Number::StubPastEnd as u32, *length, *end),
+        Cause::NoDans => malformed(Number::NoDans as u32, 0, 0),
+        Cause::RichBounds(begin, end) => malformed(Number::RichBounds as u32, *begin, *end),
+        Cause::StrippedSize(size) => malformed(Number::StrippedSize as u32, *size as usize, 0),
+        Cause::CoffLength => malformed(Number::CoffLength as u32, 0, 0),
+        Cause::DirectoryIndex(index) => malformed(Number::DirectoryIndex as u32, *index, 0),
+        Cause::DirectoryCount(count) => malformed(Number::DirectoryCount as u32, *count, 0),
+        Cause::NameText => malformed(Number::NameText as u32, 0, 0),
+        Cause::NameBase64 => malformed(Number::NameBase64 as u32, 0, 0),
+        Cause::NameDecimal => malformed(Number::NameDecimal as u32, 0, 0),
+        Cause::NameOffset(offset) => malformed(Number::NameOffset as u32, *offset, 0),
+        Cause::SymbolName(offset) => malformed(Number::SymbolName as u32, *offset as usize, 0),
+        Cause::StringTable(at, length) => malformed(Number::StringTable as u32, *at, *length),
+        Cause::FieldTooWide => malformed(Number::FieldTooWide as u32, 0, 0),
+        Cause::Unmapped(rva) => malformed(Number::Unmapped as u32, *rva, 0),
+        Cause::NameRead(offset) => malformed(Number::NameRead as u32, *offset, 0),
+        Cause::HintEntry(offset) => malformed(Number::HintEntry as u32, *offset, 0),
+        Cause::LookupEnd(offset) => malformed(Number::LookupEnd as u32, *offset, 0),
+        Cause::ImportRecordEnd(offset) => malformed(Number::ImportRecordEnd as u32, *offset, 0),
+        Cause::ExportTable(offset) => malformed(Number::ExportTable as u32, *offset, 0),
+        Cause::Forwarder => malformed(Number::Forwarder as u32, 0, 0),
+        Cause::ForwarderOrdinal => malformed(Number::ForwarderOrdinal as u32, 0, 0),
+        Cause::RelocRange(at, size) => malformed(Number::RelocRange as u32, *at, *size as usize),
+        Cause::BlockSize(size) => malformed(Number::BlockSize as u32, *size as usize, 0),
+        Cause::BlockRange(begin, size) => malformed(Number::BlockRange as u32, *begin, *size),
+        Cause::Overflow => malformed(Number::Overflow as u32, 0, 0),
+        Cause::SlotCount(entries, slots) => malformed(Number::SlotCount as u32, *entries, *slots),
     }
 }
 
@@ -445,15 +308,13 @@ pub fn fault_of(error: &Error) -> PeFault
 {
     match error {
         Error::Malformed(cause) => cause_for_c(cause),
-        Error::BadMagic(magic) => fault(Status::BadMagic, 0, *magic, 0),
-        Error::BufferTooShort(count, what) => fault(
-            Status::BufferTooShort,
-            word_number(what),
-            *count as u64,
-            0,
-        ),
-        Error::Read(refused) => fault(Status::Read, read_number(refused), 0, 0),
-        Error::Memory(_) => fault(Status::Memory, 0, 0, 0),
+        Error::BadMagic(magic) => fault(Status::BadMagic as u32, 0, *magic, 0),
+        Error::BufferTooShort(count, what) => {
+            let status = Status::BufferTooShort as u32;
+            fault(status, word_number(what), *count as u64, 0)
+        }
+        Error::Read(refused) => fault(Status::Read as u32, read_number(refused), 0, 0),
+        Error::Memory(_) => fault(Status::Memory as u32, 0, 0, 0),
     }
 }
 
@@ -469,7 +330,7 @@ pub fn status_of(answer: Result<()>) -> PeFault
 
 // The causes from the second on, in the order of their numbers, with these numbers of their own.
 // The first is a message of the caller's, which no numbers say.
-fn causes(first: u64, second: u64) -> [Cause; CAUSES]
+fn causes(first: u64, second: u64) -> [Cause; 33]
     ensures { result ≡ causes first second }
 {
     let number = first as usize;
@@ -518,7 +379,7 @@ fn causes(first: u64, second: u64) -> [Cause; CAUSES]
 fn cause_of(fault: &PeFault) -> Option<Cause>
     ensures { result ≡ cause_of fault.now }
 {
-    let index = fault.cause.checked_sub(FIRST_CAUSE)?;
+    let index = fault.cause.checked_sub(Number::NoDosSignature as u32)?;
     item_at(&causes(fault.first, fault.second), index)
 }
 
@@ -526,24 +387,25 @@ fn cause_of(fault: &PeFault) -> Option<Cause>
 fn word_of(number: u32) -> Option<&'static str>
     ensures { option_map (λ s. s.now) result ≡ word_of number }
 {
-    Some(match item_at(&COUNTED, number)? {
-        Counted::Other => "entries",
-        Counted::Sections => "sections",
-        Counted::NamePointers => "name pointers",
-        Counted::AddressTableEntries => "address table entries",
-    })
+    match number {
+        0 => Some("entries"),
+        1 => Some("sections"),
+        2 => Some("name pointers"),
+        3 => Some("address table entries"),
+        _ => None,
+    }
 }
 
 // Why a read was refused, by its number.
 fn read_fault_of(number: u32) -> Option<ReadFault>
     ensures { result ≡ read_fault_of number }
 {
-    let index = number.checked_sub(ReadRefusal::BadOffset as u32)?;
-    Some(match item_at(&READ_REFUSALS, index)? {
-        ReadRefusal::BadOffset => ReadFault::BadOffset,
-        ReadRefusal::TooBig => ReadFault::TooBig,
-        ReadRefusal::BadInput => ReadFault::BadInput,
-    })
+    match number {
+        1 => Some(ReadFault::BadOffset),
+        2 => Some(ReadFault::TooBig),
+        3 => Some(ReadFault::BadInput),
+        _ => None,
+    }
 }
 
 // The text of a fault of a call, which is not of the file.
@@ -562,21 +424,19 @@ fn call_text(status: u32) -> Option<&'static str>
 fn error_of(fault: &PeFault) -> Option<Error>
     ensures { option_map error_text result ≡ file_text fault.now }
 {
-    Some(match Status::of(fault.status)? {
-        Status::Malformed => Error::Malformed(cause_of(fault)?),
-        Status::BadMagic => Error::BadMagic(fault.first),
-        Status::BufferTooShort => {
-            Error::BufferTooShort(fault.first as usize, word_of(fault.cause)?)
-        }
-        Status::Read => Error::Read(read_fault_of(fault.cause)?),
-        Status::Memory => Error::Memory(AllocError),
+    Some(match fault.status {
+        1 => Error::Malformed(cause_of(fault)?),
+        2 => Error::BadMagic(fault.first),
+        3 => Error::BufferTooShort(fault.first as usize, word_of(fault.cause)?),
+        4 => Error::Read(read_fault_of(fault.cause)?),
+        5 => Error::Memory(AllocError),
         _ => return None,
     })
 }
 
 /// The text of the refusal with these numbers, whole, or cut and ended by three dots, in 160 bytes
 /// at most; none where they are of no refusal.
-pub fn text_of(fault: &PeFault) -> InlineText<TEXT_ROOM>
+pub fn text_of(fault: &PeFault) -> InlineText<160>
     ensures text { IsTextOf fault.now (inline_text result) }
     ensures short { length (inline_text result) ≤ 160 }
 {

@@ -39,16 +39,6 @@ pub enum Kind {
     BigObject = 6,
 }
 
-const _: () = prove!(
-    Kind::Unknown as u32 == 0
-        && Kind::Image as u32 == 1
-        && Kind::Object as u32 == 2
-        && Kind::Te as u32 == 3
-        && Kind::Archive as u32 == 4
-        && Kind::ImportObject as u32 == 5
-        && Kind::BigObject as u32 == 6
-);
-
 // What an archive begins with: `!<arch>` and a line feed.
 const ARCHIVE: u64 = 0x0A3E_6863_7261_3C21;
 

@@ -3,13 +3,13 @@
 ghost use Rattle.std.specs.Prelude.{◌≡◌, ◌+◌, ◌^◌, ◌<◌, ◌≤◌, Some, length, option_map};
 ghost use Rattle.std.specs.Option.{unwrap_or};
 ghost use Rattle.goblin_pe_c_headers.specs.Addresses.{mapped_model};
-ghost use Rattle.goblin_pe_c_headers.specs.Memory.{SeesFile, available, front_at};
-ghost use Rattle.goblin_pe_c_headers.specs.Memory.{holder, holder_index, is_among, is_unstored};
-ghost use Rattle.goblin_pe_c_headers.specs.Memory.{known, memory_at, memory_by, memory_in_file};
-ghost use Rattle.goblin_pe_c_headers.specs.Memory.{memory_length, memory_of, memory_size};
-ghost use Rattle.goblin_pe_c_headers.specs.Memory.{memory_model, region_in};
-ghost use Rattle.goblin_pe_c_headers.specs.Memory.{section_data, stored_in_memory, stored_size};
-ghost use Rattle.goblin_pe_c_headers.specs.Memory.{unknown, window_size, zeros_after};
+ghost use Rattle.goblin_pe_c_headers.specs.Memory.{SeesFile, available, front_at, holder};
+ghost use Rattle.goblin_pe_c_headers.specs.Memory.{holder_index, is_among, is_unstored, known};
+ghost use Rattle.goblin_pe_c_headers.specs.Memory.{memory_at, memory_by, memory_in_file};
+ghost use Rattle.goblin_pe_c_headers.specs.Memory.{memory_length, memory_model, memory_of};
+ghost use Rattle.goblin_pe_c_headers.specs.Memory.{memory_size, region_in, section_data};
+ghost use Rattle.goblin_pe_c_headers.specs.Memory.{stored_in_memory, stored_size, unknown};
+ghost use Rattle.goblin_pe_c_headers.specs.Memory.{window_size};
 ghost use Rattle.goblin_pe_c_headers.specs.Sections.{section_model};
 
 use crate::address::{Mapped, mapped_by};
@@ -34,13 +34,6 @@ pub enum Region {
     /// The zeros that follow the raw data of a section.
     Zeros = 3,
 }
-
-const _: () = prove!(
-    Region::Unmapped as u32 == 0
-        && Region::Headers as u32 == 1
-        && Region::RawData as u32 == 2
-        && Region::Zeros as u32 == 3
-);
 
 /// The bytes that a loader puts somewhere: `bytes`, then `zeros` zeros. `missing` more were asked
 /// for, and are unknown: they lie past the section's memory, or the file ends before them.
@@ -140,14 +133,6 @@ fn stored_size(section: &SectionTable, mapping: Mapping) -> usize
     end.saturating_sub(raw_begin(section, mapping) as usize)
 }
 
-// How many zeros follow these up to the size in memory.
-fn zeros_after(section: &SectionTable, mapping: Mapping) -> usize
-    ensures value { result ≡ zeros_after mapping section.now }
-    ensures small { result < 2 ^ 32 }
-{
-    memory_size(section).saturating_sub(stored_size(section, mapping))
-}
-
 /// The contents of a section of an image: its raw data, and the zeros that the loader adds up to
 /// the virtual size.
 pub fn section_data<'a>(
@@ -164,7 +149,7 @@ pub fn section_data<'a>(
     let section = section_of(section);
     let mapping = view_of(options).mapping(&options_at(options, file_alignment));
     let stored = stored_size(&section, mapping);
-    let zeros = zeros_after(&section, mapping);
+    let zeros = memory_size(&section).saturating_sub(stored);
     if !are_known(options) {
         return unknown(bytes, stored + zeros, index);
     }
@@ -179,11 +164,11 @@ pub fn section_data<'a>(
 
 // How many bytes the window of a section has.
 #[tactic(auto, using(goblin_pe_sect::proofs::Mapped::read_size_le))]
-fn window_size(section: &SectionTable, file_alignment: u32, mapping: Mapping) -> usize
-    ensures value { result ≡ window_size mapping file_alignment section.now }
+fn window_size(mapped: &Mapped, section: &SectionTable) -> usize
+    ensures value { result ≡ window_size (mapped_model mapped.now) section.now }
     ensures small { result < 2 ^ 33 }
 {
-    match window_by(section, file_alignment, mapping) {
+    match window_by(section, mapped.file_alignment, mapped.mapping) {
         Some((begin, end)) => {
             let raw_size = section.size_of_raw_data as usize;
             prove!(end - begin < raw_size + 4096);
@@ -194,11 +179,11 @@ fn window_size(section: &SectionTable, file_alignment: u32, mapping: Mapping) ->
 }
 
 // How many bytes the memory of a section has.
-fn memory_length(section: &SectionTable, file_alignment: u32, mapping: Mapping) -> usize
-    ensures value { result ≡ memory_length mapping file_alignment section.now }
+fn memory_length(mapped: &Mapped, section: &SectionTable) -> usize
+    ensures value { result ≡ memory_length (mapped_model mapped.now) section.now }
     ensures small { result < 2 ^ 33 }
 {
-    memory_size(section).max(window_size(section, file_alignment, mapping))
+    memory_size(section).max(window_size(mapped, section))
 }
 
 // Whether an RVA is one of `size` from the section's address on.
@@ -211,23 +196,16 @@ fn is_among(rva: usize, section: &SectionTable, size: usize) -> bool
 }
 
 // How many bytes of a section's memory are those of a file with this end.
-fn stored_in_memory(
-    section: &SectionTable,
-    file_alignment: u32,
-    mapping: Mapping,
-    end: usize,
-) -> usize
-    ensures value { result ≡ stored_in_memory mapping file_alignment end section.now }
+fn stored_in_memory(mapped: &Mapped, section: &SectionTable, end: usize) -> usize
+    ensures value { result ≡ stored_in_memory (mapped_model mapped.now) end section.now }
     ensures small { result < 2 ^ 33 }
 {
     if is_unstored(section) {
         return 0;
     }
-    let left = end.saturating_sub(raw_begin(section, mapping) as usize);
-    let data = memory_length(section, file_alignment, mapping).min(stored_size(section, mapping));
-    window_size(section, file_alignment, mapping)
-        .min(left)
-        .max(data)
+    let left = end.saturating_sub(raw_begin(section, mapped.mapping) as usize);
+    let data = memory_length(mapped, section).min(stored_size(section, mapped.mapping));
+    window_size(mapped, section).min(left).max(data)
 }
 
 // What holds an RVA, with its index: the first section whose window does, or else the first whose
@@ -237,20 +215,12 @@ fn holder(mapped: &Mapped, rva: usize) -> Option<(usize, SectionTable)>
         ≡ holder_index (mapped_model mapped.now) rva }
     ensures section { option_map (λ both. both.1) result ≡ holder (mapped_model mapped.now) rva }
 {
-    let alignment = mapped.file_alignment;
-    let by_window = mapped.records.find(|section| is_among(
-        rva,
-        section,
-        window_size(section, alignment, mapped.mapping),
-    ));
-    if by_window.is_some() {
-        return by_window;
+    let records = mapped.records;
+    let found = records.find(|it| is_among(rva, it, window_size(mapped, it)));
+    if found.is_some() {
+        return found;
     }
-    mapped.records.find(|section| is_among(
-        rva,
-        section,
-        memory_length(section, alignment, mapped.mapping),
-    ))
+    records.find(|it| is_among(rva, it, memory_length(mapped, it)))
 }
 
 // The first bytes of a section's memory, at most `size`, from an RVA in it on.
@@ -265,11 +235,10 @@ fn memory_of<'a>(
         ≡ memory_of (mapped_model mapped.now) bytes.now rva size section.now }
     ensures few { length result.0.now + result.1 ≤ size }
 {
-    let alignment = mapped.file_alignment;
     let distance = rva.saturating_sub(section.virtual_address as usize);
-    let most = size.min(memory_length(section, alignment, mapped.mapping).saturating_sub(distance));
-    let stored = stored_in_memory(section, alignment, mapped.mapping, bytes.len());
-    let stored = most.min(stored.saturating_sub(distance));
+    let most = size.min(memory_length(mapped, section).saturating_sub(distance));
+    let stored = stored_in_memory(mapped, section, bytes.len()).saturating_sub(distance);
+    let stored = most.min(stored);
     let begin = raw_begin(section, mapped.mapping) as usize;
     available(bytes, begin.saturating_add(distance), stored, most - stored)
 }
@@ -279,8 +248,7 @@ fn region_in(bytes: &[u8], mapped: &Mapped, section: &SectionTable, rva: usize) 
     ensures { result ≡ region_in (mapped_model mapped.now) bytes.now rva section.now }
 {
     let distance = rva.saturating_sub(section.virtual_address as usize);
-    let end = bytes.len();
-    if distance < stored_in_memory(section, mapped.file_alignment, mapped.mapping, end) {
+    if distance < stored_in_memory(mapped, section, bytes.len()) {
         Region::RawData
     } else {
         Region::Zeros
@@ -308,8 +276,12 @@ fn memory_by<'a>(
     if index == outside {
         return known(found, missing, index, Region::Headers);
     }
-    let region = region_in(bytes, mapped, &section, rva);
-    known(found, missing, index, region)
+    known(
+        found,
+        missing,
+        index,
+        region_in(bytes, mapped, &section, rva),
+    )
 }
 
 // The first `size` bytes from an offset on, where RVAs are offsets.

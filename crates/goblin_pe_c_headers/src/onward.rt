@@ -1,7 +1,7 @@
 //! A list from a position on, as far as there is room.
 
-ghost use Rattle.std.specs.Prelude.{◌≡◌, ◌<◌, ◌^◌, List, length, slice_get, ℕ};
-ghost use Rattle.goblin_pe_c_headers.specs.Onward.{Batch, GivesOnward};
+ghost use Rattle.std.specs.Prelude.{◌≡◌, ◌<◌, ◌^◌, List, length, slice_get};
+ghost use Rattle.goblin_pe_c_headers.specs.Onward.{GivesOnward, rows_at};
 
 use crate::batch::{PeBatch, ended, goes_on};
 
@@ -16,9 +16,8 @@ pub fn fill_onward<W: Copy, F: Fn(usize) -> Option<W>>(
     requires { (index : _) → F.pre item index }
     ensures { (items : List W) → length items < 2 ^ 64
         → ((index : _) (found : _) → F.post item index found → found ≡ slice_get items index)
-        → let old : Batch ℕ W = record { position = position.old; records = records.old } in
-        let new : Batch ℕ W = record { position = position.new; records = records.new } in
-        GivesOnward items old new result }
+        → GivesOnward items (rows_at position.old records.old)
+        (rows_at position.new records.new) result }
 {
     let mut index = *position;
     'records: for count in 0..records.len() {

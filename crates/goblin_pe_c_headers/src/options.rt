@@ -1,9 +1,9 @@
 //! How a file is read, as a caller says it.
 
 ghost use Rattle.std.specs.Prelude.{◌≡◌};
-ghost use Rattle.goblin_pe_c_headers.specs.Options.{alignment_in, header_options, options_at};
-ghost use Rattle.goblin_pe_c_headers.specs.Options.{are_known, longest_of, maps_addresses};
-ghost use Rattle.goblin_pe_c_headers.specs.Options.{name_limit, options_in, rule_at, view_of};
+ghost use Rattle.goblin_pe_c_headers.specs.Options.{alignment_in, are_known, header_options};
+ghost use Rattle.goblin_pe_c_headers.specs.Options.{longest_of, maps_addresses, name_limit};
+ghost use Rattle.goblin_pe_c_headers.specs.Options.{options_at, options_in, view_of};
 
 use goblin_pe_head::header::Header;
 use goblin_pe_sect::options::{ParseMode, ParseOptions, RawPointerRule, View};
@@ -80,17 +80,6 @@ pub fn longest_of(options: &PeOptions) -> Option<u32>
     name_limit(options.longest_name)
 }
 
-// The rule for raw pointers by this mapping, at this file alignment.
-#[inline(always)]
-fn rule_at(mapping: u32, file_alignment: u32) -> RawPointerRule
-    ensures { result ≡ rule_at mapping file_alignment }
-{
-    match mapping {
-        0 | 1 => RawPointerRule::by_file_alignment(file_alignment),
-        _ => RawPointerRule::AsStored,
-    }
-}
-
 /// What the addresses of an image are mapped by.
 #[inline(always)]
 pub fn view_of(options: &PeOptions) -> View
@@ -130,9 +119,13 @@ pub fn maps_addresses(options: &PeOptions) -> bool
 pub fn options_at(options: &PeOptions, file_alignment: u32) -> ParseOptions
     ensures { result ≡ options_at options.now file_alignment }
 {
+    let raw_pointer_rule = match options.mapping {
+        0 | 1 => RawPointerRule::by_file_alignment(file_alignment),
+        _ => RawPointerRule::AsStored,
+    };
     ParseOptions {
         resolve_rva: maps_addresses(options),
-        raw_pointer_rule: rule_at(options.mapping, file_alignment),
+        raw_pointer_rule,
         ..header_options(options)
     }
 }

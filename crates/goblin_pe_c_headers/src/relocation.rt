@@ -4,9 +4,8 @@ ghost use Rattle.std.specs.Prelude.{◌≡◌, ◌<◌, ◌^◌, IfOk, length, s
 ghost use Rattle.goblin_base.specs.Reading.{Reads};
 ghost use Rattle.goblin_pe_sect.specs.Relocations.{relocations_in};
 ghost use Rattle.goblin_pe_c_headers.specs.Calls.{ReadsWithout};
-ghost use Rattle.goblin_pe_c_headers.specs.Onward.{GivesOnward, no_batch};
-ghost use Rattle.goblin_pe_c_headers.specs.Relocations.{RelocationBatch, all_relocations};
-ghost use Rattle.goblin_pe_c_headers.specs.Relocations.{record_count};
+ghost use Rattle.goblin_pe_c_headers.specs.Onward.{GivesOnward, no_batch, rows_at};
+ghost use Rattle.goblin_pe_c_headers.specs.Relocations.{all_relocations, record_count};
 
 use crate::batch::{PeBatch, ended};
 use crate::cursor::PeCoffRelocationCursor;
@@ -66,10 +65,8 @@ pub fn next_relocations(
     records: &mut [Relocation],
     batch: &mut PeBatch,
 ) -> Result<()>
-    ensures given { let old : RelocationBatch =
-        record { position = cursor.old.index; records = records.old } in
-        let new : RelocationBatch =
-        record { position = cursor.new.index; records = records.new } in
+    ensures given { let old = rows_at cursor.old.index records.old in
+        let new = rows_at cursor.new.index records.new in
         ReadsWithout (all_relocations cursor.old) image.now.bytes.now
         (λ all. GivesOnward all old new batch.new)
         ((new ≡ old) × (batch.new ≡ no_batch)) result }
@@ -77,10 +74,6 @@ pub fn next_relocations(
 {
     *batch = ended(0);
     let table = all_records(image.bytes, cursor)?;
-    *batch = fill_onward(
-        |index| relocation_at(table, index),
-        &mut cursor.index,
-        records,
-    );
+    *batch = fill_onward(|i| relocation_at(table, i), &mut cursor.index, records);
     Ok(())
 }

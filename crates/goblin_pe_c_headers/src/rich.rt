@@ -2,10 +2,11 @@
 
 ghost use Rattle.std.specs.Prelude.{◌≡◌, ◌<◌, ◌^◌, IfOk, MatchResult, length, slice_get};
 ghost use Rattle.goblin_base.specs.Reading.{Reads};
-ghost use Rattle.goblin_pe_head.specs.RichMetadata.{metadata_at, metadata_items};
-ghost use Rattle.goblin_pe_c_headers.specs.Items.{values_of};
+ghost use Rattle.goblin_base.specs.Tables.{records_in};
+ghost use Rattle.goblin_pe_head.specs.RichMetadata.{metadata_at};
+ghost use Rattle.goblin_pe_c_headers.specs.Onward.{rows_at};
 ghost use Rattle.goblin_pe_c_headers.specs.RichHeaders.{GivesEntries, GivesEntriesOf};
-ghost use Rattle.goblin_pe_c_headers.specs.RichHeaders.{HeaderIsWalked, IsRefusedEntry, RichBatch};
+ghost use Rattle.goblin_pe_c_headers.specs.RichHeaders.{HeaderIsWalked, IsRefusedEntry};
 ghost use Rattle.goblin_pe_c_headers.specs.RichHeaders.{RichIsWalked, is_rest, rich_stretch};
 
 use crate::batch::{PeBatch, ended, goes_on};
@@ -48,9 +49,9 @@ fn entry_of(bytes: &[u8], key: u32) -> RichMetadata
 }
 
 // The entry at an index, if there is one.
-#[tactic(auto, using(crate::proofs::RichEntries::entry_inside, crate::proofs::RichEntries::entry_outside))]
+#[tactic(auto, using(crate::proofs::GivenOnward::record_inside, crate::proofs::GivenOnward::record_outside))]
 fn entry_at(key: u32, stretch: &[u8], index: usize) -> Option<RichMetadata>
-    ensures { result ≡ slice_get (values_of (metadata_items key stretch.now)) index }
+    ensures { result ≡ slice_get (records_in 8 (λ e. metadata_at key e 0) stretch.now) index }
 {
     if stretch.len() / SIZE <= index {
         return None;
@@ -75,8 +76,8 @@ fn fill_entries(
     records: &mut [RichMetadata],
 ) -> Result<PeBatch>
     requires { length stretch.now < 2 ^ 63 }
-    ensures { let old : RichBatch = record { position = position.old; records = records.old } in
-        let new : RichBatch = record { position = position.new; records = records.new } in
+    ensures { let old = rows_at position.old records.old in
+        let new = rows_at position.new records.new in
         MatchResult result (GivesEntriesOf key stretch.now old new)
         (λ e. IsRefusedEntry key stretch.now old e × (new ≡ old)) }
 {
@@ -112,10 +113,8 @@ pub fn next_entries(
     records: &mut [RichMetadata],
     batch: &mut PeBatch,
 ) -> Result<()>
-    ensures given { let at = position.old in
-        let old : RichBatch = record { position = at; records = records.old } in
-        let new : RichBatch = record { position = position.new; records = records.new } in
-        GivesEntries image.now old new batch.new result }
+    ensures given { GivesEntries image.now (rows_at position.old records.old)
+        (rows_at position.new records.new) batch.new result }
 
     // The entries of a Rich header that was read are its own.
     ensures found { RichIsWalked }

@@ -3,16 +3,14 @@
 ghost use Rattle.std.specs.Prelude.{◌≡◌, ◌+◌, ◌*◌, ◌<◌, ◌/◌, length, option_map, slice_range, take};
 ghost use Rattle.goblin_base.specs.declared.endian.Endian.TheVariants.{Little};
 ghost use Rattle.goblin_base.specs.Bytes.{before_nul};
-ghost use Rattle.goblin_pe_sect.specs.Options.{is_strict};
 ghost use Rattle.goblin_pe_sect.specs.SectionReadings.{SectionWritesBack};
 ghost use Rattle.goblin_pe_sect.specs.SectionTable.{section_record, unnamed};
 ghost use Rattle.goblin_pe_head.specs.TeHeader.{section_moved};
-ghost use Rattle.goblin_pe_c_headers.specs.Onward.{GivesRows};
+ghost use Rattle.goblin_pe_c_headers.specs.Onward.{GivesRows, rows_at};
 ghost use Rattle.goblin_pe_c_headers.specs.Relocations.{relocations_begin};
-ghost use Rattle.goblin_pe_c_headers.specs.Sections.{ReadsSections, SectionBatch, naming_of};
-ghost use Rattle.goblin_pe_c_headers.specs.Sections.{naming_for_c};
-ghost use Rattle.goblin_pe_c_headers.specs.Sections.{real_name_in, row_of, row_model, section_rows};
-ghost use Rattle.goblin_pe_c_headers.specs.Sections.{section_model, unnamed_row, with_name};
+ghost use Rattle.goblin_pe_c_headers.specs.Sections.{ReadsSections, displacement_of, long_name};
+ghost use Rattle.goblin_pe_c_headers.specs.Sections.{row_model, row_of, section_model};
+ghost use Rattle.goblin_pe_c_headers.specs.Sections.{section_rows};
 ghost use Rattle.goblin_pe_c_headers.specs.Written.{Output, SetsName, WritesSection};
 
 use crate::batch::{PeBatch, ended, goes_on};
@@ -24,7 +22,6 @@ use crate::places::section_headers;
 use goblin_base::read::{before_nul, pread_ascii_str, pread_str_within};
 use goblin_base::{Endian, Result};
 use goblin_pe_head::header::adjust_section;
-use goblin_pe_sect::options::ParseOptions;
 use goblin_pe_sect::section_table::{
     IMAGE_SCN_LNK_NRELOC_OVFL, SIZEOF_SECTION_TABLE, SectionRecords, SectionTable,
 };
@@ -87,31 +84,29 @@ pub(crate) fn section_of(section: &PeSection) -> SectionTable
     }
 }
 
-// What the names of sections are read by.
-#[derive(Copy, Clone)]
-struct Naming<'a> {
-    bytes: &'a [u8],
-    strings: usize, // the file offset of the string table
-    longest: Option<u32>,
-    displacement: Option<u32>, // how far the sections moved to the front, if they did
-    opts: ParseOptions,
+// The name of a section from the string table, by the number in its eight bytes.
+#[inline(never)]
+#[tactic(auto, unfolding(crate::specs::Sections::real_name_in))]
+fn any_long_name<'a>(image: &PeImage<'a>, section: &SectionTable) -> Option<&'a str>
+    ensures { option_map (λ s. s.now) result ≡ long_name image.now section.now.name }
+{
+    let opts = header_options(&image.options);
+    let offset = section.name_offset_with_opts(&opts).ok()??;
+    let place = image.coff_header.symbols_end().checked_add(offset)?;
+    pread_str_within(image.bytes, place, longest_of(&image.options)).ok()
 }
 
-// The name of a section from the string table, by the number in its eight bytes.
-#[tactic(auto, unfolding(crate::specs::Sections::real_name_in))]
-fn long_name<'a>(naming: &Naming<'a>, section: &SectionTable) -> Option<&'a str>
-    ensures { let strict = is_strict naming.now.opts.parse_mode in
-        option_map (λ s. s.now) result
-        ≡ real_name_in strict naming.now.longest naming.now.bytes.now naming.now.strings
-        section.now.name }
+// The same, without a call if the name begins with no slash, as most names do.
+#[inline(always)]
+#[tactic(auto, unfolding(crate::specs::Sections::real_name_in, goblin_pe_sect::specs::SectionName::name_value))]
+fn long_name<'a>(image: &PeImage<'a>, section: &SectionTable) -> Option<&'a str>
+    ensures { option_map (λ s. s.now) result ≡ long_name image.now section.now.name }
 {
-    let offset = section.name_offset_with_opts(&naming.opts).ok()??;
-    pread_str_within(
-        naming.bytes,
-        naming.strings.checked_add(offset)?,
-        naming.longest,
-    )
-    .ok()
+    if section.name[0] == b'/' {
+        any_long_name(image, section)
+    } else {
+        None
+    }
 }
 
 // Where the walk over the relocations of a section begins.
@@ -151,59 +146,6 @@ fn any_raw_name(header: &[u8]) -> &[u8]
     before_nul(&header[..8])
 }
 
-// The row of a section with its stored name, which is at the front of its header.
-#[inline(always)]
-fn unnamed_row<'a>(header: &'a [u8], index: usize, section: &SectionTable) -> PeSection<'a>
-    requires { length header.now ≡ 40 }
-    ensures { row_model result ≡ unnamed_row header.now index (unnamed section.now) }
-{
-    PeSection {
-        name: raw_name(header),
-        index,
-        relocations: relocations_begin(section),
-        stored_name: section.name,
-        virtual_size: section.virtual_size,
-        virtual_address: section.virtual_address,
-        size_of_raw_data: section.size_of_raw_data,
-        pointer_to_raw_data: section.pointer_to_raw_data,
-        pointer_to_relocations: section.pointer_to_relocations,
-        pointer_to_linenumbers: section.pointer_to_linenumbers,
-        number_of_relocations: section.number_of_relocations,
-        number_of_linenumbers: section.number_of_linenumbers,
-        characteristics: section.characteristics,
-        has_long_name: false,
-        reserved: [0; 7],
-    }
-}
-
-// Gives a row its name from the string table, if there is one.
-#[inline(never)]
-fn give_long_name<'a>(row: &mut PeSection<'a>, naming: &Naming<'a>, section: &SectionTable)
-    requires { (row_model row.old).section ≡ unnamed section.now }
-    ensures { let strict = is_strict naming.now.opts.parse_mode in
-        row_model row.new ≡ with_name (real_name_in strict naming.now.longest naming.now.bytes.now
-        naming.now.strings section.now.name) (row_model row.old) }
-{
-    if let Some(name) = long_name(naming, section) {
-        row.name = name.as_bytes();
-        row.has_long_name = true;
-    }
-}
-
-// The same, without a call if the name begins with no slash, as most names do.
-#[inline(always)]
-#[tactic(auto, unfolding(crate::specs::Sections::real_name_in, goblin_pe_sect::specs::SectionName::name_value))]
-fn name_row<'a>(row: &mut PeSection<'a>, naming: &Naming<'a>, section: &SectionTable)
-    requires { (row_model row.old).section ≡ unnamed section.now }
-    ensures { let strict = is_strict naming.now.opts.parse_mode in
-        row_model row.new ≡ with_name (real_name_in strict naming.now.longest naming.now.bytes.now
-        naming.now.strings section.now.name) (row_model row.old) }
-{
-    if section.name[0] == b'/' {
-        give_long_name(row, naming, section);
-    }
-}
-
 // The section of a section header, where it is in the file.
 #[inline(always)]
 #[tactic(auto, using(crate::proofs::Named::section_inside, crate::proofs::Named::section_there))]
@@ -217,61 +159,69 @@ fn stored_section(headers: &[u8], index: usize, displacement: Option<u32>) -> Se
     section
 }
 
+// How far the sections of an image moved to the front, if they did.
+fn displacement_of(image: &PeImage) -> Option<u32>
+    ensures { result ≡ displacement_of image.now }
+{
+    (image.kind == Kind::Te as u32).then_some(u32::from(image.moved_by))
+}
+
 // Puts the row of the section header at an index, which is there, into its place.
 #[inline(always)]
-fn put_row<'a>(place: &mut PeSection<'a>, naming: &Naming<'a>, headers: &'a [u8], index: usize)
+fn put_row<'a>(place: &mut PeSection<'a>, image: &PeImage<'a>, headers: &'a [u8], index: usize)
     requires { index < length headers.now / 40 }
     ensures { let header = slice_range headers.now (40 * index) (40 * index + 40) in
-        row_model place.new ≡ row_of (naming_for_c naming.now) index header }
+        row_model place.new ≡ row_of image.now index header }
 {
     let begin = SIZEOF_SECTION_TABLE * index;
     let header = &headers[begin..begin + SIZEOF_SECTION_TABLE];
-    let section = stored_section(headers, index, naming.displacement);
-    *place = unnamed_row(header, index, &section);
-    name_row(place, naming, &section);
+    let section = stored_section(headers, index, displacement_of(image));
+    let long_name = long_name(image, &section);
+    *place = PeSection {
+        name: match long_name {
+            Some(name) => name.as_bytes(),
+            None => raw_name(header),
+        },
+        index,
+        relocations: relocations_begin(&section),
+        stored_name: section.name,
+        virtual_size: section.virtual_size,
+        virtual_address: section.virtual_address,
+        size_of_raw_data: section.size_of_raw_data,
+        pointer_to_raw_data: section.pointer_to_raw_data,
+        pointer_to_relocations: section.pointer_to_relocations,
+        pointer_to_linenumbers: section.pointer_to_linenumbers,
+        number_of_relocations: section.number_of_relocations,
+        number_of_linenumbers: section.number_of_linenumbers,
+        characteristics: section.characteristics,
+        has_long_name: long_name.is_some(),
+        reserved: [0; 7],
+    };
 }
 
 // Fills rows with section headers from the index `position` on, as far as there is room, and moves
 // the index past them.
 fn fill_sections<'a>(
-    naming: &Naming<'a>,
+    image: &PeImage<'a>,
     headers: &'a [u8],
     position: &mut usize,
     records: &mut [PeSection<'a>],
 ) -> PeBatch
-    ensures { let old : SectionBatch = record { position = position.old; records = records.old } in
-        let new : SectionBatch = record { position = position.new; records = records.new } in
-        GivesRows row_model (section_rows (naming_for_c naming.now) headers.now) old new result }
+    ensures { GivesRows row_model (section_rows image.now headers.now)
+        (rows_at position.old records.old) (rows_at position.new records.new) result }
 {
-    let first = *position;
     let there = headers.len() / SIZEOF_SECTION_TABLE;
-    let count = there.saturating_sub(first).min(records.len());
-    'records: for i in 0..count {
-        put_row(&mut records[i], naming, headers, first + i);
+    let mut index = *position;
+    'records: for count in 0..records.len() {
+        if there <= index {
+            *position = index;
+            return ended(count);
+        }
+        put_row(&mut records[count], image, headers, index);
+        index += 1;
     }
-    *position = first + count;
-    if count < records.len() {
-        ended(count)
-    } else {
-        goes_on(count)
-    }
-}
-
-// What the names of an image's sections are read by.
-fn naming_of<'a>(image: &PeImage<'a>) -> Naming<'a>
-    ensures { naming_for_c result ≡ naming_of image.now }
-{
-    Naming {
-        bytes: image.bytes,
-        strings: image.coff_header.symbols_end(),
-        longest: longest_of(&image.options),
-        displacement: if image.kind == Kind::Te as u32 {
-            Some(u32::from(image.moved_by))
-        } else {
-            None
-        },
-        opts: header_options(&image.options),
-    }
+    *position = index;
+    goes_on(records.len())
 }
 
 /// Gives the next section headers. Never faults on a name: a read of an image has tested them, and
@@ -285,14 +235,12 @@ pub fn next_sections<'a>(
     records: &mut [PeSection<'a>],
     batch: &mut PeBatch,
 ) -> Result<()>
-    ensures { let old : SectionBatch = record { position = position.old; records = records.old } in
-        let new : SectionBatch = record { position = position.new; records = records.new } in
-        ReadsSections image.now old new batch.new result }
+    ensures { ReadsSections image.now (rows_at position.old records.old)
+        (rows_at position.new records.new) batch.new result }
 {
     *batch = ended(0);
     let headers = section_headers(image.bytes, image.section_table, image.section_count)?;
-    let naming = naming_of(image);
-    *batch = fill_sections(&naming, headers, position, records);
+    *batch = fill_sections(image, headers, position, records);
     Ok(())
 }
 

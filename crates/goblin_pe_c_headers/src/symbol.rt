@@ -1,6 +1,6 @@
 //! The symbols of an image or an object.
 
-ghost use Rattle.std.specs.Prelude.{◌≡◌, ◌+◌, ◌/◌, ◌<◌, ◌≤◌, IfOk, IfSome, None, length};
+ghost use Rattle.std.specs.Prelude.{◌≡◌, ◌+◌, ◌/◌, ◌<◌, ◌≤◌, IfSome, None, length};
 ghost use Rattle.std.specs.Prelude.{option_map};
 ghost use Rattle.goblin_base.specs.Reading.{Reads};
 ghost use Rattle.goblin_base.specs.Strtab.{is_in_piece};
@@ -8,13 +8,13 @@ ghost use Rattle.goblin_pe_head.specs.CoffHeader.{symbols_end};
 ghost use Rattle.goblin_pe_symbol.specs.Symbols.{name_and_symbol, named_value, record_of};
 ghost use Rattle.goblin_pe_symbol.specs.Symbols.{symbol_of};
 ghost use Rattle.goblin_pe_c_headers.specs.Calls.{ReadsWithout};
-ghost use Rattle.goblin_pe_c_headers.specs.Onward.{no_batch};
+ghost use Rattle.goblin_pe_c_headers.specs.Onward.{no_batch, rows_at};
 ghost use Rattle.goblin_pe_c_headers.specs.Options.{longest_of};
 ghost use Rattle.goblin_pe_c_headers.specs.Symbols.{FindsTables, GivesSymbols, NamesOfText};
-ghost use Rattle.goblin_pe_c_headers.specs.Symbols.{SymbolBatch, auxiliary_of, found_tables};
-ghost use Rattle.goblin_pe_c_headers.specs.Symbols.{name_at_end, name_in, name_in_piece};
-ghost use Rattle.goblin_pe_c_headers.specs.Symbols.{named_symbol, named_symbol_model, string_at};
-ghost use Rattle.goblin_pe_c_headers.specs.Symbols.{strings_from_c, symbol_named, texts_of};
+ghost use Rattle.goblin_pe_c_headers.specs.Symbols.{auxiliary_of, found_tables, name_in};
+ghost use Rattle.goblin_pe_c_headers.specs.Symbols.{name_in_piece, named_symbol};
+ghost use Rattle.goblin_pe_c_headers.specs.Symbols.{named_symbol_model, string_at, strings_from_c};
+ghost use Rattle.goblin_pe_c_headers.specs.Symbols.{texts_of};
 
 use crate::batch::{PeBatch, ended, goes_on};
 use crate::image::PeImage;
@@ -59,27 +59,19 @@ fn is_in_piece(strings: &[u8], offset: usize) -> bool
     offset < strings.len() || offset == strings.len() && 0 < offset && strings[offset - 1] != 0
 }
 
-// The name at the end of the bytes of a string table.
-fn name_at_end(strings: &[u8]) -> Option<&str>
-    ensures { option_map (λ s. s.now) result ≡ name_at_end strings.now }
-{
-    if is_in_piece(strings, strings.len()) {
-        Some(no_text(&strings[strings.len()..])) // (where it lies)
-    } else {
-        None
-    }
-}
-
 // The name at an offset of the bytes of a string table, also if it is not ASCII, ends within the
 // last bytes or has a limit.
 #[inline(never)]
 fn any_name_in_piece(strings: &[u8], offset: usize, longest: Option<u32>) -> Option<&str>
     ensures { option_map (λ s. s.now) result ≡ name_in_piece longest strings.now offset }
 {
-    if offset == strings.len() {
-        name_at_end(strings)
+    if offset != strings.len() {
+        return pread_str_within(strings, offset, longest).ok();
+    }
+    if is_in_piece(strings, offset) {
+        Some(no_text(&strings[offset..])) // (where it lies)
     } else {
-        pread_str_within(strings, offset, longest).ok()
+        None
     }
 }
 
@@ -137,30 +129,6 @@ fn auxiliary_of<'a>(table: &'a [u8], index: usize, symbol: &Symbol) -> &'a [u8]
     }
 }
 
-// Fills a record with a symbol at an index of a table, and with this name.
-#[inline(always)]
-fn fill_record<'a>(
-    place: &mut PeSymbol<'a>,
-    bytes: &'a [u8],
-    table: &'a [u8],
-    index: usize,
-    name: Option<&'a str>,
-    symbol: Symbol,
-)
-    requires { index < length table.now / 18 }
-    ensures { named_symbol_model place.new
-        ≡ symbol_named table.now index (option_map (λ s. s.now) name.entry) symbol }
-{
-    place.has_name = name.is_some();
-    place.name = match name {
-        Some(name) => name.as_bytes(),
-        None => &bytes[..0],
-    };
-    place.auxiliary = auxiliary_of(table, index, &symbol);
-    place.index = index;
-    place.record = symbol;
-}
-
 // The record at an index of a table, read as a symbol, after the name in it.
 #[inline(always)]
 fn record_at(table: &[u8], index: usize) -> Option<(Option<&str>, Symbol)>
@@ -195,7 +163,14 @@ fn fill_symbol<'a>(
 {
     let (inline_name, symbol) = found;
     let name = name_in(inline_name, &symbol, tables);
-    fill_record(place, bytes, tables.records, index, name, symbol);
+    place.has_name = name.is_some();
+    place.name = match name {
+        Some(name) => name.as_bytes(),
+        None => &bytes[..0],
+    };
+    place.auxiliary = auxiliary_of(tables.records, index, &symbol);
+    place.index = index;
+    place.record = symbol;
 }
 
 // Fills the records of the symbols of a table from an index on, as far as there is room, moves the
@@ -206,10 +181,9 @@ fn fill_symbols_at<'a>(
     position: &mut usize,
     records: &mut [PeSymbol<'a>],
 ) -> PeBatch
-    ensures { let old : SymbolBatch = record { position = position.old; records = records.old } in
-        let new : SymbolBatch = record { position = position.new; records = records.new } in
-        GivesSymbols tables.entry.records.now
-        (name_in_piece tables.entry.longest tables.entry.strings.now) old new result }
+    ensures { GivesSymbols tables.entry.records.now
+        (name_in_piece tables.entry.longest tables.entry.strings.now)
+        (rows_at position.old records.old) (rows_at position.new records.new) result }
 {
     let mut index = *position; // (a place behind a pointer is stored for each symbol)
     'symbols: for count in 0..records.len() {
@@ -259,27 +233,15 @@ fn texts_of(bytes: &[u8], header: &CoffHeader) -> Result<Option<usize>>
 
 // The tables that a header leads to, whatever their bytes are; no bytes if there are none.
 #[tactic(auto, unfolding(crate::specs::Symbols::found_tables))]
-fn find_tables<'a>(bytes: &'a [u8], header: &CoffHeader, longest: Option<u32>) -> Result<Tables<'a>>
-    ensures read { Reads (λ t. (t.records.now, t.strings.now)) result (found_tables header.now)
-        bytes.now }
-    ensures limit { IfOk result (λ t. t.longest ≡ longest) }
+fn find_tables<'a>(bytes: &'a [u8], header: &CoffHeader) -> Result<(&'a [u8], &'a [u8])>
+    ensures { Reads (λ t. (t.0.now, t.1.now)) result (found_tables header.now) bytes.now }
 {
     let Some(length) = texts_of(bytes, header)? else {
-        let (records, strings) = (&bytes[..0], &bytes[..0]);
-        return Ok(Tables {
-            records,
-            strings,
-            longest,
-        });
+        return Ok((&bytes[..0], &bytes[..0]));
     };
     let size = COFF_SYMBOL_SIZE * header.number_of_symbol_table as usize;
     let records = pread_slice(bytes, header.pointer_to_symbol_table as usize, size)?;
-    let strings = strings_from_c(bytes, texts_begin(header), length)?;
-    Ok(Tables {
-        records,
-        strings,
-        longest,
-    })
+    Ok((records, strings_from_c(bytes, texts_begin(header), length)?))
 }
 
 /// Gives the next symbols of an image or an object, and steps over their auxiliary records.
@@ -294,9 +256,8 @@ pub fn next_symbols<'a>(
     records: &mut [PeSymbol<'a>],
     batch: &mut PeBatch,
 ) -> Result<()>
-    ensures given { let old : SymbolBatch =
-        record { position = position.old; records = records.old } in
-        let new : SymbolBatch = record { position = position.new; records = records.new } in
+    ensures given { let old = rows_at position.old records.old in
+        let new = rows_at position.new records.new in
         ReadsWithout (found_tables image.now.coff_header) image.now.bytes.now
         (λ t. GivesSymbols t.0 (name_in_piece (longest_of image.now.options) t.1) old new batch.new)
         ((new ≡ old) × (batch.new ≡ no_batch)) result }
@@ -304,7 +265,12 @@ pub fn next_symbols<'a>(
     ensures names { NamesOfText }
 {
     *batch = ended(0);
-    let tables = find_tables(image.bytes, &image.coff_header, longest_of(&image.options))?;
+    let (table, strings) = find_tables(image.bytes, &image.coff_header)?;
+    let tables = Tables {
+        records: table,
+        strings,
+        longest: longest_of(&image.options),
+    };
     *batch = fill_symbols_at(image.bytes, tables, position, records);
     Ok(())
 }

@@ -2,21 +2,13 @@
 
 ghost use Rattle.std.specs.Prelude.{◌≡◌};
 ghost use Rattle.goblin_pe_c_headers.specs.Calls.{ReadsWithout};
-ghost use Rattle.goblin_pe_c_headers.specs.TeImages.{SaysTe, TeRecords, TeRowsAreRead, moved_by};
-ghost use Rattle.goblin_pe_c_headers.specs.TeImages.{te_file};
+ghost use Rattle.goblin_pe_c_headers.specs.TeImages.{SaysTe, TeRecords, TeRowsAreRead, te_file};
 
 use crate::image::{PeImage, zero_image};
 use crate::kind::Kind;
 use crate::options::PeOptions;
 use goblin_base::Result;
 use goblin_pe_head::header::{CoffHeader, TeHeader};
-
-// How many bytes the file lost at its front, beyond the 40 of this header.
-fn moved_by(header: &TeHeader) -> u16
-    ensures { result ≡ moved_by header.now }
-{
-    header.stripped_size.saturating_sub(40)
-}
 
 /// Reads the header of a Terse Executable, and tests that its section headers are there.
 ///
@@ -48,7 +40,7 @@ pub fn read<'a>(
         section_table,
         section_count: read.number_of_sections as usize,
         coff_header,
-        moved_by: moved_by(&read),
+        moved_by: read.stripped_size.saturating_sub(40),
         ..zero_image(bytes, options, Kind::Te as u32)
     };
     *header = read;

@@ -1,8 +1,7 @@
 -- The rows so far fill the records.
-use Rattle.std.proofs.Common.{◌+◌}
-use Rattle.goblin_pe_c_headers.specs.Sections.{naming_for_c, row_model, section_rows}
-use Rattle.goblin_pe_c_headers.proofs.GivenOnward.{AtIndex}
+use Rattle.goblin_pe_c_headers.specs.Sections.{row_model, section_rows}
+use Rattle.goblin_pe_c_headers.proofs.GivenOnward.{AtRow}
 use Rattle.goblin_pe_c_headers.proofs.section.fill_sections.Given as goal
 
 abbrev pub invariant-records : goal.invariant-records
-invariant-records l = AtIndex row_model (section_rows (naming_for_c l.naming) l.headers) l.first l.initial.records (l.first + l.i) l.records l.i
+invariant-records l = AtRow row_model (section_rows l.image l.headers) l.initial.position l.initial.records l.index l.records l.count
