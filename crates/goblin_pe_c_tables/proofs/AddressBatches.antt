@@ -16,10 +16,10 @@ use Rattle.goblin_pe.specs.Whole.{TablePlaces, part_map}
 use Rattle.goblin_pe.specs.declared.whole.Part.{Part}
 use Rattle.goblin_pe.specs.declared.whole.Part.TheVariants.{Absent, Refused}
 use Rattle.goblin_pe.specs.declared.whole.Part.TheVariants as part
-use Rattle.goblin_pe_c_headers.specs.Onward.{GivesOnward, row_table, unrefused}
+use Rattle.goblin_pe_c_headers.specs.Onward.{GivesOnward, row_table, unrefused, Batch}
 use Rattle.goblin_pe_c_headers.specs.declared.batch.PeBatch.{PeBatch}
 use Rattle.goblin_pe_c_headers.proofs.Batches.{none-given}
-use Rattle.goblin_pe_c_tables.specs.Batches.{AddressBatch, GivesAddresses, addresses_in, at_room}
+use Rattle.goblin_pe_c_tables.specs.Batches.{GivesAddresses, at_room, part_or}
 use Rattle.goblin_pe_c_tables.specs.ExportDirectories.{address_for_c, addresses_for_c}
 
 -- ---- items with their indexes
@@ -69,15 +69,15 @@ onward-none {W} items from old past =
 -- ---- in a file
 
 module _ (m : MapOfAddresses) (places : TablePlaces) (bytes : List ℕ) (found : Part Exports)
-    (read : (address_part m.opts m.addressing places).value bytes ≡ Some (part_map walked_tables found)) (old : AddressBatch) where
-  given : (p : Part ExportTables) → part_map walked_tables found ≡ p → (batch : PeBatch) (new : AddressBatch) → GivesOnward (addresses_in m.addressing p) old new batch
+    (read : (address_part m.opts m.addressing places).value bytes ≡ Some (part_map walked_tables found)) (old : Batch ℕ PeExportAddress) where
+  given : (p : Part ExportTables) → part_map walked_tables found ≡ p → (batch : PeBatch) (new : Batch ℕ PeExportAddress) → GivesOnward (part_or [] (addresses_for_c m.addressing) p) old new batch
       → GivesAddresses m places bytes old new batch
   given p is batch new gives =
-      subst (λ (v : Option (Part ExportTables)). IsSomeAnd v (λ p. GivesOnward (addresses_in m.addressing p) old new batch))
+      subst (λ (v : Option (Part ExportTables)). IsSomeAnd v (λ p. GivesOnward (part_or [] (addresses_for_c m.addressing) p) old new batch))
       (sym (read ∙ ap (λ (p : Part ExportTables). Some p) is)) gives
 
   -- where the directory was read
-  pub addresses-given : (walk : Exports) → found ≡ part.Read walk → (batch : PeBatch) (new : AddressBatch)
+  pub addresses-given : (walk : Exports) → found ≡ part.Read walk → (batch : PeBatch) (new : Batch ℕ PeExportAddress)
       → GivesOnward (addresses_for_c m.addressing (walked_tables walk)) old new batch → GivesAddresses m places bytes old new batch
   addresses-given walk is batch new gives = given (part.Read (walked_tables walk)) (ap (part_map walked_tables) is) batch new gives
 

@@ -24,8 +24,8 @@ use Rattle.goblin_pe.specs.declared.whole.Part.TheVariants as part
 use Rattle.goblin_pe_c_headers.specs.declared.batch.PeBatch.{PeBatch}
 use Rattle.goblin_pe_c_tables.specs.declared.block.PeRelocationBlock.{PeRelocationBlock}
 use Rattle.goblin_pe_c_headers.specs.Items.{without_causes}
-use Rattle.goblin_pe_c_headers.specs.Onward.{IsRefusedNext, values_before}
-use Rattle.goblin_pe_c_tables.specs.Batches.{BlockBatch, GivesBlocksIn, GivesBlocks, IsBlockCause, IsBlocksFault, at_room, block_for_c, block_table, blocks_from, placed, relocations_begin}
+use Rattle.goblin_pe_c_headers.specs.Onward.{IsRefusedNext, values_before, Batch}
+use Rattle.goblin_pe_c_tables.specs.Batches.{GivesBlocksIn, GivesBlocks, IsBlockCause, IsBlocksFault, at_room, block_for_c, block_table, blocks_from, placed, relocations_begin, batch_at}
 use Rattle.goblin_pe_c_headers.proofs.Batches.{AtItems, items-end, items-fault, items-full, items-more, items-refused, items-start, items-stay, items-taken, items-then, done-end, done-full, done-refused, none-given}
 
 -- ---- a refusal is never Memory
@@ -142,7 +142,7 @@ module _ {begin : ℕ} {directory : List ℕ} {from : ℕ} {old : List PeRelocat
 
     pub blocks-fault : count ≡ 0 → count < length records → (p : ℕ) → p ≡ from
         → IsRefusedNext (blocks_from begin (part.Read directory) from) × IsBlockCause from (part.Read directory) e × (0 < length old)
-        × (◌≡◌ {A = BlockBatch} (record { position = p; records = records }) (record { position = from; records = old }))
+        × (batch_at p records ≡ batch_at from old)
     blocks-fault none within p same =
         let fault = items-fault h.at (block-refused begin directory offset e is) none within in (
           fault.0,
@@ -190,7 +190,7 @@ directory-read m places bytes result found is read =
     subst (λ (r : Result (Part RelocationData) ErrorOf). Reads (part_map relocation_bytes) r (relocation_part m.opts m.addressing places) bytes) is read
 
 module _ (m : MapOfAddresses) (places : TablePlaces) (bytes : List ℕ) (found : Part RelocationData)
-    (read : (relocation_part m.opts m.addressing places).value bytes ≡ Some (part_map relocation_bytes found)) (old new : BlockBatch) where
+    (read : (relocation_part m.opts m.addressing places).value bytes ≡ Some (part_map relocation_bytes found)) (old new : Batch ℕ PeRelocationBlock) where
   abbrev begin : ℕ
   begin = relocations_begin m.addressing places
 

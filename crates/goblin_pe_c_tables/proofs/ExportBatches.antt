@@ -127,7 +127,7 @@ module _ (m : MapOfAddresses) (places : TablePlaces) (bytes : List ℕ) (found :
         → KeepsOver now next → exports_position now ≤ exports_position next → exports_position next ≤ max (exports_position now) end
         → (length old ≤ count) ⊎ (min end (pointer_count now) ≤ exports_position next)
         → left ≡ steps - (exports_position next - x) → is_done ≡ nat_le (pointer_count now) (exports_position next)
-        → GivesExports m places bytes steps left (record { position = x; records = old }) (record { position = exports_position next; records = new })
+        → GivesExports steps left m places bytes (record { position = x; records = old }) (record { position = exports_position next; records = new })
         (at_room (length old) count is_done)
     exports-given steps now next end count left is_done new begun over_now at limit inside limited fills over_next further within through is ends =
         let left_is : exports_left now ≡ numbered_from m.addressing bytes (walked_tables walk) x = begun ∙ from-there x in
@@ -168,7 +168,7 @@ module _ (m : MapOfAddresses) (places : TablePlaces) (bytes : List ℕ) (found :
         )
 
   pub exports-none : (steps : ℕ) → (found ≡ Absent) ⊎ (found ≡ Refused)
-      → GivesExports m places bytes steps steps (record { position = x; records = old }) (record { position = x; records = old }) (at_room (length old) 0 true)
+      → GivesExports steps steps m places bytes (record { position = x; records = old }) (record { position = x; records = old }) (at_room (length old) 0 true)
   exports-none steps none =
       let looks : LooksAtPointers steps steps 0 x x = record { further = omega arith; within = omega arith; looked = refl } in
       elim none [

@@ -1,5 +1,6 @@
 -- A loop that fills records with the imports of a file from a position on.
-use Rattle.std.proofs.Common.{◌≡◌, ◌≢◌, append-nil, ℕ, ◌+◌, ◌-◌, ◌<◌, ◌≤◌, List, [], ◌∷◌, ◌++◌, length, drop, set, ap, subst, sym, refl, arith, ◌∙◌, inl, inr, is_none, is_some, Bool, true, false, ◌&&◌, Option, None, Some, Ok, Err, option_map, unwrap_or}
+use Rattle.std.proofs.Common.{◌≡◌, ◌≢◌, append-nil, ℕ, ◌+◌, ◌<◌, ◌≤◌, List, [], ◌∷◌, ◌++◌, length, drop, set, ap, subst, sym, refl, arith, ◌∙◌, inl, inr, is_none, is_some, Bool, true, false, ◌&&◌, Option, None, Some, Ok, Err, option_map, unwrap_or}
+use Rattle.std.specs.Bool.{then_some}
 use Rattle.std.proofs.lemmas.Bool.{and_parts}
 use Rattle.std.proofs.lemmas.List.{append_assoc, length-append}
 use Rattle.goblin_base.specs.declared.error.ErrorOf.{ErrorOf}
@@ -20,14 +21,14 @@ use Rattle.goblin_pe.specs.declared.added.file_imports.FileImports.{FileImports}
 use Rattle.goblin_pe.specs.declared.added.file_imports.FileImports.TheVariants.{Narrow, Wide}
 use Rattle.goblin_pe_c_tables.specs.declared.import.PeImport.{PeImport}
 use Rattle.goblin_pe_c_tables.specs.declared.next.PeImportCursor.{PeImportCursor}
-use Rattle.goblin_pe_c_tables.specs.Batches.{Fills, GivesImports, GivesInFile, GoesOn, ImportBatch, cursor_for_c, cursor_from_c, import_cursor, import_table, is_over, option_from_c, position_ahead}
+use Rattle.goblin_pe_c_tables.specs.Batches.{Fills, GivesImports, GivesInFile, GoesOn, cursor_for_c, cursor_from_c, import_cursor, import_table, is_over, position_ahead, batch_at}
 use Rattle.goblin_pe_c_tables.specs.Imports.{import_for_c, import_model}
 use Rattle.goblin_pe_c_headers.specs.Onward.{AtBatch, IsRefusedNext, TellsEnd, unrefused}
 use Rattle.goblin_pe_c_headers.proofs.Batches.{AtItems, batch-more, items-cut, items-end, items-fault, items-full, items-gives, items-refused, items-start, items-then, done-cut, done-end, done-full, done-refused}
 
 -- ---- the numbers of a cursor
 
-option-from_for : (o : Option ℕ) → option_from_c (is_some o) (unwrap_or o 0) ≡ o
+option-from_for : (o : Option ℕ) → then_some (is_some o) (unwrap_or o 0) ≡ o
 option-from_for None = refl
 option-from_for (Some n) = refl
 
@@ -197,7 +198,7 @@ module _ {m : MapOfAddresses} {places : TablePlaces} {bytes : List ℕ} {steps :
   -- what a batch has given that ends at these numbers
   abbrev AreGiven : PeImportCursor → ℕ → Bool → Type 0
   AreGiven q rest is_done =
-      GivesImports m places bytes steps rest (record { position = from; records = old }) (record { position = q; records = records }) (record { count = count; is_done = is_done })
+      GivesImports steps rest m places bytes (record { position = from; records = old }) (record { position = q; records = records }) (record { count = count; is_done = is_done })
 
   abbrev Says : PeImportCursor → ℕ → Bool → List (Option NumberedImport) → Type 0
   Says q rest is_done items =
@@ -251,7 +252,7 @@ module _ {m : MapOfAddresses} {places : TablePlaces} {bytes : List ℕ} {steps :
     -- or at once
     pub imports-fault : count ≡ 0 → count < length records
         → IsRefusedNext (file_imports_left start) × IsFileImportsCause start e × (0 < length old)
-        × (◌≡◌ {A = ImportBatch} (record { position = p; records = records }) (record { position = from; records = old }))
+        × (batch_at p records ≡ batch_at from old)
     imports-fault none within =
         let fault = items-fault h.at given.steps.0 none within in
         (fault.0, subst (λ (w : FileImports). IsFileImportsCause w e) fault.2 given.steps.2, fault.1, rw (fault.3, fault.4) refl)

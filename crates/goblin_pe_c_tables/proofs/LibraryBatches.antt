@@ -1,5 +1,5 @@
 -- A loop that fills records with the libraries of a file from a position on.
-use Rattle.std.proofs.Common.{◌≡◌, ◌≢◌, ℕ, ◌+◌, List, [], ◌∷◌, ◌++◌, ap, arith, sym, subst, refl, ◌∙◌, ◌<◌, ◌≤◌, length, drop, take, set, Bool, true, false, Option, None, Some, Ok, Err, option_map}
+use Rattle.std.proofs.Common.{◌≡◌, ◌≢◌, if◌then◌else◌, ℕ, ◌+◌, List, [], ◌∷◌, ◌++◌, ap, arith, sym, subst, refl, ◌∙◌, ◌<◌, ◌≤◌, length, drop, take, set, Bool, true, false, Option, None, Some, Ok, Err, option_map}
 use Rattle.goblin_pe_import.specs.declared.added.imports.ImportCursor.{ImportCursor}
 use Rattle.goblin_pe_import.specs.declared.added.library_walk.Libraries.{Libraries}
 use Rattle.goblin_pe_import.specs.ImportEntries.{EntryValue}
@@ -10,8 +10,8 @@ use Rattle.goblin_pe.specs.added.ImportWalks.{no_imports}
 use Rattle.goblin_pe.specs.added.Libraries.{AreLibrariesOver, GivesNextLibrary, IsCursorEndCause, IsLibrariesCause, LibraryValue, after_library, cursor_libraries, libraries_bytes, libraries_cursor, libraries_format, libraries_left, libraries_map, libraries_next, library_value}
 use Rattle.goblin_pe.specs.Whole.{TablePlaces, entry_format}
 use Rattle.goblin_pe_c_tables.specs.declared.next.PeImportCursor.{PeImportCursor}
-use Rattle.goblin_pe_c_tables.specs.Batches.{cursor_for_c, import_cursor}
-use Rattle.goblin_pe_c_tables.specs.Libraries.{GivesLibraries, LibraryBatch, library_for_c, library_table, library_model, position_after, position_by}
+use Rattle.goblin_pe_c_tables.specs.Batches.{cursor_for_c, import_cursor, batch_at}
+use Rattle.goblin_pe_c_tables.specs.Libraries.{GivesLibraries, library_for_c, library_table, library_model, position_after}
 use Rattle.goblin_pe_c_headers.specs.Onward.{IsRefusedNext, TellsEnd, values_before}
 use Rattle.goblin_pe_import.specs.declared.added.library_walk.WalkedLibrary.{WalkedLibrary}
 use Rattle.goblin_pe_c_tables.specs.declared.library.PeLibrary.{PeLibrary}
@@ -100,7 +100,7 @@ module _ {m : MapOfAddresses} {places : TablePlaces} {bytes : List ℕ} {start :
 
   abbrev Says : PeImportCursor → Bool → List (Option LibraryValue) → Type 0
   Says q is_done left =
-      TellsEnd ⊥ (drop count left) (length old) count is_done × (q ≡ position_by is_done from (take count (values_before left)))
+      TellsEnd ⊥ (drop count left) (length old) count is_done × (q ≡ (if is_done then cursor_for_c no_imports else position_after from (take count (values_before left))))
 
   -- where it goes on
   moves : p ≡ position_after from (take count (values_before (libraries_left start)))
@@ -133,7 +133,7 @@ module _ {m : MapOfAddresses} {places : TablePlaces} {bytes : List ℕ} {start :
 
     pub libraries-fault : count ≡ 0 → count < length records
         → IsRefusedNext (libraries_left start) × IsLibrariesCause start e × (0 < length old)
-        × (◌≡◌ {A = LibraryBatch} (record { position = p; records = records }) (record { position = from; records = old }))
+        × (batch_at p records ≡ batch_at from old)
     libraries-fault none within =
         let fault = items-fault h.at given.0.0 none within in
         (fault.0, subst (λ (w : Libraries). IsLibrariesCause w e) fault.2 given.0.2, fault.1, rw (fault.3, fault.4) refl)

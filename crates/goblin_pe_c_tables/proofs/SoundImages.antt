@@ -19,7 +19,7 @@ use Rattle.goblin_pe_c_headers.specs.Places.{image_places, placed_sections}
 use Rattle.goblin_pe_c_headers.specs.declared.image.PeImage.{PeImage}
 use Rattle.goblin_pe_c_headers.specs.declared.options.PeOptions.{PeOptions}
 use Rattle.goblin_pe_c_headers.specs.declared.places.PePlaces.{PePlaces}
-use Rattle.goblin_pe_c_tables.specs.Damages.{IsDamagedBy, damage_map, image_names, is_sound}
+use Rattle.goblin_pe_c_tables.specs.Damages.{IsDamagedBy, image_names, is_sound, mode_map}
 use Rattle.goblin_pe_c_tables.specs.Places.{file_map_of, map_at, places_record, places_from_c}
 use Rattle.goblin_pe_c_tables.specs.ReadImages.{ImageLeadsBack, image_of}
 use Rattle.goblin_pe_c_tables.specs.Walked.{SoundIsWalkedAlike, walked_of}
@@ -68,10 +68,10 @@ module _ (image : PeImage) (h : PeHeader) (s : List Section) (d : Damage) (whole
       (subst (λ (i : PeImage). IsDamage (image_names i) bytes d.section_names) is damaged)
 
   by-map : (found : List Section) → map_at o (places_record h) found ≡ with_longest (longest_of o) (file_map_of o h s)
-      → IsDamagedBy image (damage_map image found) (places_from_c (image_places image)) bytes d
+      → IsDamagedBy image (mode_map true image found) (places_from_c (image_places image)) bytes d
       → IsDamaged (view_of o) (options_at o places.file_alignment) h s bytes d
   by-map found map damaged =
-      let m : damage_map image found ≡ with_longest None (file_map_of o h s) =
+      let m : mode_map true image found ≡ with_longest None (file_map_of o h s) =
       ap (λ (p : PePlaces). map_at o p found) places-are ∙ map ∙ ap (λ (l : Option ℕ). with_longest l (file_map_of o h s)) whole in
       let at : places_from_c (image_places image) ≡ places = ap places_from_c places-are ∙ (leads_back h).tables in
       let moved = subst (λ (p : TablePlaces). IsDamagedBy image (with_longest None (file_map_of o h s)) p bytes d) at
@@ -83,12 +83,12 @@ module _ (image : PeImage) (h : PeHeader) (s : List Section) (d : Damage) (whole
         left_out_exports = moved.left_out_exports;
       }
 
-  damaged-is : IsSomeAnd ((placed_sections (image_places image)).value bytes) (λ found. IsDamagedBy image (damage_map image found) (places_from_c (image_places image)) bytes d)
+  damaged-is : IsSomeAnd ((placed_sections (image_places image)).value bytes) (λ found. IsDamagedBy image (mode_map true image found) (places_from_c (image_places image)) bytes d)
       → IsDamaged (view_of o) (options_at o places.file_alignment) h s bytes d
   damaged-is damaged =
       both-there ((placed_sections (places_record h)).value bytes) _ _
       ((leads_back h).sections (is_strict (header_options image.options).parse_mode) bytes s sections o)
-      (subst (λ (p : PePlaces). IsSomeAnd ((placed_sections p).value bytes) (λ found. IsDamagedBy image (damage_map image found) (places_from_c (image_places image)) bytes d)) places-are damaged)
+      (subst (λ (p : PePlaces). IsSomeAnd ((placed_sections p).value bytes) (λ found. IsDamagedBy image (mode_map true image found) (places_from_c (image_places image)) bytes d)) places-are damaged)
       by-map
     where
       both-there : {A C : Type 0} (v : Option A) (P Q : A → Type 0) → IsSomeAnd v P → IsSomeAnd v Q → ((a : A) → P a → Q a → C) → C

@@ -1,7 +1,8 @@
 -- Batches of the tables of a file: imports, exports, export addresses and blocks; and a call.
-use Rattle.std.specs.Prelude.{◌≡◌, ℕ, ◌≤◌, true, if◌then◌else◌, List, [], ◌∷◌, ◌&&◌, ◌==◌, is_none}
+use Rattle.std.specs.Prelude.{◌≡◌, ℕ, ◌≤◌, true, List, [], ◌∷◌, ◌&&◌, ◌==◌, is_none}
 use Rattle.std.specs.Prelude.{not, ◌+◌, ◌++◌, take, length, max, Option, Some, None, Bool, is_some}
 use Rattle.std.specs.Prelude.{option_map, Result, Ok, Err, IsSomeAnd, sum_by, unwrap_or}
+use Rattle.std.specs.Bool.{then_some}
 use Rattle.goblin_base.specs.declared.error.ErrorOf.{ErrorOf}
 use Rattle.goblin_base.specs.Answers.{FirstFault, IsMemory}
 use Rattle.goblin_base.specs.Reading.{IsRefused, Reading}
@@ -45,6 +46,20 @@ use Rattle.goblin_pe_c_headers.specs.declared.fault.PeFault.{PeFault}
 use Rattle.goblin_pe_c_headers.specs.declared.image.PeImage.{PeImage}
 use Rattle.goblin_pe_c_headers.specs.Calls.{ReportedAfter}
 
+-- What is said of a batch of a file, as its caller passes it and as it is filled, and of the answer;
+-- and of why one is refused.
+abbrev pub SaysBatch : Type 0 → Type 0 → Type 1
+SaysBatch P R = MapOfAddresses → TablePlaces → List ℕ → Batch P R → Batch P R → PeBatch → Type 0
+
+abbrev pub SaysRefused : Type 0 → Type 0 → Type 1
+SaysRefused P R = MapOfAddresses → TablePlaces → List ℕ → Batch P R → ErrorOf → Type 0
+
+-- what a table gives that was read, and the others
+abbrev pub part_or : {A B : Type 0} → B → (A → B) → Part A → B
+part_or other of_read Absent = other
+part_or other of_read (part.Read table) = of_read table
+part_or other of_read Refused = other
+
 -- records that are filled from a position on
 abbrev pub batch_at : {P R : Type 0} → P → List R → Batch P R
 batch_at position records = record { position = position; records = records }
@@ -55,21 +70,17 @@ at_room room count is_done = record { count = count; is_done = is_done && not (r
 
 -- ---- imports
 
--- a number that is there
-abbrev pub option_from_c : Bool → ℕ → Option ℕ
-option_from_c is n = if is then Some n else None
-
 -- the cursor that these numbers say
 abbrev pub cursor_from_c : PeImportCursor → ImportCursor
 cursor_from_c p = record {
   first_record = p.first_record;
-  next_record = option_from_c p.has_next p.next_record;
+  next_record = then_some p.has_next p.next_record;
   library = p.library;
   name_rva = p.name_rva;
   rva = p.rva;
   table_offset = p.table_offset;
-  place = option_from_c p.has_place p.place;
-  pending = option_from_c p.has_address_table p.address_table;
+  place = then_some p.has_place p.place;
+  pending = then_some p.has_address_table p.address_table;
 }
 
 -- the numbers of a cursor
@@ -104,9 +115,6 @@ import_table m places bytes = record {
       ((import_cursor m places p).value bytes);
 }
 
-abbrev pub ImportBatch : Type 0
-ImportBatch = Batch PeImportCursor PeImport
-
 -- how many slots and records are still to be looked at from a position on
 abbrev pub position_ahead : MapOfAddresses → TablePlaces → List ℕ → PeImportCursor → ℕ
 position_ahead m places bytes p =
@@ -118,16 +126,15 @@ is_over c = is_none c.place && is_none c.next_record && is_none c.pending
 
 -- A step looks at a slot or a record. Of the steps are gone as many as are no longer ahead; or all,
 -- and at most n more, as the slots of an address table are looked at in one go.
-abbrev pub GivesImports : MapOfAddresses → TablePlaces → List ℕ → ℕ → ℕ → ImportBatch
-    → ImportBatch → PeBatch → Type 0
-GivesImports m places bytes before after old new batch =
+abbrev pub GivesImports : ℕ → ℕ → SaysBatch PeImportCursor PeImport
+GivesImports before after m places bytes old new batch =
     FillsNext (import_table m places bytes) (after ≡ 0)
     (λ left. AtSteps (length bytes) (Some before) (Some after)
     (position_ahead m places bytes old.position) (position_ahead m places bytes new.position)) old
     new batch
 
 -- Where the imports begin is refused, or else the very next import, and there is room for it.
-abbrev pub IsImportsFault : MapOfAddresses → TablePlaces → List ℕ → ImportBatch → ErrorOf → Type 0
+abbrev pub IsImportsFault : SaysRefused PeImportCursor PeImport
 IsImportsFault m places bytes old e =
     IsNextFault (import_cursor m places old.position) bytes (file_cursor_left m places.magic bytes)
     (IsFileCursorCause m places.magic bytes) old e
@@ -158,15 +165,11 @@ pub record GoesOn (m : MapOfAddresses) (places : TablePlaces) (bytes : List ℕ)
 -- the exports of tables from a name pointer on
 abbrev pub exports_in : MapOfAddresses → List ℕ → ℕ → Part (ExportTables × List NumberedExport)
     → List NumberedExport
-exports_in m bytes x Absent = []
-exports_in m bytes x (part.Read read) = numbered_from m.addressing bytes read.0 x
-exports_in m bytes x Refused = []
+exports_in m bytes x p = part_or [] (λ read. numbered_from m.addressing bytes read.0 x) p
 
 -- how many name pointers tables have
 abbrev pub pointers_in : Part (ExportTables × List NumberedExport) → ℕ
-pointers_in Absent = 0
-pointers_in (part.Read read) = length read.0.export_name_pointer_table
-pointers_in Refused = 0
+pointers_in p = part_or 0 (λ read. length read.0.export_name_pointer_table) p
 
 -- the exports of tables
 abbrev pub export_table : MapOfAddresses → List ℕ → Part (ExportTables × List NumberedExport)
@@ -177,18 +180,14 @@ export_table m bytes p = record {
   from = λ x. Some (unrefused (exports_in m bytes x p));
 }
 
-abbrev pub ExportBatch : Type 0
-ExportBatch = Batch ℕ PeExport
-
 -- A step looks at one of the name pointers from the old position up to the new one.
 pub record LooksAtPointers (steps left pointers old new : ℕ) : Type 0 where
   pub further : old ≤ new
   pub within : new ≤ max old pointers
   pub looked : new + left ≡ old + steps
 
-abbrev pub GivesExports : MapOfAddresses → TablePlaces → List ℕ → ℕ → ℕ → ExportBatch
-    → ExportBatch → PeBatch → Type 0
-GivesExports m places bytes before after old new batch =
+abbrev pub GivesExports : ℕ → ℕ → SaysBatch ℕ PeExport
+GivesExports before after m places bytes old new batch =
     IsSomeAnd ((export_part m.opts m.addressing places).value bytes) (λ p.
     FillsNext (export_table m bytes p) (after ≡ 0)
     (λ left. LooksAtPointers before after (pointers_in p) old.position new.position) old new batch)
@@ -201,54 +200,35 @@ export_walk = record {
   from = λ walk. Some (unrefused (exports_left walk));
 }
 
-abbrev pub ExportWalkBatch : Type 0
-ExportWalkBatch = Batch Exports PeExport
-
 -- a batch of exports is refused, wherever it begins, if the export directory is
-abbrev pub IsExportBatchFault : {R : Type 0} → MapOfAddresses → TablePlaces → List ℕ → Batch ℕ R
-    → ErrorOf → Type 0
+abbrev pub IsExportBatchFault : {R : Type 0} → SaysRefused ℕ R
 IsExportBatchFault m places bytes old e =
     IsRefused (export_part m.opts m.addressing places) bytes e
 
 -- ---- what the export directory says
 
 -- its record, zeros where it is not read; the names of exports have no say in that
-abbrev pub directory_record_in : Part ExportTables → DirectoryModel
-directory_record_in Absent = no_export_directory
-directory_record_in (part.Read tables) = directory_for_c tables
-directory_record_in Refused = no_export_directory
-
 abbrev pub SaysDirectory : MapOfAddresses → TablePlaces → List ℕ → DirectoryModel → Type 0
 SaysDirectory m places bytes directory =
     IsSomeAnd ((address_part m.opts m.addressing places).value bytes)
-    (λ p. directory ≡ directory_record_in p)
+    (λ p. directory ≡ part_or no_export_directory directory_for_c p)
 
 -- it is refused, for another reason than the number of its name pointers
 abbrev pub IsAddressesFault : MapOfAddresses → TablePlaces → List ℕ → ErrorOf → Type 0
 IsAddressesFault m places bytes e = IsRefused (address_part m.opts m.addressing places) bytes e
 
 -- why a batch of entries is refused, wherever it begins
-abbrev pub IsAddressBatchFault : {R : Type 0} → MapOfAddresses → TablePlaces → List ℕ → Batch ℕ R
-    → ErrorOf → Type 0
+abbrev pub IsAddressBatchFault : {R : Type 0} → SaysRefused ℕ R
 IsAddressBatchFault m places bytes old e = IsAddressesFault m places bytes e
 
 -- ---- entries of the export address table
 
--- their records, none if the directory is not read
-abbrev pub addresses_in : Addressing → Part ExportTables → List PeExportAddress
-addresses_in addressing Absent = []
-addresses_in addressing (part.Read tables) = addresses_for_c addressing tables
-addresses_in addressing Refused = []
-
-abbrev pub AddressBatch : Type 0
-AddressBatch = Batch ℕ PeExportAddress
-
--- The records hold the entries from the old index on, and from the new one on come the others.
-abbrev pub GivesAddresses : MapOfAddresses → TablePlaces → List ℕ → AddressBatch → AddressBatch
-    → PeBatch → Type 0
+-- The records hold the entries from the old index on, and from the new one on come the others; none
+-- if the directory is not read.
+abbrev pub GivesAddresses : SaysBatch ℕ PeExportAddress
 GivesAddresses m places bytes old new batch =
     IsSomeAnd ((address_part m.opts m.addressing places).value bytes) (λ p.
-    GivesOnward (addresses_in m.addressing p) old new batch)
+    GivesOnward (part_or [] (addresses_for_c m.addressing) p) old new batch)
 
 -- ---- blocks of base relocations
 
@@ -265,10 +245,8 @@ placed p (None ∷ items) = None ∷ placed p items
 -- what a directory that begins at a file offset has from an offset in it on: blocks, and at last
 -- perhaps a refusal
 abbrev pub blocks_from : ℕ → Part (List ℕ) → ℕ → List (Option (ℕ × Block))
-blocks_from begin Absent x = []
-blocks_from begin (part.Read directory) x =
-    placed (begin + x) (without_causes (block_items directory x))
-blocks_from begin Refused x = []
+blocks_from begin p x =
+    part_or [] (λ directory. placed (begin + x) (without_causes (block_items directory x))) p
 
 -- the record of a block at a file offset
 abbrev pub block_for_c : ℕ × Block → PeRelocationBlock
@@ -291,25 +269,22 @@ abbrev pub block_table : ℕ → Part (List ℕ)
 block_table begin p =
     record { view = λ r. r; value_of = block_for_c; from = λ x. Some (blocks_from begin p x) }
 
-abbrev pub BlockBatch : Type 0
-BlockBatch = Batch ℕ PeRelocationBlock
-
 -- The directory was read, or not. The position moves by the sizes of the blocks that are given.
-abbrev pub GivesBlocksIn : ℕ → Part (List ℕ) → BlockBatch → BlockBatch → PeBatch → Type 0
+abbrev pub GivesBlocksIn : ℕ → Part (List ℕ) → Batch ℕ PeRelocationBlock
+    → Batch ℕ PeRelocationBlock → PeBatch → Type 0
 GivesBlocksIn begin p old new batch =
     FillsNext (block_table begin p) ⊥
     (λ left. new.position
     ≡ old.position
     + sum_by (λ (x : ℕ × Block). x.1.size) (take batch.count (values_before left))) old new batch
 
-abbrev pub GivesBlocks : MapOfAddresses → TablePlaces → List ℕ → BlockBatch → BlockBatch
-    → PeBatch → Type 0
+abbrev pub GivesBlocks : SaysBatch ℕ PeRelocationBlock
 GivesBlocks m places bytes old new batch =
     IsSomeAnd ((relocation_part m.opts m.addressing places).value bytes)
     (λ p. GivesBlocksIn (relocations_begin m.addressing places) p old new batch)
 
 -- The directory is refused, or else what comes next of it, and there is room for a block.
-abbrev pub IsBlocksFault : MapOfAddresses → TablePlaces → List ℕ → BlockBatch → ErrorOf → Type 0
+abbrev pub IsBlocksFault : SaysRefused ℕ PeRelocationBlock
 IsBlocksFault m places bytes old e =
     IsNextFault (relocation_part m.opts m.addressing places) bytes
     (λ p. blocks_from (relocations_begin m.addressing places) p old.position)
@@ -336,21 +311,11 @@ GivesBatch image Gives IsFault Left (Err e) =
     × Left
 
 -- A call has given the records of a table that come next, and how many they are; or it is refused,
--- and nothing else is changed than what is said.
-abbrev pub GivesRecords : {P R : Type 0} → PeImage
-    → (MapOfAddresses → TablePlaces → List ℕ → Batch P R → Batch P R → PeBatch → Type 0)
-    → (MapOfAddresses → TablePlaces → List ℕ → Batch P R → ErrorOf → Type 0)
-    → Batch P R → Batch P R → PeBatch → Result Unit ErrorOf → Type 0
-GivesRecords image Gives IsFault old new batch result =
-    GivesBatch image
-    (λ m places. Gives m places image.bytes.now old new batch)
-    (λ m places. IsFault m places image.bytes.now old) ((new ≡ old) × (batch ≡ no_batch)) result
-
--- The same of a call that may be refused before it begins, by this fault.
-abbrev pub WalksOver : {P R : Type 0} → PeFault → PeFault → PeImage
-    → (MapOfAddresses → TablePlaces → List ℕ → Batch P R → Batch P R → PeBatch → Type 0)
-    → (MapOfAddresses → TablePlaces → List ℕ → Batch P R → ErrorOf → Type 0)
-    → Batch P R → Batch P R → PeBatch → Type 0
+-- also before it begins, by this fault, and nothing else is changed than what is said.
+abbrev pub WalksOver : {P R : Type 0} → PeFault → PeFault → PeImage → SaysBatch P R
+    → SaysRefused P R → Batch P R → Batch P R → PeBatch → Type 0
 WalksOver refusal fault image Gives IsFault old new batch =
     ReportedAfter refusal fault ((new ≡ old) × (batch ≡ no_batch))
-    (GivesRecords image Gives IsFault old new batch)
+    (GivesBatch image
+    (λ m places. Gives m places image.bytes.now old new batch)
+    (λ m places. IsFault m places image.bytes.now old) ((new ≡ old) × (batch ≡ no_batch)))

@@ -33,14 +33,11 @@ abbrev pub part_fault : Option ErrorOf → PeFault
 part_fault None = no_fault
 part_fault (Some e) = fault_of e
 
--- the first fault of the tables, and of all parts
-abbrev pub tables_fault : Damage → PeFault
-tables_fault d =
-    or_fault (part_fault d.imports) (or_fault (part_fault d.exports) (part_fault d.relocations))
-
+-- the first fault of all parts
 abbrev pub first_fault : Damage → PeFault
 first_fault d =
-    or_fault (part_fault d.dos_stub) (or_fault (part_fault d.section_names) (tables_fault d))
+    or_fault (part_fault d.dos_stub) (or_fault (part_fault d.section_names)
+    (or_fault (part_fault d.imports) (or_fault (part_fault d.exports) (part_fault d.relocations))))
 
 -- whether nothing is damaged, and no library is left out
 abbrev pub is_sound : Damage → Bool
@@ -118,59 +115,36 @@ abbrev pub mode_map : Bool → PeImage → List Section → MapOfAddresses
 mode_map is_permissive image sections =
     map_at (record image.options { is_permissive = is_permissive }) (image_places image) sections
 
-abbrev pub damage_map : PeImage → List Section → MapOfAddresses
-damage_map image sections = mode_map true image sections
-
--- So many steps are too few for a strict walk over all imports, which also looks at the entries of
--- libraries that permissive mode skips.
-abbrev pub AreTooFew : PeImage → ℕ → List Section → Type 0
-AreTooFew image steps sections =
-    let m = mode_map false image sections in
-    steps ≤ all_imports m (places_from_c (image_places image)) image.bytes.now
-
--- the damage with these sections, and the steps that were taken
+-- The damage with these sections, and the steps that were taken; or there are too few of them,
+-- perhaps for a strict walk over all imports, which also looks at the entries of libraries that
+-- permissive mode skips.
 abbrev pub FindsDamage : PeImage → ℕ → List Section → Option (PeDamage × ℕ) → Type 0
 FindsDamage image steps sections None =
-    DamageSteps (damage_map image sections) (places_from_c (image_places image)) image.bytes.now
-    steps None
-    ⊎ AreTooFew image steps sections
+    let places = places_from_c (image_places image) in
+    DamageSteps (mode_map true image sections) places image.bytes.now steps None
+    ⊎ (steps ≤ all_imports (mode_map false image sections) places image.bytes.now)
 FindsDamage image steps sections (Some found) =
-    let m = damage_map image sections in
+    let m = mode_map true image sections in
     let places = places_from_c (image_places image) in
     DamageSteps m places image.bytes.now steps (Some found.1)
     × (d : Damage) × IsDamagedBy image m places image.bytes.now d × (found.0 ≡ damage_record d)
 
--- The section headers are not there, or memory for an index of many sections is refused.
-abbrev pub HasNoSections : PeImage → ErrorOf → Type 0
-HasNoSections image e =
-    (¬ IsMemory e → IsRefused (placed_sections (image_places image)) image.bytes.now e)
-    × (IsMemory e → TakesIndexAt (image_places image) image.bytes.now)
-
--- A strict walk takes more than `steps`, if the call says so.
-abbrev pub AnswersRunsOut : PeImage → ℕ → Result Bool ErrorOf → Type 0
-AnswersRunsOut image steps (Ok is_out) =
-    is_out ≡ true
-    → IsSomeAnd ((placed_sections (image_places image)).value image.bytes.now)
-    (AreTooFew image steps)
-AnswersRunsOut image steps (Err e) = HasNoSections image e
-
--- A call finds the damage within `steps`, or these are too few.
+-- A call finds the damage within `steps`, or these are too few; or the section headers are not
+-- there, or memory for an index of many sections is refused.
 abbrev pub AnswersDamage : PeImage → ℕ → Result (Option (PeDamage × ℕ)) ErrorOf → Type 0
 AnswersDamage image steps (Ok found) =
     IsSomeAnd ((placed_sections (image_places image)).value image.bytes.now)
     (λ sections. FindsDamage image steps sections found)
-AnswersDamage image steps (Err e) = HasNoSections image e
+AnswersDamage image steps (Err e) =
+    (¬ IsMemory e → IsRefused (placed_sections (image_places image)) image.bytes.now e)
+    × (IsMemory e → TakesIndexAt (image_places image) image.bytes.now)
 
 -- its fault, and what it leaves
-abbrev pub damage_fault : Result (Option (PeDamage × ℕ)) ErrorOf → PeFault
-damage_fault (Ok (Some x)) = no_fault
-damage_fault (Ok None) = fault 7 0 0 0
-damage_fault (Err e) = fault_of e
-
-abbrev pub damage_left : Result (Option (PeDamage × ℕ)) ErrorOf → PeDamage × ℕ → PeDamage × ℕ
-damage_left (Ok (Some x)) old = x
-damage_left (Ok None) old = old
-damage_left (Err e) old = old
+abbrev pub LeavesDamage : Result (Option (PeDamage × ℕ)) ErrorOf → PeDamage × ℕ → PeDamage × ℕ
+    → PeFault → Type 0
+LeavesDamage (Ok (Some x)) old new said = (said ≡ no_fault) × (new ≡ x)
+LeavesDamage (Ok None) old new said = (said ≡ fault 7 0 0 0) × (new ≡ old)
+LeavesDamage (Err e) old new said = (said ≡ fault_of e) × (new ≡ old)
 
 -- why it is refused before it begins
 abbrev pub damage_refusal : PeImage → ℕ → PeFault
@@ -178,9 +152,8 @@ damage_refusal image steps =
     or_fault (image_fault image.kind image.options) (steps_fault image 1 steps)
 
 abbrev pub ReadsDamage : PeImage → PeDamage × ℕ → PeDamage × ℕ → PeFault → Type 0
-ReadsDamage image old new fault =
+ReadsDamage image old new said =
     let refusal = damage_refusal image old.1 in
-    (refusal.status ≢ 0 → (fault ≡ refusal) × (new ≡ old))
+    (refusal.status ≢ 0 → (said ≡ refusal) × (new ≡ old))
     × (refusal.status ≡ 0 → (r : Result (Option (PeDamage × ℕ)) ErrorOf)
-    × (fault ≡ damage_fault r) × (new ≡ damage_left r old)
-    × AnswersDamage image (old.1 - section_steps image 1) r)
+    × LeavesDamage r old new said × AnswersDamage image (old.1 - section_steps image 1) r)

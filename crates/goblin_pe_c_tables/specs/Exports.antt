@@ -4,8 +4,6 @@ use Rattle.goblin_pe.specs.added.ExportWalks.{NumberedExport}
 use Rattle.goblin_pe.specs.Forwarders.{Forwarder}
 use Rattle.goblin_pe.specs.Forwarders.Forwarder.{ByName, ByOrdinal}
 use Rattle.goblin_pe_c_tables.specs.declared.export.PeExport.{PeExport}
-use Rattle.goblin_pe_c_tables.specs.declared.forwarder.ForwarderKind.{ForwarderKind}
-use Rattle.goblin_pe_c_tables.specs.declared.forwarder.ForwarderKind.TheVariants as kind
 use Rattle.goblin_pe_c_tables.specs.declared.forwarder.PeForwarder.{PeForwarder}
 
 -- a record of a forwarder, its slices as lists
@@ -29,26 +27,14 @@ pub record ExportModel : Type 0 where
   pub has_offset : Bool
   pub reserved : List ℕ
 
--- the number of a kind
-abbrev pub kind_number : ForwarderKind → ℕ
-kind_number kind.None = 0
-kind_number kind.Name = 1
-kind_number kind.Ordinal = 2
-
--- the record of a forwarder; zeros without one
+-- the record of a forwarder, which is by name or by ordinal; zeros without one
 abbrev pub forwarder_for_c : Option Forwarder → ForwarderModel
 forwarder_for_c None =
-    record { dll = []; name = []; ordinal = 0; kind = kind_number kind.None; reserved = 0 }
+    record { dll = []; name = []; ordinal = 0; kind = 0; reserved = 0 }
 forwarder_for_c (Some (ByName name lib)) =
-    record { dll = lib; name = name; ordinal = 0; kind = kind_number kind.Name; reserved = 0 }
+    record { dll = lib; name = name; ordinal = 0; kind = 1; reserved = 0 }
 forwarder_for_c (Some (ByOrdinal ordinal lib)) =
-    record {
-      dll = lib;
-      name = [];
-      ordinal = ordinal;
-      kind = kind_number kind.Ordinal;
-      reserved = 0;
-    }
+    record { dll = lib; name = []; ordinal = ordinal; kind = 2; reserved = 0 }
 
 -- the record of an export with this forwarder; what the export does not have is nothing, or 0
 abbrev pub export_with : NumberedExport → ForwarderModel → ExportModel

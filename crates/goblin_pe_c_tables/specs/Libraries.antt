@@ -1,7 +1,7 @@
 -- The records of libraries, and batches of them.
 use Rattle.std.specs.Prelude.{◌≡◌, ◌==◌, if◌then◌else◌, IsSome, Some, ℕ, Bool, false, List, [], ◌∷◌}
-use Rattle.std.specs.Prelude.{option_map, take, Result, Ok, Err}
-use Rattle.goblin_base.specs.declared.error.ErrorOf.{ErrorOf}
+use Rattle.std.specs.Prelude.{option_map, take, unwrap_or}
+use Rattle.std.specs.Result.{result_ok}
 use Rattle.goblin_pe_import.specs.declared.import.directory_entry.ImportDirectoryEntry.{ImportDirectoryEntry}
 use Rattle.goblin_pe.specs.Addresses.{MapOfAddresses, reads_strictly}
 use Rattle.goblin_pe.specs.added.ImportWalks.{library_items, library_name, no_imports}
@@ -11,9 +11,9 @@ use Rattle.goblin_pe.specs.added.Libraries.{cursor_libraries, inside_library, li
 use Rattle.goblin_pe.specs.Whole.{TablePlaces, entry_format}
 use Rattle.goblin_pe_c_tables.specs.declared.library.PeLibrary.{PeLibrary}
 use Rattle.goblin_pe_c_tables.specs.declared.next.PeImportCursor.{PeImportCursor}
-use Rattle.goblin_pe_c_tables.specs.Batches.{cursor_for_c, import_cursor, import_table}
-use Rattle.goblin_pe_c_headers.specs.Onward.{Batch, FillsNext, IsNextFault, Table, values_before}
-use Rattle.goblin_pe_c_headers.specs.declared.batch.PeBatch.{PeBatch}
+use Rattle.goblin_pe_c_tables.specs.Batches.{SaysBatch, SaysRefused, cursor_for_c, import_cursor}
+use Rattle.goblin_pe_c_tables.specs.Batches.{import_table}
+use Rattle.goblin_pe_c_headers.specs.Onward.{FillsNext, IsNextFault, Table, values_before}
 use Rattle.goblin_pe_c_headers.specs.Faults.{status_of}
 use Rattle.goblin_pe_c_headers.specs.declared.fault.PeFault.{PeFault}
 
@@ -28,15 +28,10 @@ pub record LibraryModel : Type 0 where
   pub is_skipped : Bool
   pub reserved : List ℕ
 
--- a name, no bytes where it can't be read
-abbrev pub name_for_c : Result (List ℕ) ErrorOf → List ℕ
-name_for_c (Ok name) = name
-name_for_c (Err e) = []
-
--- the record of a library, by a map of addresses
+-- the record of a library, by a map of addresses; its name is empty where it can't be read
 abbrev pub library_for_c : MapOfAddresses → LibraryValue → LibraryModel
 library_for_c m x = record {
-  name = name_for_c x.name;
+  name = unwrap_or (result_ok x.name) [];
   name_fault = status_of x.name;
   index = x.index;
   offset = x.offset;
@@ -69,9 +64,6 @@ library_table m places bytes = record {
       ((import_cursor m places p).value bytes);
 }
 
-abbrev pub LibraryBatch : Type 0
-LibraryBatch = Batch PeImportCursor PeLibrary
-
 -- the position after libraries: before the record that follows the last one's
 unfoldable pub position_after : PeImportCursor → List LibraryValue → PeImportCursor
 position_after p [] = p
@@ -79,21 +71,16 @@ position_after p (library ∷ libraries) =
     position_after (cursor_for_c (after_library library)) libraries
 
 -- The new position is the end if the call is done, or else after the libraries that are given.
-abbrev pub position_by : Bool → PeImportCursor → List LibraryValue → PeImportCursor
-position_by is_done p libraries =
-    if is_done then cursor_for_c no_imports else position_after p libraries
-
-abbrev pub GivesLibraries : MapOfAddresses → TablePlaces → List ℕ → LibraryBatch → LibraryBatch
-    → PeBatch → Type 0
+abbrev pub GivesLibraries : SaysBatch PeImportCursor PeLibrary
 GivesLibraries m places bytes old new batch =
     FillsNext (library_table m places bytes) ⊥
     (λ left. new.position
-    ≡ position_by batch.is_done old.position (take batch.count (values_before left))) old new batch
+    ≡ (if batch.is_done then cursor_for_c no_imports
+    else position_after old.position (take batch.count (values_before left)))) old new batch
 
 -- Where the imports begin is refused, or else no library comes next, since the directory reaches
 -- the end of the file, and there is room for one.
-abbrev pub IsLibrariesFault : MapOfAddresses → TablePlaces → List ℕ → LibraryBatch → ErrorOf
-    → Type 0
+abbrev pub IsLibrariesFault : SaysRefused PeImportCursor PeLibrary
 IsLibrariesFault m places bytes old e =
     IsNextFault (import_cursor m places old.position) bytes
     (cursor_libraries m (entry_format places.magic) bytes) (IsCursorEndCause m bytes) old e

@@ -25,9 +25,9 @@ use Rattle.goblin_pe.specs.Whole.{layout, places_in, sections_after}
 use Rattle.goblin_pe_c_headers.specs.declared.fault.PeFault.{PeFault}
 use Rattle.goblin_pe_c_headers.specs.declared.image.PeImage.{PeImage}
 use Rattle.goblin_pe_c_headers.specs.declared.options.PeOptions.{PeOptions}
-use Rattle.goblin_pe_c_headers.specs.Faults.{status_of}
+use Rattle.goblin_pe_c_headers.specs.Faults.{fault_of, status_of}
 use Rattle.goblin_pe_c_headers.specs.Headers.{optional_record}
-use Rattle.goblin_pe_c_headers.specs.ImageRecords.{IsImage, zero_coff_header}
+use Rattle.goblin_pe_c_headers.specs.ImageRecords.{IsImage, zero_coff_header, zero_image}
 use Rattle.goblin_pe_c_headers.specs.Options.{header_options}
 use Rattle.goblin_pe_c_headers.specs.Places.{image_places, placed_sections}
 use Rattle.goblin_pe_c_headers.specs.RichHeaders.{rich_of}
@@ -73,33 +73,23 @@ abbrev pub stub_size : Result DosStub ErrorOf → Bool → ℕ
 stub_size (Ok stub) is_replaced = length (stub_bytes stub)
 stub_size (Err e) is_replaced = if is_replaced then length default_stub else 0
 
--- all section headers that a COFF header counts
-abbrev pub table_there : CoffHeader → ℕ → Reading (List Section)
-table_there h table = unnamed_sections h.number_of_sections table
+-- an answer that says whether the reading has a value, and its fault
+abbrev pub Tests : {A : Type 0} → Reading A → List ℕ → Result Unit ErrorOf → Type 0
+Tests reading bytes r = MatchResult r (λ _. IsSome (reading.value bytes)) (IsRefused reading bytes)
 
--- the first `count` of them, with their names
-abbrev pub names_there : Bool → CoffHeader → ℕ → ℕ → Reading (List Section)
-names_there strict h table count = sections_at strict (symbols_end h) count table
-
--- the fault is that of a read
 abbrev pub Tells : {A : Type 0} → Reading A → List ℕ → PeFault → Type 0
 Tells reading bytes fault =
-    (r : Result Unit ErrorOf) × (fault ≡ status_of r)
-    × MatchResult r (λ _. IsSome (reading.value bytes)) (IsRefused reading bytes)
+    (r : Result Unit ErrorOf) × (fault ≡ status_of r) × Tests reading bytes r
 
--- The faults are those of the section table and of the names in it; of the COFF header, if that is
--- refused.
-abbrev pub AreTableFaultsBy : Result CoffHeader ErrorOf → List ℕ → ℕ → ℕ → Bool
-    → PeFault × PeFault → Type 0
-AreTableFaultsBy (Ok h) bytes table count strict faults =
-    Tells (table_there h table) bytes faults.0
-    × Tells (names_there strict h table count) bytes faults.1
-AreTableFaultsBy (Err e) bytes table count strict faults =
-    (faults.0 ≡ status_of {A = Unit} (Err e)) × (faults.1 ≡ status_of {A = Unit} (Err e))
-
-abbrev pub AreTableFaults : List ℕ → HeaderParts → ℕ → Bool → PeFault × PeFault → Type 0
-AreTableFaults bytes parts count strict faults =
-    AreTableFaultsBy parts.coff_header bytes (unwrap_or parts.section_table 0) count strict faults
+-- The faults are those of the section table, which has all section headers that a COFF header
+-- counts, and of the names in the first `count` of them; of the COFF header, if that is refused.
+abbrev pub AreTableFaults : List ℕ → Result CoffHeader ErrorOf → ℕ → ℕ → Bool → PeFault × PeFault
+    → Type 0
+AreTableFaults bytes (Ok h) table count strict faults =
+    Tells (unnamed_sections h.number_of_sections table) bytes faults.0
+    × Tells (sections_at strict (symbols_end h) count table) bytes faults.1
+AreTableFaults bytes (Err e) table count strict faults =
+    (faults.0 ≡ fault_of e) × (faults.1 ≡ fault_of e)
 
 -- Where the header and the sections are read, these are the sections, without their names from the
 -- string table.
@@ -120,27 +110,18 @@ is_replaced o parts stub = o.is_permissive && (is_ok parts.dos_header && is_err 
 abbrev pub partial_image : PeOptions → HeaderParts → Result DosStub ErrorOf
     → Result (Option RichHeader) ErrorOf → PeImage → PeImage
 partial_image o parts stub rich image =
-    record image {
-      options = o;
-      kind = 1;
+    record (zero_image o 1 image) {
       section_table = unwrap_or parts.section_table 0;
       section_count = given_count parts;
       dos_header = given_or zero_dos_header parts.dos_header;
       coff_header = given_or zero_coff_header parts.coff_header;
       has_optional_header = has_fields parts;
       is_dos_stub_replaced = is_replaced o parts stub;
-      moved_by = 0;
       optional_header = optional_record (known_optional parts);
       directories = (places_in (known_optional parts)).directories;
       dos_stub_size = stub_size stub (is_replaced o parts stub);
       rich_header = rich_of (option_map rich_value (given_or None rich));
-      reserved = 0;
     }
-
--- what a call fills
-pub record PartialRecords : Type 0 where
-  pub image : PeImage
-  pub faults : PeHeaderFaults
 
 -- the faults of these parts
 abbrev pub faults_of : HeaderParts → Result DosStub ErrorOf → Result (Option RichHeader) ErrorOf
@@ -159,7 +140,7 @@ faults_of parts stub rich table = record {
 
 -- The records hold the parts of the header of a file, and why others are refused. Walks by the
 -- record's places are refused for no section. The answer is that of a read of the image.
-pub record SaysPartial (o : PeOptions) (bytes : List ℕ) (new : PartialRecords)
+pub record SaysPartial (o : PeOptions) (bytes : List ℕ) (new : PeImage × PeHeaderFaults)
     (answer : Result Unit ErrorOf) : Type 0 where
   pub parts : HeaderParts
   pub stub : Result DosStub ErrorOf
@@ -170,10 +151,9 @@ pub record SaysPartial (o : PeOptions) (bytes : List ℕ) (new : PartialRecords)
   pub sections : AreOfLayout bytes parts
   pub stub_read : Reads stub_bytes stub file_stub bytes
   pub rich_read : Reads (option_map rich_value) rich rich_header bytes
-  pub table_read : AreTableFaults bytes parts (given_count parts)
-      (is_strict (header_options o).parse_mode) table
-  pub image : IsImage bytes new.image (partial_image o parts stub rich)
-  pub faults : new.faults ≡ faults_of parts stub rich table
-  pub led : (placed_sections (image_places new.image)).value bytes ≡ Some (given_sections parts)
-  pub answered : MatchResult answer (λ _. IsSome ((layout (header_options o)).value bytes))
-      (IsRefused (layout (header_options o)) bytes)
+  pub table_read : AreTableFaults bytes parts.coff_header (unwrap_or parts.section_table 0)
+      (given_count parts) (is_strict (header_options o).parse_mode) table
+  pub image : IsImage bytes new.0 (partial_image o parts stub rich)
+  pub faults : new.1 ≡ faults_of parts stub rich table
+  pub led : (placed_sections (image_places new.0)).value bytes ≡ Some (given_sections parts)
+  pub answered : Tests (layout (header_options o)) bytes answer

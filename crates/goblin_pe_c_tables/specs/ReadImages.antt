@@ -7,6 +7,7 @@ use Rattle.goblin_pe.specs.Whole.{layout, places_in, section_table_offset}
 use Rattle.goblin_pe_c_headers.specs.declared.image.PeImage.{PeImage}
 use Rattle.goblin_pe_c_headers.specs.declared.options.PeOptions.{PeOptions}
 use Rattle.goblin_pe_c_headers.specs.Headers.{optional_record}
+use Rattle.goblin_pe_c_headers.specs.ImageRecords.{zero_image}
 use Rattle.goblin_pe_c_headers.specs.Options.{header_options, longest_of}
 use Rattle.goblin_pe_c_headers.specs.Places.{image_places}
 use Rattle.goblin_pe_c_headers.specs.RichHeaders.{rich_of}
@@ -15,21 +16,17 @@ use Rattle.goblin_pe_c_tables.specs.Places.{LeadsBack, places_record}
 
 -- the record of a file with this header
 abbrev pub image_of : PeOptions → PeHeader → PeImage → PeImage
-image_of o h image = record image {
-  options = o;
-  kind = 1;
+image_of o h image = record (zero_image o 1 image) {
   section_table = section_table_offset h;
   section_count = h.coff_header.number_of_sections;
   dos_header = h.dos_header;
   coff_header = h.coff_header;
   has_optional_header = is_some h.optional_header;
   is_dos_stub_replaced = nat_lt h.dos_header.pe_pointer 64;
-  moved_by = 0;
   optional_header = optional_record h.optional_header;
   directories = (places_in h.optional_header).directories;
   dos_stub_size = length h.dos_stub;
   rich_header = rich_of h.rich_header;
-  reserved = 0;
 }
 
 -- The rows of an image's sections hold the sections that are read, with their whole names.

@@ -1,5 +1,5 @@
 -- The steps of a call.
-use Rattle.std.specs.Prelude.{ℕ, ◌-◌, ◌==◌, nat_le, if◌then◌else◌}
+use Rattle.std.specs.Prelude.{ℕ, ◌-◌, ◌==◌, ◌&&◌, nat_le, not, if◌then◌else◌}
 use Rattle.goblin_pe_c_headers.specs.Faults.{fault, no_fault, options_fault}
 use Rattle.goblin_pe_c_headers.specs.declared.fault.PeFault.{PeFault}
 use Rattle.goblin_pe_c_headers.specs.declared.image.PeImage.{PeImage}
@@ -16,8 +16,7 @@ section_steps image room = if room == 0 then 0 else image.section_count - 96
 -- that no steps are left after these, if there is room
 abbrev pub steps_fault : PeImage → ℕ → ℕ → PeFault
 steps_fault image room steps =
-    if room == 0 then no_fault
-    else if nat_le steps (section_steps image room) then fault 7 0 0 0
+    if not (room == 0) && nat_le steps (section_steps image room) then fault 7 0 0 0
     else no_fault
 
 -- why a walk that counts steps is refused before it begins

@@ -20,18 +20,17 @@ use Rattle.goblin_pe.specs.added.Layouts.{address_part}
 use Rattle.goblin_pe.specs.Modes.{in_mode}
 use Rattle.goblin_pe.specs.declared.added.damage.Damage.{Damage}
 use Rattle.goblin_pe.specs.declared.whole.Part.{Part}
-use Rattle.goblin_pe.specs.declared.whole.Part.TheVariants.{Absent, Refused}
 use Rattle.goblin_pe.specs.declared.whole.Part.TheVariants as part
 use Rattle.goblin_pe.specs.ExportRecords.{ExportTables, NumberedExport}
 use Rattle.goblin_pe.specs.Imports.{NumberedImport}
 use Rattle.goblin_pe.specs.Whole.{NumberedTables, TableParts, by_layout, collected_tables}
 use Rattle.goblin_pe.specs.Whole.{imports_in, IfRead, TablePlaces, export_part, layout, part_map}
 use Rattle.goblin_pe.specs.Whole.{places_in, relocation_part, tables_with}
-use Rattle.goblin_pe_c_tables.specs.Batches.{exports_in, import_table}
+use Rattle.goblin_pe_c_tables.specs.Batches.{exports_in, import_table, part_or}
 use Rattle.goblin_pe_c_tables.specs.Places.{map_at, places_record, places_from_c}
 use Rattle.goblin_pe_c_headers.specs.Places.{placed_sections, image_places}
 use Rattle.goblin_pe_c_tables.specs.declared.next.PeImportCursor.{PeImportCursor}
-use Rattle.goblin_pe_c_tables.specs.Damages.{IsDamagedBy, damage_map, damage_record}
+use Rattle.goblin_pe_c_tables.specs.Damages.{IsDamagedBy, damage_record, mode_map}
 use Rattle.goblin_pe_c_tables.specs.ReadImages.{image_of}
 use Rattle.goblin_pe_c_headers.specs.Onward.{unrefused}
 use Rattle.goblin_pe_c_headers.specs.declared.image.PeImage.{PeImage}
@@ -94,9 +93,7 @@ walked_in o = record {
 
 -- the items of a table, none where it was not read
 abbrev pub items_in : {A : Type 0} → Part (List A) → List A
-items_in Absent = []
-items_in (part.Read items) = items
-items_in Refused = []
+items_in p = part_or [] (λ items. items) p
 
 -- These tables are what the walks over the tables at these places give, each from its beginning on.
 pub record AreItems (tables : WalkedTables) (m : MapOfAddresses) (places : TablePlaces)
@@ -139,7 +136,7 @@ SoundIsWalkedAlike =
     → (layout (header_options image.options)).value image.bytes.now ≡ Some l
     → image ≡ image_of image.options l.0 image
     → IsSomeAnd ((placed_sections (image_places image)).value image.bytes.now) (λ found.
-    IsDamagedBy image (damage_map image found) (places_from_c (image_places image))
+    IsDamagedBy image (mode_map true image found) (places_from_c (image_places image))
     image.bytes.now d)
     → (damage_record d).is_sound ≡ true
     → let opts = options_at image.options (places_in l.0.optional_header).file_alignment in

@@ -1,15 +1,11 @@
 //! A table in batches: as many of its records as there is room for, from where a caller left off.
 
-ghost use Rattle.std.specs.Prelude.{◌≡◌, ◌≢◌, ◌-◌, IfErr, List, MatchResult, OnErr, ℕ, length};
-ghost use Rattle.goblin_base.specs.declared.error.ErrorOf.{ErrorOf};
+ghost use Rattle.std.specs.Prelude.{◌≡◌, ◌≢◌, ◌-◌, IfErr, MatchResult, OnErr, ℕ, length};
 ghost use Rattle.goblin_base.specs.Answers.{IsMemory};
-ghost use Rattle.goblin_pe.specs.Addresses.{MapOfAddresses};
 ghost use Rattle.goblin_pe.specs.added.Layouts.{layout_bytes, layout_map, layout_places};
-ghost use Rattle.goblin_pe.specs.Whole.{TablePlaces};
-ghost use Rattle.goblin_pe_c_tables.specs.Batches.{GivesRecords, WalksOver, at_room, batch_at};
+ghost use Rattle.goblin_pe_c_tables.specs.Batches.{SaysBatch, SaysRefused, WalksOver, at_room};
+ghost use Rattle.goblin_pe_c_tables.specs.Batches.{batch_at};
 ghost use Rattle.goblin_pe_c_tables.specs.Steps.{section_steps};
-ghost use Rattle.goblin_pe_c_headers.specs.Onward.{Batch};
-ghost use Rattle.goblin_pe_c_headers.specs.declared.batch.PeBatch.{PeBatch};
 
 use crate::places::layout_of;
 use crate::steps::section_steps;
@@ -27,12 +23,10 @@ pub trait Batched<'a>: Sized {
 
     /// What a batch holds, as its caller passes it and as it is filled, where the next one begins,
     /// how many steps there were and are left, and what is said of it.
-    ghost gives: { MapOfAddresses → TablePlaces → List ℕ → ℕ → ℕ → Batch Self.Position Self
-        → Batch Self.Position Self → PeBatch → Type 0 };
+    ghost gives: { ℕ → ℕ → SaysBatch Self.Position Self };
 
     /// Why a batch is refused.
-    ghost is_fault: { MapOfAddresses → TablePlaces → List ℕ → Batch Self.Position Self
-        → ErrorOf → Type 0 };
+    ghost is_fault: { SaysRefused Self.Position Self };
 
     /// Fills records with those of a file that come next, as far as there is room, leaves in
     /// `position` where the others come, and answers what it did. A table whose entries may give no
@@ -48,7 +42,7 @@ pub trait Batched<'a>: Sized {
             let bytes = layout_bytes layout.now in
             let old = batch_at position.old records.old in
             let new = batch_at position.new records.new in
-            MatchResult result (gives m places bytes steps.old steps.new old new)
+            MatchResult result (gives steps.old steps.new m places bytes old new)
             (λ e. is_fault m places bytes old e × (new ≡ old)) }
         ensures kept { OnErr result (steps.new ≡ steps.old) }
         ensures refused { IfErr result (λ e. ¬ IsMemory e) };
@@ -61,28 +55,6 @@ pub(crate) fn at_room(room: usize, count: usize, is_done: bool) -> PeBatch
 {
     let is_done = is_done && room != 0;
     PeBatch { count, is_done }
-}
-
-// Fills `records` with those of an image that come next, as many as there is room for, says in
-// `batch` what it did, and leaves in `position` where the next call goes on.
-fn give<'a, 'e, T: Batched<'a>>(
-    alloc: Global,
-    image: &PeImage<'a>,
-    position: &mut T::Position,
-    records: &mut [T],
-    steps: &mut usize,
-    batch: &mut PeBatch,
-) -> ResultOf<'e, ()>
-    ensures given { let old = batch_at position.old records.old in
-        let new = batch_at position.new records.new in
-        GivesRecords image.now (λ m places b. T.gives m places b steps.old steps.new) T.is_fault
-        old new batch.new result }
-    ensures kept { OnErr result (steps.new ≡ steps.old) }
-{
-    *batch = ended(0);
-    let layout = layout_of(alloc, image)?;
-    *batch = T::next(&layout, position, steps, records)?;
-    Ok(())
 }
 
 /// Fills `records` with those of an image that come next, as many as there is room for, says in
@@ -103,17 +75,21 @@ pub fn walk<'a, T: Batched<'a>>(
     ensures given { let old = batch_at position.old records.old in
         let new = batch_at position.new records.new in
         let allowed = steps.old - section_steps image.now (length records.old) in
-        WalksOver refusal result image.now (λ m places b. T.gives m places b allowed steps.new)
-        T.is_fault old new batch.new }
+        WalksOver refusal result image.now (T.gives allowed steps.new) T.is_fault old new batch.new }
     ensures kept { result.status ≢ 0 → steps.new ≡ steps.old }
 {
+    *batch = ended(0);
     if refusal.status != 0 {
-        *batch = ended(0);
         return refusal;
     }
+    let layout = match layout_of(alloc, image) {
+        Ok(layout) => layout,
+        Err(error) => return fault_of(&error),
+    };
     let mut left = steps.saturating_sub(section_steps(image, records.len()));
-    match give(alloc, image, position, records, &mut left, batch) {
-        Ok(()) => {
+    match T::next(&layout, position, &mut left, records) {
+        Ok(given) => {
+            *batch = given;
             *steps = left;
             no_fault()
         }

@@ -4,8 +4,8 @@ ghost use Rattle.std.specs.Prelude.{◌≡◌, ◌+◌, ◌<◌, ◌≤◌, ◌^
 ghost use Rattle.goblin_base.specs.Answers.{IsMemory};
 ghost use Rattle.goblin_pe_sect.specs.BaseRelocations.{block_value, relocation_bytes};
 ghost use Rattle.goblin_pe.specs.declared.whole.Part.TheVariants.{Read};
-ghost use Rattle.goblin_pe_c_tables.specs.Batches.{BlockBatch, GivesBlocksIn, GivesBlocks};
-ghost use Rattle.goblin_pe_c_tables.specs.Batches.{IsBlockCause, IsBlocksFault, block_for_c};
+ghost use Rattle.goblin_pe_c_tables.specs.Batches.{GivesBlocks, GivesBlocksIn, IsBlockCause};
+ghost use Rattle.goblin_pe_c_tables.specs.Batches.{IsBlocksFault, batch_at, block_for_c};
 ghost use Rattle.goblin_pe_c_tables.specs.Batches.{blocks_from};
 ghost use Rattle.goblin_pe_c_headers.specs.Onward.{IsRefusedNext};
 
@@ -60,8 +60,8 @@ fn fill_blocks<'a, 'e>(
 ) -> ResultOf<'e, PeBatch>
     requires { begin + length (relocation_bytes relocations.now) ≤ length bytes.now }
     ensures filled { let p = Read (relocation_bytes relocations.now) in
-        let old : BlockBatch = record { position = position.old; records = records.old } in
-        let new : BlockBatch = record { position = position.new; records = records.new } in
+        let old = batch_at position.old records.old in
+        let new = batch_at position.new records.new in
         MatchResult result (GivesBlocksIn begin p old new)
         (λ e. IsRefusedNext (blocks_from begin p position.old) × IsBlockCause position.old p e
         × (0 < length old.records) × (new ≡ old)) }
@@ -94,7 +94,7 @@ fn fill_blocks<'a, 'e>(
 impl<'a> Batched<'a> for PeRelocationBlock {
     type Position = usize;
 
-    ghost gives = { λ m places bytes before after. GivesBlocks m places bytes };
+    ghost gives = { λ before after. GivesBlocks };
 
     ghost is_fault = { IsBlocksFault };
 

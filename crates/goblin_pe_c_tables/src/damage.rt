@@ -4,11 +4,10 @@ ghost use Rattle.std.specs.Prelude.{◌≡◌, ◌≤◌, None, false, length};
 ghost use Rattle.goblin_pe_sect.specs.Addresses.{reads_strictly};
 ghost use Rattle.goblin_pe.specs.added.Damages.{IsDamage};
 ghost use Rattle.goblin_pe.specs.added.Layouts.{layout_bytes, layout_map, layout_places};
-ghost use Rattle.goblin_pe_c_tables.specs.Damages.{AnswersDamage, AnswersRunsOut, DamageSteps};
-ghost use Rattle.goblin_pe_c_tables.specs.Damages.{ImportSteps, IsDamagedBy, ReadsDamage};
-ghost use Rattle.goblin_pe_c_tables.specs.Damages.{all_imports, all_pointers, damage_record};
-ghost use Rattle.goblin_pe_c_tables.specs.Damages.{damage_refusal, image_names, is_sound};
-ghost use Rattle.goblin_pe_c_tables.specs.Damages.{part_fault, tables_fault};
+ghost use Rattle.goblin_pe_c_tables.specs.Damages.{AnswersDamage, DamageSteps, ImportSteps};
+ghost use Rattle.goblin_pe_c_tables.specs.Damages.{IsDamagedBy, ReadsDamage, all_imports};
+ghost use Rattle.goblin_pe_c_tables.specs.Damages.{all_pointers, damage_record, damage_refusal};
+ghost use Rattle.goblin_pe_c_tables.specs.Damages.{image_names, is_sound, part_fault};
 ghost use Rattle.goblin_pe_c_tables.specs.Walked.{SoundIsWalkedAlike};
 
 use crate::next::is_over;
@@ -20,7 +19,6 @@ use goblin_pe::options::ParseOptions;
 use goblin_pe::{Error, Part, Result};
 use goblin_pe_c_headers::fault::{PeFault, fault_of, no_fault, out_of_steps, refused_image};
 use goblin_pe_c_headers::image::PeImage;
-use goblin_pe_c_headers::options::PeOptions;
 use std::alloc::Global;
 
 /// What strict mode refuses of an image, part by part, and what the walks skip. A part that strict
@@ -65,14 +63,6 @@ fn part_fault(damage: &Option<Error>) -> PeFault
     }
 }
 
-// The first fault of the tables.
-fn tables_fault(damage: &Damage) -> PeFault
-    ensures { result ≡ tables_fault damage.now }
-{
-    let later = or_fault(part_fault(&damage.exports), part_fault(&damage.relocations));
-    or_fault(part_fault(&damage.imports), later)
-}
-
 // Whether nothing is damaged, and no library is left out.
 fn is_sound(damage: &Damage) -> bool
     ensures { result ≡ is_sound damage.now }
@@ -91,14 +81,17 @@ fn damage_record(damage: &Damage) -> PeDamage
 {
     let dos_stub = part_fault(&damage.dos_stub);
     let section_names = part_fault(&damage.section_names);
-    let first_fault = or_fault(dos_stub, or_fault(section_names, tables_fault(damage)));
+    let imports = part_fault(&damage.imports);
+    let exports = part_fault(&damage.exports);
+    let relocations = part_fault(&damage.relocations);
+    let tables = or_fault(imports, or_fault(exports, relocations));
     PeDamage {
-        first_fault,
+        first_fault: or_fault(dos_stub, or_fault(section_names, tables)),
         dos_stub,
         section_names,
-        imports: part_fault(&damage.imports),
-        exports: part_fault(&damage.exports),
-        relocations: part_fault(&damage.relocations),
+        imports,
+        exports,
+        relocations,
         skipped_libraries: damage.left_out.libraries,
         skipped_entries: damage.left_out.entries,
         unmapped_entries: damage.left_out.unmapped_entries,
@@ -200,30 +193,19 @@ fn steps_left(layout: &Layout, steps: usize) -> Option<usize>
     Some(left - pointers)
 }
 
-// Whether a strict walk over all imports runs out of these steps. It looks at the entries of a
-// library before it misses the address table, without which permissive mode skips the library.
-fn runs_out(alloc: Global, image: &PeImage, steps: usize) -> Result<bool>
-    ensures { AnswersRunsOut image.now steps result }
-{
-    let options = PeOptions {
-        is_permissive: false,
-        ..image.options
-    };
-    let layout = layout_of(alloc, &PeImage { options, ..*image })?;
-    Ok(steps_after(&layout, steps).is_none())
-}
-
 // The damage of an image within a number of steps, and how many are left; `None` if they run out.
+// A strict walk looks at the entries of a library before it misses the address table, without which
+// permissive mode skips the library.
 fn damage_within(alloc: Global, image: &PeImage, steps: usize) -> Result<Option<(PeDamage, usize)>>
     ensures { AnswersDamage image.now steps result }
 {
-    if runs_out(alloc, image, steps)? {
+    let mut options = image.options;
+    options.is_permissive = false;
+    let strict = layout_of(alloc, &PeImage { options, ..*image })?;
+    if steps_after(&strict, steps).is_none() {
         return Ok(None);
     }
-    let options = PeOptions {
-        is_permissive: true,
-        ..image.options
-    };
+    options.is_permissive = true;
     let layout = layout_of(alloc, &PeImage { options, ..*image })?;
     let Some(left) = steps_left(&layout, steps) else {
         return Ok(None);

@@ -1,22 +1,21 @@
 //! The records of what an export directory says, and of the export address table, in batches.
 
-ghost use Rattle.std.specs.Prelude.{◌≡◌, MatchResult, slice_get};
+ghost use Rattle.std.specs.Prelude.{◌≡◌, slice_get};
 ghost use Rattle.goblin_pe_sect.specs.Addresses.{map_of};
-ghost use Rattle.goblin_pe_export.specs.ExportRecords.{rva_of};
 ghost use Rattle.goblin_pe_export.specs.added.ExportWalks.{walked_tables};
-ghost use Rattle.goblin_pe.specs.added.Layouts.{layout_bytes, layout_map, layout_places};
-ghost use Rattle.goblin_pe_c_tables.specs.Batches.{AddressBatch, GivesAddresses, GivesBatch};
-ghost use Rattle.goblin_pe_c_tables.specs.Batches.{IsAddressBatchFault, IsAddressesFault};
-ghost use Rattle.goblin_pe_c_tables.specs.Batches.{SaysDirectory};
+ghost use Rattle.goblin_pe_c_tables.specs.Batches.{GivesAddresses, GivesBatch, SaysDirectory};
+ghost use Rattle.goblin_pe_c_tables.specs.Batches.{IsAddressBatchFault, IsAddressesFault, batch_at};
+ghost use Rattle.goblin_pe_c_tables.specs.Batches.{part_or};
+ghost use Rattle.goblin_pe.specs.Whole.{part_map};
 ghost use Rattle.goblin_pe_c_headers.specs.Onward.{GivesOnward};
 ghost use Rattle.goblin_pe_c_tables.specs.ExportDirectories.{address_for_c, addresses_for_c};
 ghost use Rattle.goblin_pe_c_tables.specs.ExportDirectories.{directory_for_c, directory_model};
-ghost use Rattle.goblin_pe_c_tables.specs.ExportDirectories.{is_forwarder, no_export_directory};
+ghost use Rattle.goblin_pe_c_tables.specs.ExportDirectories.{no_export_directory};
 
 use crate::batch::{Batched, at_room};
 use crate::places::layout_of;
 use goblin_pe::added::{Exports, Layout};
-use goblin_pe::export::{ExportAddressTableEntry, ExportDirectoryTable};
+use goblin_pe::export::{ExportAddressTableEntry as Entry, ExportDirectoryTable};
 use goblin_pe::{Part, Result, ResultOf};
 use goblin_pe_c_headers::batch::PeBatch;
 use goblin_pe_c_headers::image::PeImage;
@@ -58,25 +57,14 @@ pub struct PeExportDirectory<'a> {
     pub reserved: [u8; 6],
 }
 
-// The RVA of an entry, and whether it is forwarded.
-fn address_of(entry: ExportAddressTableEntry) -> (u32, bool)
-    ensures { result ≡ (rva_of entry, is_forwarder entry) }
-{
-    match entry {
-        ExportAddressTableEntry::ExportRVA(rva) => (rva, false),
-        ExportAddressTableEntry::ForwarderRVA(rva) => (rva, true),
-    }
-}
-
 // The record of an entry with an ordinal.
-fn address_record(
-    entry: ExportAddressTableEntry,
-    ordinal: usize,
-    address_map: &AddressMap,
-) -> PeExportAddress
+fn address_record(entry: Entry, ordinal: usize, address_map: &AddressMap) -> PeExportAddress
     ensures { result ≡ address_for_c (map_of address_map.now).addressing ordinal entry }
 {
-    let (rva, is_forwarder) = address_of(entry);
+    let (rva, is_forwarder) = match entry {
+        Entry::ExportRVA(rva) => (rva, false),
+        Entry::ForwarderRVA(rva) => (rva, true),
+    };
     let offset = address_map.offset_of(rva);
     PeExportAddress {
         ordinal,
@@ -88,10 +76,20 @@ fn address_record(
     }
 }
 
-// The record of an export directory.
-fn directory_record<'a>(bytes: &'a [u8], exports: &Exports<'a, '_>) -> PeExportDirectory<'a>
-    ensures { directory_model result ≡ directory_for_c (walked_tables exports.now) }
+// The record of an export directory; zeros if none is read.
+fn directory_record<'a>(bytes: &'a [u8], exports: &Part<Exports<'a, '_>>) -> PeExportDirectory<'a>
+    ensures { directory_model result
+        ≡ part_or no_export_directory directory_for_c (part_map walked_tables exports.now) }
 {
+    let Part::Read(exports) = exports else {
+        return PeExportDirectory {
+            name: &bytes[..0],
+            record: ExportDirectoryTable::default(),
+            has_name: false,
+            is_present: false,
+            reserved: [0; 6],
+        };
+    };
     let name = exports.name();
     PeExportDirectory {
         name: match name {
@@ -102,33 +100,6 @@ fn directory_record<'a>(bytes: &'a [u8], exports: &Exports<'a, '_>) -> PeExportD
         has_name: name.is_some(),
         is_present: true,
         reserved: [0; 6],
-    }
-}
-
-// The record if none is read.
-fn no_export_directory<'a>(bytes: &'a [u8]) -> PeExportDirectory<'a>
-    ensures { directory_model result ≡ no_export_directory }
-{
-    PeExportDirectory {
-        name: &bytes[..0],
-        record: ExportDirectoryTable::default(),
-        has_name: false,
-        is_present: false,
-        reserved: [0; 6],
-    }
-}
-
-// The record of what the export directory of a file says.
-fn directory_of<'a>(layout: &Layout<'a>) -> Result<PeExportDirectory<'a>>
-    ensures { let m = layout_map layout.now in
-        let places = layout_places layout.now in
-        let bytes = layout_bytes layout.now in
-        MatchResult result (λ d. SaysDirectory m places bytes (directory_model d))
-        (λ e. IsAddressesFault m places bytes e) }
-{
-    match layout.export_addresses()? {
-        Part::Read(exports) => Ok(directory_record(layout.bytes(), &exports)),
-        Part::Absent | Part::Refused => Ok(no_export_directory(layout.bytes())),
     }
 }
 
@@ -148,7 +119,7 @@ pub fn give_directory<'a>(
         (directory.new ≡ directory.old) result }
 {
     let layout = layout_of(alloc, image)?;
-    *directory = directory_of(&layout)?;
+    *directory = directory_record(image.bytes, &layout.export_addresses()?);
     Ok(())
 }
 
@@ -178,8 +149,8 @@ fn fill_addresses(
     records: &mut [PeExportAddress],
 ) -> PeBatch
     ensures { let m = map_of finder.now in
-        let old : AddressBatch = record { position = position.old; records = records.old } in
-        let new : AddressBatch = record { position = position.new; records = records.new } in
+        let old = batch_at position.old records.old in
+        let new = batch_at position.new records.new in
         GivesOnward (addresses_for_c m.addressing (walked_tables exports.now)) old new result }
 {
     if exports.address_count() <= *position {
@@ -196,7 +167,7 @@ fn fill_addresses(
 impl<'a> Batched<'a> for PeExportAddress {
     type Position = usize;
 
-    ghost gives = { λ m places bytes before after. GivesAddresses m places bytes };
+    ghost gives = { λ before after. GivesAddresses };
 
     ghost is_fault = { IsAddressBatchFault };
 

@@ -23,12 +23,6 @@ pub(crate) enum ForwarderKind {
     Ordinal = 2,
 }
 
-const _: () = prove!(
-    ForwarderKind::None as u32 == 0
-        && ForwarderKind::Name as u32 == 1
-        && ForwarderKind::Ordinal as u32 == 2
-);
-
 /// Where an export is forwarded to: the text `dll.name` or `dll.#ordinal`.
 #[repr(C)]
 #[derive(Copy, Clone)]

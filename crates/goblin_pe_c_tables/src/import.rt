@@ -1,11 +1,11 @@
 //! The records of imports.
 
-ghost use Rattle.std.specs.Prelude.{◌≡◌, ◌==◌, length, not};
+ghost use Rattle.std.specs.Prelude.{◌≡◌};
 ghost use Rattle.goblin_pe_import.specs.added.ImportWalks.{walked_value};
 ghost use Rattle.goblin_pe_c_tables.specs.Imports.{import_for_c, import_model};
 
 use goblin_pe::added::WalkedImport;
-use goblin_pe::import::SyntheticImportLookupTableEntry;
+use goblin_pe::import::SyntheticImportLookupTableEntry as Entry;
 
 /// An import.
 #[repr(C)]
@@ -34,29 +34,15 @@ pub struct PeImport<'a> {
     pub reserved: u32,
 }
 
-// The record of an import, with what its entry says: its name, the address of this, its ordinal or
-// its hint, and whether it is by name.
+/// The record of an import of these bytes.
 #[inline(always)]
-fn record_by<'a>(
-    import: &WalkedImport<'a>,
-    name: &'a [u8],
-    rva: u32,
-    hint_or_ordinal: u16,
-    is_by_name: bool,
-) -> PeImport<'a>
-    ensures { import_model result ≡ record {
-      name = name.now;
-      dll = import.now.dll.now;
-      iat_rva = import.now.slot_rva;
-      hint_name_rva = rva;
-      library_index = import.now.library;
-      thunk_index = import.now.slot;
-      hint_or_ordinal = hint_or_ordinal;
-      is_by_name = is_by_name;
-      has_name = not (length name.now == 0);
-      reserved = 0;
-    } }
+pub fn import_record<'a>(bytes: &'a [u8], import: &WalkedImport<'a>) -> PeImport<'a>
+    ensures { import_model result ≡ import_for_c (walked_value import.now) }
 {
+    let (name, rva, hint_or_ordinal, is_by_name) = match &import.entry {
+        Entry::OrdinalNumber(ordinal) => (&bytes[..0], 0, *ordinal, false),
+        Entry::HintNameTableRVA((rva, named)) => (named.name.as_bytes(), *rva, named.hint, true),
+    };
     PeImport {
         name,
         dll: import.dll.as_bytes(),
@@ -68,20 +54,5 @@ fn record_by<'a>(
         is_by_name,
         has_name: !name.is_empty(),
         reserved: 0,
-    }
-}
-
-/// The record of an import of these bytes.
-#[inline(always)]
-pub fn import_record<'a>(bytes: &'a [u8], import: &WalkedImport<'a>) -> PeImport<'a>
-    ensures { import_model result ≡ import_for_c (walked_value import.now) }
-{
-    match &import.entry {
-        SyntheticImportLookupTableEntry::OrdinalNumber(ordinal) => {
-            record_by(import, &bytes[..0], 0, *ordinal, false)
-        }
-        SyntheticImportLookupTableEntry::HintNameTableRVA((rva, named)) => {
-            record_by(import, named.name.as_bytes(), *rva, named.hint, true)
-        }
     }
 }

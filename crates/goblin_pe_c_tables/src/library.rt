@@ -7,9 +7,9 @@ ghost use Rattle.goblin_pe.specs.added.Layouts.{layout_bytes, layout_map, layout
 ghost use Rattle.goblin_pe.specs.added.Libraries.{AreLibrariesOver, IsLibrariesCause};
 ghost use Rattle.goblin_pe.specs.added.Libraries.{libraries_left, library_value};
 ghost use Rattle.goblin_pe.specs.Whole.{entry_format};
-ghost use Rattle.goblin_pe_c_tables.specs.Libraries.{GivesLibraries};
-ghost use Rattle.goblin_pe_c_tables.specs.Libraries.{IsLibrariesFault, LibraryBatch};
-ghost use Rattle.goblin_pe_c_tables.specs.Libraries.{library_for_c, library_table, library_model};
+ghost use Rattle.goblin_pe_c_tables.specs.Batches.{batch_at};
+ghost use Rattle.goblin_pe_c_tables.specs.Libraries.{GivesLibraries, IsLibrariesFault};
+ghost use Rattle.goblin_pe_c_tables.specs.Libraries.{library_for_c, library_model, library_table};
 ghost use Rattle.goblin_pe_c_headers.specs.Onward.{IsRefusedNext};
 
 use crate::batch::Batched;
@@ -87,8 +87,8 @@ fn fill_libraries<'a>(
         (library_table m (layout_places layout.now) (layout_bytes layout.now)).from position.old
         ≡ Some (libraries_left libraries) }
     ensures filled { let m = layout_map layout.now in
-        let old : LibraryBatch = record { position = position.old; records = records.old } in
-        let new : LibraryBatch = record { position = position.new; records = records.new } in
+        let old = batch_at position.old records.old in
+        let new = batch_at position.new records.new in
         MatchResult result
         (GivesLibraries m (layout_places layout.now) (layout_bytes layout.now) old new)
         (λ e. IsRefusedNext (libraries_left libraries.entry) × IsLibrariesCause libraries.entry e
@@ -117,29 +117,10 @@ fn fill_libraries<'a>(
     Ok(goes_on(count))
 }
 
-// Fills records with the libraries of a file that come next, and answers what it did.
-fn next_libraries<'a>(
-    layout: &Layout<'a>,
-    position: &mut PeImportCursor,
-    records: &mut [PeLibrary<'a>],
-) -> Result<PeBatch>
-    ensures filled { let m = layout_map layout.now in
-        let places = layout_places layout.now in
-        let bytes = layout_bytes layout.now in
-        let old : LibraryBatch = record { position = position.old; records = records.old } in
-        let new : LibraryBatch = record { position = position.new; records = records.new } in
-        MatchResult result (GivesLibraries m places bytes old new)
-        (λ e. IsLibrariesFault m places bytes old e × (new ≡ old)) }
-    ensures refused { IfErr result (λ e. ¬ IsMemory e) }
-{
-    let at = cursor_at(layout, position)?;
-    fill_libraries(layout, layout.libraries_at(at), position, records)
-}
-
 impl<'a> Batched<'a> for PeLibrary<'a> {
     type Position = PeImportCursor;
 
-    ghost gives = { λ m places bytes before after. GivesLibraries m places bytes };
+    ghost gives = { λ before after. GivesLibraries };
 
     ghost is_fault = { IsLibrariesFault };
 
@@ -149,6 +130,7 @@ impl<'a> Batched<'a> for PeLibrary<'a> {
         _steps: &mut usize,
         records: &mut [PeLibrary<'a>],
     ) -> ResultOf<'e, PeBatch> {
-        answer_for(next_libraries(layout, position, records))
+        let at = cursor_at(layout, position)?;
+        answer_for(fill_libraries(layout, layout.libraries_at(at), position, records))
     }
 }

@@ -1,7 +1,6 @@
 //! Imports and exports in batches.
 
-ghost use Rattle.std.specs.Prelude.{◌≡◌, ◌⊎◌, ◌+◌, ◌<◌, ◌≤◌, IfErr, MatchResult};
-ghost use Rattle.std.specs.Prelude.{◌-◌, length, max, min};
+ghost use Rattle.std.specs.Prelude.{◌≡◌, ◌⊎◌, ◌+◌, ◌<◌, ◌≤◌, IfErr, MatchResult, length, max, min};
 ghost use Rattle.goblin_base.specs.Answers.{IsMemory};
 ghost use Rattle.goblin_base.specs.Reading.{Reads};
 ghost use Rattle.goblin_pe.specs.added.LayoutCursors.{file_ahead};
@@ -9,20 +8,19 @@ ghost use Rattle.goblin_pe_export.specs.added.ExportWalks.{KeepsOver, exports_le
 ghost use Rattle.goblin_pe_export.specs.added.ExportWalks.{exports_position, pointer_count};
 ghost use Rattle.goblin_pe.specs.added.Layouts.{IsFileImportsCause, file_imports_left, layout_map};
 ghost use Rattle.goblin_pe.specs.added.Layouts.{layout_bytes, layout_places};
-ghost use Rattle.goblin_pe_c_tables.specs.Batches.{ExportWalkBatch, IsExportBatchFault, is_over};
-ghost use Rattle.goblin_pe_c_tables.specs.Batches.{Fills, GivesExports, GivesImports, cursor_for_c};
-ghost use Rattle.goblin_pe_c_tables.specs.Batches.{GivesInFile, GoesOn, ImportBatch, export_walk};
-ghost use Rattle.goblin_pe_c_tables.specs.Batches.{IsImportsFault, cursor_from_c, import_cursor};
+ghost use Rattle.goblin_pe_c_tables.specs.Batches.{Fills, GivesExports, GivesImports, GivesInFile};
+ghost use Rattle.goblin_pe_c_tables.specs.Batches.{GoesOn, IsExportBatchFault, IsImportsFault};
+ghost use Rattle.goblin_pe_c_tables.specs.Batches.{batch_at, cursor_for_c, cursor_from_c, is_over};
+ghost use Rattle.goblin_pe_c_tables.specs.Batches.{export_walk, import_cursor};
 ghost use Rattle.goblin_pe_c_tables.specs.Imports.{GivesHere};
 ghost use Rattle.goblin_pe_c_headers.specs.Onward.{FillsFrom, IsRefusedNext, unrefused};
 
 use crate::batch::{Batched, at_room};
 use crate::export::{PeExport, put_export, unforwarded_record};
 use crate::import::{PeImport, import_record};
-use goblin_base::answer_for;
 use goblin_pe::added::{Exports, FileImports, ImportCursor, Imports, Layout};
 use goblin_pe::import::Bitfield;
-use goblin_pe::{Part, Result, ResultOf};
+use goblin_pe::{Part, ResultOf};
 use goblin_pe_c_headers::batch::{PeBatch, goes_on};
 
 /// Where a walk over imports or libraries is. Zeros begin it. The other numbers are internal: copy
@@ -63,21 +61,13 @@ fn cursor_from_c(position: &PeImportCursor) -> ImportCursor
     let at = *position;
     ImportCursor {
         first_record: at.first_record,
-        next_record: if at.has_next {
-            Some(at.next_record)
-        } else {
-            None
-        },
+        next_record: at.has_next.then_some(at.next_record),
         library: at.library,
         name_rva: at.name_rva,
         rva: at.rva,
         table_offset: at.table_offset,
-        place: if at.has_place { Some(at.place) } else { None },
-        pending: if at.has_address_table {
-            Some(at.address_table)
-        } else {
-            None
-        },
+        place: at.has_place.then_some(at.place),
+        pending: at.has_address_table.then_some(at.address_table),
     }
 }
 
@@ -123,13 +113,13 @@ pub(crate) fn is_over(at: &ImportCursor) -> bool
     at.place.is_none() && at.next_record.is_none() && at.pending.is_none()
 }
 
-// Up to which record there is room from `first` on, as each is a step.
-fn end_within(room: usize, first: usize, left: usize) -> usize
-    ensures room { result ≤ room }
-    ensures steps { result ≤ first + left }
-    ensures least { first ≤ room → first ≤ result }
+// Where so many steps from `first` on end, or already before, at `end`.
+fn end_within(end: usize, first: usize, steps: usize) -> usize
+    ensures within { result ≤ end }
+    ensures limit { result ≤ first + steps }
+    ensures whole { (result ≡ end) ⊎ (result ≡ first + steps) }
 {
-    room.min(first.saturating_add(left))
+    end.min(first.saturating_add(steps))
 }
 
 // Fills records from `first` on with the ASCII imports that come next in the library of the walk,
@@ -205,9 +195,9 @@ fn fill_imports<'a, 'm, 'e>(
     ensures filled { let m = layout_map layout.now in
         let places = layout_places layout.now in
         let bytes = layout_bytes layout.now in
-        let old : ImportBatch = record { position = position.old; records = records.old } in
-        let new : ImportBatch = record { position = position.new; records = records.new } in
-        MatchResult result (λ r. GivesImports m places bytes steps r.1 old new r.0)
+        let old = batch_at position.old records.old in
+        let new = batch_at position.new records.new in
+        MatchResult result (λ r. GivesImports steps r.1 m places bytes old new r.0)
         (λ e. IsRefusedNext (file_imports_left imports.entry)
         × IsFileImportsCause imports.entry e × (0 < length old.records) × (new ≡ old)) }
     ensures refused { IfErr result (λ e. ¬ IsMemory e) }
@@ -238,27 +228,6 @@ fn fill_imports<'a, 'm, 'e>(
     Ok((goes_on(count), left))
 }
 
-// Fills records with the imports of a file that come next, and answers what it did and how many
-// steps are left.
-fn next_imports<'a>(
-    layout: &Layout<'a>,
-    position: &mut PeImportCursor,
-    steps: usize,
-    records: &mut [PeImport<'a>],
-) -> Result<(PeBatch, usize)>
-    ensures filled { let m = layout_map layout.now in
-        let places = layout_places layout.now in
-        let bytes = layout_bytes layout.now in
-        let old : ImportBatch = record { position = position.old; records = records.old } in
-        let new : ImportBatch = record { position = position.new; records = records.new } in
-        MatchResult result (λ r. GivesImports m places bytes steps r.1 old new r.0)
-        (λ e. IsImportsFault m places bytes old e × (new ≡ old)) }
-    ensures refused { IfErr result (λ e. ¬ IsMemory e) }
-{
-    let at = cursor_at(layout, position)?;
-    fill_imports(layout, layout.imports_at(at), position, steps, records)
-}
-
 impl<'a> Batched<'a> for PeImport<'a> {
     type Position = PeImportCursor;
 
@@ -272,26 +241,11 @@ impl<'a> Batched<'a> for PeImport<'a> {
         steps: &mut usize,
         records: &mut [PeImport<'a>],
     ) -> ResultOf<'e, PeBatch> {
-        let (batch, left) = answer_for(next_imports(layout, position, *steps, records))?;
+        let at = cursor_at(layout, position)?;
+        let (batch, left) = fill_imports(layout, layout.imports_at(at), position, *steps, records)?;
         *steps = left;
         Ok(batch)
     }
-}
-
-// The index of the name pointer before which a batch ends that begins at a position.
-fn end_after(pointers: usize, position: usize, steps: usize) -> usize
-    ensures within { result ≤ pointers }
-    ensures limit { result ≤ position + steps }
-    ensures whole { (result ≡ pointers) ⊎ (result ≡ position + steps) }
-{
-    pointers.min(position.saturating_add(steps))
-}
-
-// How many name pointers before `end` are still to be looked at.
-fn pointers_before(end: usize, exports: &Exports) -> usize
-    ensures { result ≡ end - exports_position exports.now }
-{
-    end.saturating_sub(exports.position())
 }
 
 // Fills records with the exports that come next of the name pointers before `end`, as far as there
@@ -303,9 +257,8 @@ fn fill_exports<'a, 'm>(
     end: usize,
     records: &mut [PeExport<'a>],
 ) -> usize
-    ensures filled { let old : ExportWalkBatch =
-        record { position = exports.old; records = records.old } in
-        let new : ExportWalkBatch = record { position = exports.new; records = records.new } in
+    ensures filled { let old = batch_at exports.old records.old in
+        let new = batch_at exports.new records.new in
         FillsFrom export_walk
         ((end < pointer_count exports.old) × (end ≤ exports_position exports.new))
         (unrefused (exports_left exports.old)) old new result }
@@ -322,7 +275,7 @@ fn fill_exports<'a, 'm>(
         };
         put_export(&mut records[count], bytes, &export);
         count += 1;
-        let left = pointers_before(end, exports);
+        let left = end.saturating_sub(Exports::position(exports));
         let stop = end_within(records.len(), count, left);
         'ascii: while count < stop {
             let Some(export) = exports.next_ascii() else {
@@ -354,7 +307,7 @@ impl<'a> Batched<'a> for PeExport<'a> {
                 let mut exports = exports.from_position(*position);
                 let pointers = exports.pointer_count();
                 let allowed = *steps;
-                let end = end_after(pointers, *position, allowed);
+                let end = end_within(pointers, *position, allowed);
                 let count = fill_exports(layout.bytes(), &mut exports, end, records);
                 let next = exports.position();
                 *steps = allowed.saturating_sub(next.saturating_sub(*position));

@@ -1,31 +1,30 @@
 //! The header of an image as far as it goes.
 
-ghost use Rattle.std.specs.Prelude.{◌≡◌, IsSome, MatchResult};
-ghost use Rattle.goblin_base.specs.Reading.{IsRefused, Reads};
+ghost use Rattle.std.specs.Prelude.{◌≡◌, unwrap_or};
+ghost use Rattle.goblin_base.specs.Reading.{Reads};
 ghost use Rattle.goblin_pe_sect.specs.Options.{is_strict};
 ghost use Rattle.goblin_pe_sect.specs.SectionTable.{recorded_sections};
+ghost use Rattle.goblin_pe_head.specs.CoffHeader.{symbols_end};
+ghost use Rattle.goblin_pe_head.specs.CoffReadings.{sections_at};
 ghost use Rattle.goblin_pe_head.specs.DosStub.{stub_bytes};
-ghost use Rattle.goblin_pe_head.specs.PeHeader.{zero_dos_header};
+ghost use Rattle.goblin_pe_head.specs.added.HeaderParts.{unnamed_sections};
 ghost use Rattle.goblin_pe.specs.Whole.{layout as file_layout};
 ghost use Rattle.goblin_pe_c_headers.specs.Faults.{status_of};
-ghost use Rattle.goblin_pe_c_headers.specs.Headers.{optional_record};
-ghost use Rattle.goblin_pe_c_headers.specs.ImageRecords.{IsImage, zero_coff_header};
-ghost use Rattle.goblin_pe_c_tables.specs.PartialImages.{AreTableFaults, PartialRecords};
-ghost use Rattle.goblin_pe_c_tables.specs.PartialImages.{SaysPartial, file_stub, faults_of};
-ghost use Rattle.goblin_pe_c_tables.specs.PartialImages.{given_count, given_or, has_fields};
-ghost use Rattle.goblin_pe_c_tables.specs.PartialImages.{is_replaced, names_there, sections_of};
-ghost use Rattle.goblin_pe_c_tables.specs.PartialImages.{partial_image, stub_size, table_there};
+ghost use Rattle.goblin_pe_c_headers.specs.ImageRecords.{IsImage};
+ghost use Rattle.goblin_pe_c_tables.specs.PartialImages.{AreTableFaults, SaysPartial, Tests};
+ghost use Rattle.goblin_pe_c_tables.specs.PartialImages.{faults_of, file_stub, given_count};
+ghost use Rattle.goblin_pe_c_tables.specs.PartialImages.{given_or, has_fields, is_replaced};
+ghost use Rattle.goblin_pe_c_tables.specs.PartialImages.{partial_image, sections_of, stub_size};
 
 use crate::read::rich_record;
 use goblin_pe::added::{HeaderParts, section_records_of, unnamed_records};
 use goblin_pe::header::{CoffHeader, DosHeader, DosStub, Header, RichHeader};
-use goblin_pe::optional_header::OptionalHeader;
 use goblin_pe::options::ParseOptions;
 use goblin_pe::section_table::SectionRecords;
 use goblin_pe::{Places, Result};
 use goblin_pe_c_headers::fault::{PeFault, fault_of, no_fault};
-use goblin_pe_c_headers::headers::{PeOptionalHeader, fill_optional};
-use goblin_pe_c_headers::image::PeImage;
+use goblin_pe_c_headers::headers::fill_optional;
+use goblin_pe_c_headers::image::{PeImage, zero_image};
 use goblin_pe_c_headers::kind::Kind;
 use goblin_pe_c_headers::options::{PeOptions, header_options};
 
@@ -75,25 +74,10 @@ fn given_or_zeros<T: Copy>(header: &Result<T>, zeros: T) -> T
     }
 }
 
-// A DOS header of zeros.
-fn zero_dos_header() -> DosHeader
-    ensures { result ≡ zero_dos_header }
-{
-    DosHeader::default()
-}
-
-// A COFF header of zeros.
-fn zero_coff_header() -> CoffHeader
-    ensures { result ≡ zero_coff_header }
-{
-    CoffHeader::default()
-}
-
 // Whether these options read the header and the sections.
 #[tactic(auto, unfolding(goblin_pe::specs::Whole::layout))]
 fn test_layout(bytes: &[u8], opts: &ParseOptions) -> Result<()>
-    ensures { MatchResult result (λ _. IsSome ((file_layout opts.now).value bytes.now))
-        (IsRefused (file_layout opts.now) bytes.now) }
+    ensures { Tests (file_layout opts.now) bytes.now result }
 {
     let header = Header::parse_with_opts(bytes, opts)?;
     section_records_of(bytes, &header, opts)?;
@@ -134,7 +118,7 @@ fn records_or_none<'a>(records: &Result<SectionRecords<'a>>) -> SectionRecords<'
 fn count_given(parts: &HeaderParts) -> u16
     ensures { result ≡ given_count parts.now }
 {
-    let count = given_or_zeros(&parts.coff_header, zero_coff_header()).number_of_sections;
+    let count = given_or_zeros(&parts.coff_header, CoffHeader::default()).number_of_sections;
     let there = records_or_none(&parts.section_records).len();
     if there < count as usize {
         there as u16
@@ -145,9 +129,7 @@ fn count_given(parts: &HeaderParts) -> u16
 
 // Tests that the file has all section headers that its COFF header counts.
 fn test_table(bytes: &[u8], coff_header: CoffHeader, section_table: usize) -> Result<()>
-    ensures { MatchResult result
-        (λ _. IsSome ((table_there coff_header section_table).value bytes.now))
-        (IsRefused (table_there coff_header section_table) bytes.now) }
+    ensures { Tests (unnamed_sections coff_header.number_of_sections section_table) bytes.now result }
 {
     unnamed_records(bytes, section_table, coff_header.number_of_sections)?;
     Ok(())
@@ -161,9 +143,9 @@ fn test_names(
     count: u16,
     opts: &ParseOptions,
 ) -> Result<()>
-    ensures { let names =
-        names_there (is_strict opts.now.parse_mode) coff_header section_table count in
-        MatchResult result (λ _. IsSome (names.value bytes.now)) (IsRefused names bytes.now) }
+    ensures { let table = symbols_end coff_header in
+        Tests (sections_at (is_strict opts.now.parse_mode) table count section_table) bytes.now
+        result }
 {
     let header = CoffHeader {
         number_of_sections: count,
@@ -180,7 +162,9 @@ fn table_faults(
     count: u16,
     opts: &ParseOptions,
 ) -> (PeFault, PeFault)
-    ensures { AreTableFaults bytes.now parts.now count (is_strict opts.now.parse_mode) result }
+    ensures { let table = unwrap_or parts.now.section_table 0 in
+        AreTableFaults bytes.now parts.now.coff_header table count (is_strict opts.now.parse_mode)
+        result }
 {
     let Ok(coff_header) = parts.coff_header else {
         let fault = fault_in(&parts.coff_header);
@@ -203,15 +187,6 @@ fn has_fields(parts: &HeaderParts) -> bool
     )
 }
 
-// The fields of an optional header, or zeros.
-fn optional_record(header: &Option<OptionalHeader>) -> PeOptionalHeader
-    ensures { result ≡ optional_record header.now }
-{
-    let mut fields = PeOptionalHeader::default();
-    fill_optional(&mut fields, header);
-    fields
-}
-
 // Whether permissive mode replaces the stub: the DOS header is there, and the stub is not.
 fn is_replaced(options: &PeOptions, parts: &HeaderParts, stub: &Result<DosStub>) -> bool
     ensures { result ≡ is_replaced options.now parts.now stub.now }
@@ -232,22 +207,21 @@ fn partial_image<'a>(
     let optional = parts.optional_header();
     let directories = Places::of(&optional).directories;
     let is_replaced = is_replaced(options, parts, stub);
+    let zeros = zero_image(bytes, options, Kind::Image as u32);
+    let mut optional_header = zeros.optional_header;
+    fill_optional(&mut optional_header, &optional);
     PeImage {
-        bytes,
-        options: *options,
-        kind: Kind::Image as u32,
         section_table: parts.section_table.unwrap_or(0),
         section_count: count_given(parts) as usize,
-        dos_header: given_or_zeros(&parts.dos_header, zero_dos_header()),
-        coff_header: given_or_zeros(&parts.coff_header, zero_coff_header()),
+        dos_header: given_or_zeros(&parts.dos_header, zeros.dos_header),
+        coff_header: given_or_zeros(&parts.coff_header, zeros.coff_header),
         has_optional_header: has_fields(parts),
         is_dos_stub_replaced: is_replaced,
-        moved_by: 0,
-        optional_header: optional_record(&optional),
+        optional_header,
         directories,
         dos_stub_size: stub_size(stub, is_replaced),
         rich_header: rich_record(&given_or_zeros(rich, None)),
-        reserved: 0,
+        ..zeros
     }
 }
 
@@ -284,8 +258,7 @@ pub fn read<'a>(
     image: &mut PeImage<'a>,
     faults: &mut PeHeaderFaults,
 ) -> Result<()>
-    ensures { let new : PartialRecords = record { image = image.new; faults = faults.new } in
-        SaysPartial options.now bytes.now new result }
+    ensures { SaysPartial options.now bytes.now (image.new, faults.new) result }
 {
     let opts = header_options(options);
     let parts = HeaderParts::read(bytes);

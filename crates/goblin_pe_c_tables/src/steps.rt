@@ -33,9 +33,7 @@ pub(crate) fn section_steps(image: &PeImage, room: usize) -> usize
 pub(crate) fn steps_fault(image: &PeImage, room: usize, steps: usize) -> PeFault
     ensures { result ≡ steps_fault image.now room steps }
 {
-    if room == 0 {
-        no_fault()
-    } else if steps <= section_steps(image, room) {
+    if room != 0 && steps <= section_steps(image, room) {
         out_of_steps()
     } else {
         no_fault()

@@ -44,8 +44,7 @@ pub extern "C" fn goblin_pe_raw_next_exports<'a>(
         let room = length exports.old in
         let allowed = steps.old - section_steps image.now room in
         WalksOver (walk_fault image.now room steps.old) result image.now
-        (λ m places b. GivesExports m places b allowed steps.new) IsExportBatchFault old new
-        batch.new }
+        (GivesExports allowed steps.new) IsExportBatchFault old new batch.new }
     ensures kept { result.status ≢ 0 → steps.new ≡ steps.old }
 {
     let refusal = refused_walk(image, exports.len(), *steps);

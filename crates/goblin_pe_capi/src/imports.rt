@@ -40,7 +40,7 @@ pub extern "C" fn goblin_pe_raw_next_imports<'a>(
         let room = length imports.old in
         let allowed = steps.old - section_steps image.now room in
         WalksOver (walk_fault image.now room steps.old) result image.now
-        (λ m places b. GivesImports m places b allowed steps.new) IsImportsFault old new batch.new }
+        (GivesImports allowed steps.new) IsImportsFault old new batch.new }
     ensures kept { result.status ≢ 0 → steps.new ≡ steps.old }
 {
     let refusal = refused_walk(image, imports.len(), *steps);

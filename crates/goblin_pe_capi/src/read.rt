@@ -10,7 +10,7 @@ ghost use Rattle.goblin_pe_c_headers.specs.Kinds.{kind_number, kind_of};
 ghost use Rattle.goblin_pe_c_headers.specs.Objects.{ObjectRowsAreRead, object_file, object_image};
 ghost use Rattle.goblin_pe_c_headers.specs.Options.{header_options};
 ghost use Rattle.goblin_pe_c_headers.specs.TeImages.{SaysTe, TeRecords, TeRowsAreRead, te_file};
-ghost use Rattle.goblin_pe_c_tables.specs.PartialImages.{PartialRecords, SaysPartial};
+ghost use Rattle.goblin_pe_c_tables.specs.PartialImages.{SaysPartial};
 ghost use Rattle.goblin_pe_c_tables.specs.ReadImages.{ImageLeadsBack, ImageRowsAreRead, image_of};
 
 use goblin_pe::header::TeHeader;
@@ -67,10 +67,9 @@ pub extern "C" fn goblin_pe_raw_read_partial_image<'a>(
     image: &mut PeImage<'a>,
     faults: &mut PeHeaderFaults,
 ) -> PeFault
-    ensures { let old : PartialRecords = record { image = image.old; faults = faults.old } in
-        let new : PartialRecords = record { image = image.new; faults = faults.new } in
-        ReportedAfter (options_fault options.now) result (new ≡ old)
-        (SaysPartial options.now bytes.now new) }
+    ensures { ReportedAfter (options_fault options.now) result
+        ((image.new ≡ image.old) × (faults.new ≡ faults.old))
+        (SaysPartial options.now bytes.now (image.new, faults.new)) }
 {
     let refusal = refused_call(options);
     if refusal.status != 0 {

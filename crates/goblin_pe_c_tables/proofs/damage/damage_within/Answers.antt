@@ -6,7 +6,7 @@ use Rattle.goblin_pe_c_headers.specs.Places.{image_places, placed_sections}
 use Rattle.goblin_pe_c_headers.specs.declared.image.PeImage.{PeImage}
 use Rattle.goblin_pe_c_headers.specs.declared.options.PeOptions.{PeOptions}
 use Rattle.goblin_pe_c_headers.proofs.Named.{some-weaker}
-use Rattle.goblin_pe_c_tables.specs.Damages.{AnswersDamage, DamageSteps, IsDamagedBy, damage_map, damage_record}
+use Rattle.goblin_pe_c_tables.specs.Damages.{AnswersDamage, DamageSteps, IsDamagedBy, damage_record, mode_map}
 use Rattle.goblin_pe_c_tables.specs.Places.{places_from_c}
 use Rattle.goblin_pe_c_tables.proofs.InPlaces.{IsAt, given-at}
 use Rattle.goblin_pe_c_tables.proofs.damage.damage_within.Goals as goal
@@ -14,7 +14,7 @@ use Rattle.goblin_pe_c_tables.proofs.damage.damage_within.Goals as goal
 -- too few steps for the walks of permissive mode
 too-few : (image : PeImage) (steps : ℕ)
     → IsSomeAnd ((placed_sections (image_places image)).value image.bytes.now)
-    (λ sections. DamageSteps (damage_map image sections) (places_from_c (image_places image)) image.bytes.now steps None)
+    (λ sections. DamageSteps (mode_map true image sections) (places_from_c (image_places image)) image.bytes.now steps None)
     → AnswersDamage image steps (Ok None)
 too-few image steps few = some-weaker ((placed_sections (image_places image)).value image.bytes.now) _ _ (λ sections h. inl h) few
 

@@ -1,7 +1,7 @@
 use Rattle.std.proofs.Common.{arith, rules, subst}
 use Rattle.goblin_pe_sect.specs.declared.address_map.AddressMap.{AddressMap}
 use Rattle.goblin_pe_c_headers.specs.Onward.{GivesOnward}
-use Rattle.goblin_pe_c_tables.specs.Batches.{AddressBatch}
+use Rattle.goblin_pe_c_tables.specs.Batches.{batch_at}
 use Rattle.goblin_pe_export.specs.added.ExportWalks.{walked_tables}
 use Rattle.goblin_pe_sect.specs.Addresses.{map_of}
 use Rattle.goblin_pe_c_tables.specs.ExportDirectories.{addresses_for_c}
@@ -18,8 +18,8 @@ returns-then-address_count-position c =
 pub returns : goal.returns
 returns c =
     let tables = walked_tables c.args.exports.now in
-    let old : AddressBatch = record { position = c.args.position.now; records = c.args.records.now } in
-    let new : AddressBatch = record { position = c.fill_onward.new.position; records = c.fill_onward.new.records } in
+    let old = batch_at c.args.position.now c.args.records.now in
+    let new = batch_at c.fill_onward.new.position c.fill_onward.new.records in
     let own = (map_of c.address_map-address_map.result.now).addressing in
     let count = c.address_count.ensures.value in
     let fits = c.address_count.type_inv in

@@ -17,16 +17,16 @@ returns-in_err-layout c =
       refl,
     )
 
-pub returns-in_err-directory : goal.returns-in_err-directory
-returns-in_err-directory c =
+pub returns-in_err-export_addresses : goal.returns-in_err-export_addresses
+returns-in_err-export_addresses c =
     let image = c.args.image.now in
     let l = c.in_ok-layout.layout in
     let made = c.in_ok-layout.ensures in
     let at : IsAt image.options (image_places image) image.bytes.now l = record { read = made.value; over = made.over; placed = made.placed; mapped = made.mapped } in
-    let e = err_from_is_err_and c.from_residual-in_err-directory.result c.from_residual-in_err-directory.ensures.1 in
+    let e = err_from_is_err_and c.from_residual-in_err-export_addresses.result c.from_residual-in_err-export_addresses.ensures.1 in
     rw (e.1, e.2) (
-      λ other. fault-at image.options (image_places image) image.bytes.now l at (λ m places b e. IsAddressesFault m places b e) _ c.in_err-directory.ensures,
-      λ memory. absurd ((address_part (layout_map l).opts (layout_map l).addressing (layout_places l)).not_memory (layout_bytes l) _ c.in_err-directory.ensures.1 memory),
+      λ other. fault-at image.options (image_places image) image.bytes.now l at (λ m places b e. IsAddressesFault m places b e) _ c.in_err-export_addresses.ensures.value,
+      λ memory. absurd ((address_part (layout_map l).opts (layout_map l).addressing (layout_places l)).not_memory (layout_bytes l) _ c.in_err-export_addresses.ensures.value.1 memory),
       refl,
     )
 
@@ -36,4 +36,5 @@ returns c =
     let l = c.in_ok-layout.layout in
     let made = c.in_ok-layout.ensures in
     let at : IsAt image.options (image_places image) image.bytes.now l = record { read = made.value; over = made.over; placed = made.placed; mapped = made.mapped } in
-    given-at image.options (image_places image) image.bytes.now l at (λ m places b. SaysDirectory m places b (directory_model c.in_ok-directory.field-0)) c.in_ok-directory.ensures
+    given-at image.options (image_places image) image.bytes.now l at (λ m places b. SaysDirectory m places b (directory_model c.directory_record.result))
+    (rw c.in_ok-export_addresses.ensures.value c.directory_record.ensures)

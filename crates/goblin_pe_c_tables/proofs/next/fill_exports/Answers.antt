@@ -15,8 +15,8 @@ ascii-init c =
     let r = c.put_export.new.place in (
       exports-more before c.in-Some.export c.next_before.new.self r given.0.0 given.0.1 (omega (arith, given.1)) (omega (arith, given.2)) c.exports-test.true c.put_export.ensures,
       omega arith,
-      λ below. omega (arith, below, c.end_within-stop.ensures.steps, c.pointers_before-left.ensures),
-      c.end_within-stop.ensures.room,
+      λ below. omega (arith, below, c.end_within-stop.ensures.limit, c.saturating_sub-left.ensures, c.position.ensures),
+      c.end_within-stop.ensures.within,
     )
 
 pub ascii-preserved : goal.ascii-preserved

@@ -4,7 +4,7 @@ use Rattle.goblin_pe_sect.specs.declared.relocation.base.RelocationData.{Relocat
 use Rattle.goblin_pe.specs.added.Layouts.{layout_map, layout_places}
 use Rattle.goblin_pe.specs.Whole.{part_map}
 use Rattle.goblin_pe.specs.declared.whole.Part.{Part}
-use Rattle.goblin_pe_c_tables.specs.Batches.{BlockBatch}
+use Rattle.goblin_pe_c_tables.specs.Batches.{batch_at}
 use Rattle.goblin_pe_c_tables.proofs.BlockBatches.{blocks-answered, blocks-none, directory-inside, directory-read}
 use Rattle.goblin_pe_c_tables.proofs.block.PeRelocationBlockBatched.next.Goals as goal
 
@@ -26,8 +26,8 @@ returns-in-Absent c =
 pub returns-in-Read-clause-filled : goal.returns-in-Read-clause-filled
 returns-in-Read-clause-filled c =
     let l = c.args.layout.now in
-    let old : BlockBatch = record { position = c.args.position.now; records = c.args.records.now } in
+    let old = batch_at c.args.position.now c.args.records.now in
     let begin = c.unwrap_or-begin.ensures ∙ ap (λ (o : Option ℕ). unwrap_or o 0) c.placed_relocations-offset.ensures.offset in
     let read = directory-read (layout_map l) (layout_places l) l.bytes.now _ _ c.in_ok-relocations.was c.placed_relocations-offset.ensures.value in
-    let new : BlockBatch = record { position = c.fill_blocks.new.position; records = c.fill_blocks.new.records } in
+    let new = batch_at c.fill_blocks.new.position c.fill_blocks.new.records in
     blocks-answered (layout_map l) (layout_places l) l.bytes.now c.in_ok-relocations.field-0 read old new c.in-Read.relocations c.in-Read.is c.unwrap_or-begin.result begin c.fill_blocks.result c.fill_blocks.ensures.filled

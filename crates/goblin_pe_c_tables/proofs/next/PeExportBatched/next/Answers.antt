@@ -10,14 +10,14 @@ returns-in-Read-clause-filled c =
     let walk = c.in_ok-exports.ensures.walk in
     let from = c.from_position-exports.ensures in
     let filled = c.fill_exports-count.ensures in
-    let end = c.end_after-end.ensures in
+    let end = c.end_within-end.ensures in
     let pointers = c.pointer_count-pointers.ensures in
     rw (c.at_room.ensures, c.position-next.ensures)
     (exports-given (layout_map l) (layout_places l) l.bytes.now c.in_ok-exports.field-0 c.in_ok-exports.ensures.value c.args.position.now c.args.records.now
-    c.in-Read.exports c.in-Read.is walk c.args.steps.now c.from_position-exports.result c.fill_exports-count.new.exports c.end_after-end.result c.fill_exports-count.result
+    c.in-Read.exports c.in-Read.is walk c.args.steps.now c.from_position-exports.result c.fill_exports-count.new.exports c.end_within-end.result c.fill_exports-count.result
     c.saturating_sub-in-Read.result _ c.fill_exports-count.new.records
     from.left from.over from.at end.limit (omega (arith, end.within, pointers))
-    (subst (λ (n : ℕ). (c.end_after-end.result ≡ n) ⊎ (c.end_after-end.result ≡ c.args.position.now + c.args.steps.now)) pointers end.whole)
+    (subst (λ (n : ℕ). (c.end_within-end.result ≡ n) ⊎ (c.end_within-end.result ≡ c.args.position.now + c.args.steps.now)) pointers end.whole)
     filled.filled filled.over filled.further filled.within filled.through (omega arith) (ap (λ (n : ℕ). nat_le n (exports_position c.fill_exports-count.new.exports)) pointers))
 
 pub returns-in-Absent : goal.returns-in-Absent

@@ -1,11 +1,11 @@
 use Rattle.goblin_pe.specs.added.Layouts.{layout_map, layout_places}
 use Rattle.goblin_pe.specs.added.Libraries.{IsCursorEndCause, IsLibrariesCause, cursor_libraries, libraries_left}
 use Rattle.goblin_pe.specs.Whole.{entry_format}
-use Rattle.goblin_pe_c_tables.specs.Batches.{import_cursor}
-use Rattle.goblin_pe_c_tables.specs.Libraries.{GivesLibraries, LibraryBatch}
+use Rattle.goblin_pe_c_tables.specs.Batches.{import_cursor, batch_at}
+use Rattle.goblin_pe_c_tables.specs.Libraries.{GivesLibraries}
 use Rattle.goblin_pe_c_headers.proofs.Batches.{answered}
 use Rattle.goblin_pe_c_tables.proofs.LibraryBatches.{begins-at, end-cause, left-at}
-use Rattle.goblin_pe_c_tables.proofs.library.next_libraries.Goals as goal
+use Rattle.goblin_pe_c_tables.proofs.library.PeLibraryBatched.next.Goals as goal
 
 pub fill_libraries-requires-clause-left : goal.fill_libraries-requires-clause-left
 fill_libraries-requires-clause-left c =
@@ -17,11 +17,12 @@ returns-clause-filled c =
     let l = c.args.layout.now in
     let m = layout_map l in
     let places = layout_places l in
-    let old : LibraryBatch = record { position = c.args.position.now; records = c.args.records.now } in
-    let new : LibraryBatch = record { position = c.fill_libraries.new.position; records = c.fill_libraries.new.records } in
+    let old = batch_at c.args.position.now c.args.records.now in
+    let new = batch_at c.fill_libraries.new.position c.fill_libraries.new.records in
     let walk = c.libraries_at.result in
     let over = c.libraries_at.ensures.0 in
     let there = c.libraries_at.ensures.1 in
-    answered (import_cursor m places old.position) l.bytes.now (cursor_libraries m (entry_format places.magic) l.bytes.now) (IsCursorEndCause m l.bytes.now) old new (GivesLibraries m places l.bytes.now old new)
+    rw c.answer_for.ensures
+    (answered (import_cursor m places old.position) l.bytes.now (cursor_libraries m (entry_format places.magic) l.bytes.now) (IsCursorEndCause m l.bytes.now) old new (GivesLibraries m places l.bytes.now old new)
     c.in_ok-at.at (libraries_left walk) (IsLibrariesCause walk) c.in_ok-at.ensures (left-at m places l.bytes.now walk c.in_ok-at.at over there)
-    (end-cause m (entry_format places.magic) l.bytes.now walk c.in_ok-at.at over there) c.fill_libraries.result c.fill_libraries.ensures.filled
+    (end-cause m (entry_format places.magic) l.bytes.now walk c.in_ok-at.at over there) c.fill_libraries.result c.fill_libraries.ensures.filled)
