@@ -1,5 +1,5 @@
 -- The walk over all imports: from one library to the next.
-use Rattle.std.proofs.Common.{◌≡◌, ◌≤◌, ◌+◌, ◌-◌, ◌*◌, ℕ, Bool, true, false, not, ◌&&◌, List, [], ◌∷◌, ◌++◌, length, Option, Some, None, refl, sym, ap, subst, ◌∙◌, append_assoc, lit≤, arith, Err, IfOk, MatchResult, Ok, Result, option_map, unwrap_or}
+use Rattle.std.proofs.Common.{◌≡◌, ◌≤◌, ◌+◌, ◌-◌, ◌*◌, ℕ, Bool, true, false, not, ◌&&◌, List, [], ◌∷◌, ◌++◌, length, IsSomeAnd, Option, Some, None, refl, sym, ap, ◌∙◌, append_assoc, lit≤, arith, Err, IfOk, MatchResult, Ok, Result, option_map, unwrap_or}
 use Rattle.std.proofs.Common.{mul-le-mul_left, is_some}
 use Rattle.goblin_base.specs.declared.error.ErrorOf.{ErrorOf}
 use Rattle.goblin_base.specs.Answers.{FirstFault, all_of}
@@ -16,7 +16,7 @@ use Rattle.goblin_pe_import.specs.ImportEntries.{EntryValue, LookupEntry}
 use Rattle.goblin_pe_import.specs.ImportReadings.{import_record_at, kept_library, library_of, lookup_if}
 use Rattle.goblin_pe_import.specs.ImportRecords.{address_table_rva, import_slots, is_last_record, lookup_offset}
 use Rattle.goblin_pe_import.specs.Imports.{NumberedImport}
-use Rattle.goblin_pe_import.specs.added.ImportWalks.{GivesLibrary, IsNextCause, IsLaterCause, IsNamedCause, IsRecordCause, IsRecordsCause, addresses_of, bound_next, imports_next, is_skipped, one_if, walk_bound, imports_from_record}
+use Rattle.goblin_pe_import.specs.added.ImportWalks.{GivesLibrary, IsLaterCause, IsNamedCause, IsRecordsCause, addresses_of, bound_next, imports_next, is_skipped, one_if, walk_bound, imports_from_record}
 use Rattle.goblin_pe_import.specs.added.ImportWalks.{imports_of_entries, record_index, later_items, library_items, library_name, pending_table}
 use Rattle.goblin_pe_import.specs.KeptEntries.{IsEntriesCause, KeptValue, entries_from, slots_bound}
 use Rattle.goblin_pe_import.proofs.LookupWalk.{in_two, lookup_walked}
@@ -108,33 +108,35 @@ module _ (format : Format EntryValue) (addressing : Addressing) (bytes : List �
   in_table None fault = fault
   in_table (Some place) fault = fault
 
-  in_slot : (entry : Option ImportDirectoryEntry)
-      → IsRecordCause true format addressing bytes p entry e
-      → IsSlotCause true is_last_record (λ r. (kept_library true format addressing r).value bytes)
-      ((import_record_at p).IsCause bytes)
-      (λ r. (kept_library true format addressing r).IsCause bytes)
-      (IsRecordsCause true format addressing bytes (p + 20)) entry e
+  pub cause-missing : (strict : Bool) → strict ≡ true → reads import_slots bytes p ≡ None
+      → (import_record_at p).IsCause bytes e → IsRecordsCause strict format addressing bytes p e
+  cause-missing true is r fault =
+      cause-slot import_slots (kept_library true format addressing) bytes true import_record_at
+      (lit≤ tt) p None r e (refl, fault)
+  cause-missing false is r fault = absurd cc
+
+  pub cause-given : (strict : Bool) → strict ≡ true → (v : ImportDirectoryEntry)
+      → reads import_slots bytes p ≡ Some v → is_last_record v ≡ false
+      → FirstFault ((library_name strict addressing v).value bytes)
+      ((library_name strict addressing v).IsCause bytes)
+      (λ _. IsNamedCause strict format addressing bytes v
+      (IsRecordsCause strict format addressing bytes (p + 20))) e
+      → IsRecordsCause strict format addressing bytes p e
   unfolding library_of
-  in_slot None fault = (refl, fault)
-  in_slot (Some r) fault =
-      let at = lookup_offset addressing r in
-      let name = library_name true addressing r in
+  cause-given true is v r going fault =
+      let at = lookup_offset addressing v in
+      let name = library_name true addressing v in
       let table = lookup_if true format addressing at in
-      let addresses = addresses_of format addressing r in (
-        fault.0,
+      let addresses = addresses_of format addressing v in
+      cause-slot import_slots (kept_library true format addressing) bytes true import_record_at
+      (lit≤ tt) p (Some v) r e (
+        going,
         library-fault _ (in_two_if at) (name.value bytes) _ (table.value bytes) (addresses.value bytes)
             (name.IsCause bytes) (IsEntriesCause true format addressing bytes at) (table.IsCause bytes)
             (addresses.IsCause bytes) (IsRecordsCause true format addressing bytes (p + 20)) e
-            (listed true format addressing bytes wide at) (in_table at) fault.1,
+            (listed true format addressing bytes wide at) (in_table at) fault,
       )
-
-  pub cause-record : (strict : Bool) → strict ≡ true
-      → IsRecordCause strict format addressing bytes p ((import_record_at p).value bytes) e
-      → IsRecordsCause strict format addressing bytes p e
-  cause-record true is fault =
-      cause-slot import_slots (kept_library true format addressing) bytes true import_record_at
-      (lit≤ tt) p _ refl e (in_slot _ fault)
-  cause-record false is fault = absurd cc
+  cause-given false is v r going fault = absurd cc
 
 -- ---- the library of a record
 
@@ -257,10 +259,10 @@ module _ (strict : Bool) (format : Format EntryValue) (addressing : Addressing)
         (λ e. ⊥) (λ e. ⊥)).0
 
     later-cause : (next : Option ℕ) (e : ErrorOf)
-        → IsNextCause strict format addressing bytes next e → IsCause next e
+        → IsSomeAnd next (λ p. IsRecordsCause strict format addressing bytes p e) → IsCause next e
     later-cause next e fault =
         (is_there (table.value bytes) tested [] (table.IsCause bytes)
-        (IsNextCause strict format addressing bytes next)).1 e fault
+        (λ e. IsSomeAnd next (λ p. IsRecordsCause strict format addressing bytes p e))).1 e fault
 
     -- there are no more records
     pub later-none : (first : ℕ) → later first None ≡ []
@@ -285,17 +287,6 @@ module _ (strict : Bool) (format : Format EntryValue) (addressing : Addressing)
           ∙ imports-slot strict format addressing bytes first p
           ∙ ap (from_record strict format addressing bytes first p) r
 
-      by_cause : (entry : Option ImportDirectoryEntry) → reads import_slots bytes p ≡ entry
-          → strict ≡ true → (e : ErrorOf)
-          → IsRecordCause strict format addressing bytes p entry e
-          → IsCause (Some p) e
-      by_cause entry r is e fault =
-          later-cause (Some p) e
-          (cause-record format addressing bytes p wide e strict is
-          (subst
-          (λ (entry : Option ImportDirectoryEntry).
-          IsRecordCause strict format addressing bytes p entry e) (sym r) fault))
-
       pub later-end : (entry : Option ImportDirectoryEntry) → reads import_slots bytes p ≡ entry
           → ends_table is_last_record entry ≡ true → (strict && not (is_some entry)) ≡ false
           → later first (Some p) ≡ []
@@ -308,8 +299,16 @@ module _ (strict : Bool) (format : Format EntryValue) (addressing : Addressing)
       later-missing e r m fault = (
         by_record None r ∙ slot-missing strict is_last_record of_library from_next m,
         m,
-        by_cause None r m e fault,
+        later-cause (Some p) e (cause-missing format addressing bytes p wide e strict m r fault),
       )
+
+      by_cause : (v : ImportDirectoryEntry) → reads import_slots bytes p ≡ Some v
+          → is_last_record v ≡ false → strict ≡ true → (e : ErrorOf)
+          → IsWholeCause strict format addressing bytes first index v (p + 20) e
+          → IsCause (Some p) e
+      by_cause v r going is e fault =
+          later-cause (Some p) e
+          (cause-given format addressing bytes p wide e strict is v r going fault)
 
       -- what a walk goes on with, by what is made of the record's library
       pub later-given : (v : ImportDirectoryEntry) → reads import_slots bytes p ≡ Some v
@@ -329,7 +328,7 @@ module _ (strict : Bool) (format : Format EntryValue) (addressing : Addressing)
         h.0 ∙ sym (by_record (Some v) r ∙ slot-going strict is_last_record of_library from_next v going),
         λ e fault.
             let both = h.1 e fault in
-            (both.0, by_cause (Some v) r both.0 e (going, both.1)),
+            (both.0, by_cause v r going both.0 e both.1),
       )
       later-given v r going left IsLeft (Err e) h = (
         by_record (Some v) r ∙ slot-going strict is_last_record of_library from_next v going
@@ -337,7 +336,7 @@ module _ (strict : Bool) (format : Format EntryValue) (addressing : Addressing)
             (λ (xs : List (Option NumberedImport)). until_refused
             (xs ++ imports_from_record strict format addressing bytes first (p + 20)))
             h.0,
-        (h.1, by_cause (Some v) r h.1 e (going, rw (h.2.0) (h.2.1))),
+        (h.1, by_cause v r going h.1 e (rw (h.2.0) (h.2.1))),
       )
 
 -- ---- how many may come
