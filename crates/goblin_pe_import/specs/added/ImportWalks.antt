@@ -2,6 +2,7 @@
 use Rattle.std.specs.Prelude.{◌≡◌, ◌+◌, ◌-◌, ◌*◌, ◌/◌, not, [], ◌∷◌, map, Some, None, Ok, Err}
 use Rattle.std.specs.Prelude.{ℕ, if◌then◌else◌, length, option_map, unwrap_or, is_none, MatchOption}
 use Rattle.std.specs.Prelude.{Bool, ◌&&◌, true, List, ◌++◌, Option, Result, IfErr, IfSome, IsSomeAnd}
+use Rattle.std.specs.Option.{option_len}
 use Rattle.goblin_base.specs.declared.error.ErrorOf.{ErrorOf}
 use Rattle.goblin_base.specs.Answers.{FirstFault, IsMemory, all_of}
 use Rattle.goblin_base.specs.Reading.{Reading}
@@ -190,30 +191,36 @@ abbrev pub IsNamed : Walk → Type 0
 IsNamed w =
     IsNamedAt w.at.place w.dll.now (cursor_dll (map_of w.finder).addressing w.bytes.now w.at)
 
--- how many refusals may come of an address table that is still to be tested
-abbrev pub one_if : Option ℕ → ℕ
-one_if None = 0
-one_if (Some rva) = 1
-
+-- an upper bound of the number of imports to come
 abbrev pub walk_bound : Walk → ℕ
 walk_bound w =
-    slots_bound w.bytes.now w.at.place + one_if w.at.pending
+    slots_bound w.bytes.now w.at.place + option_len w.at.pending
     + bound_next w.bytes.now w.at.next_record
 
--- Once the entries of a library have come, the walk goes on at t. `later` is what is to come then,
--- and `IsCause` says which cause is true if a refusal is among it.
-abbrev pub GivesLibrary : {S A : Type 0} → (S → List (Option A)) → (S → ErrorOf → Type 0)
-    → List (Option A) → (ErrorOf → Type 0) → Option (Result S ErrorOf) → Type 0
-GivesLibrary left IsLeftCause later IsCause None = until_refused later ≡ []
-GivesLibrary left IsLeftCause later IsCause (Some (Ok t)) =
-    (left t ≡ until_refused later) × ((e : ErrorOf) → IsLeftCause t e → IsCause e)
-GivesLibrary left IsLeftCause later IsCause (Some (Err e)) =
-    (until_refused later ≡ None ∷ []) × IsCause e
+-- what comes once the entries of the library that a walk is in have come
+abbrev pub later_left : Format EntryValue → Walk → List (Option NumberedImport)
+later_left format w =
+    let m = map_of w.finder in
+    until_refused
+    (later_items (reads_strictly m) format m.addressing w.bytes.now w.at.pending w.at.first_record
+    w.at.next_record)
 
--- the answer of a call, with the walk as the call has left it
-abbrev pub walk_answer : {X : Type 0} → Walk → Result X ErrorOf → Result Walk ErrorOf
-walk_answer t (Ok x) = Ok t
-walk_answer t (Err e) = Err e
+abbrev pub IsLaterLeftCause : Format EntryValue → Walk → ErrorOf → Type 0
+IsLaterLeftCause format w e =
+    let m = map_of w.finder in
+    (reads_strictly m ≡ true)
+    × IsLaterCause (reads_strictly m) format m.addressing w.bytes.now w.at.pending w.at.next_record e
+
+-- Once the entries of the library that the walk s is in have come, a call moves the walk to the
+-- next library, where it is t. Or there is no other library, or the call is refused.
+abbrev pub GivesLibrary : {X : Type 0} → Format EntryValue → Walk → Option (Result X ErrorOf) → Walk
+    → Type 0
+GivesLibrary format s None t = later_left format s ≡ []
+GivesLibrary format s (Some (Ok x)) t =
+    (walk_left format t ≡ later_left format s)
+    × ((e : ErrorOf) → IsWalkCause format t e → IsLaterLeftCause format s e)
+GivesLibrary format s (Some (Err e)) t =
+    (later_left format s ≡ None ∷ []) × IsLaterLeftCause format s e
 
 -- ---- the walk as callers see it
 
