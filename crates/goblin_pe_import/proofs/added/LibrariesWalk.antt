@@ -10,7 +10,7 @@ use Rattle.goblin_pe_sect.specs.Addresses.{reads_strictly}
 use Rattle.goblin_pe_import.specs.ImportReadings.{import_record_at}
 use Rattle.goblin_pe_import.specs.ImportRecords.{import_slots, is_last_record}
 use Rattle.goblin_pe_import.specs.added.ImportWalks.{no_imports}
-use Rattle.goblin_pe_import.specs.added.Libraries.{IsLibrariesCause, LibraryValue, at_record, directory_records, libraries_bytes, libraries_format, libraries_left, libraries_map, libraries_next, library_at, library_value}
+use Rattle.goblin_pe_import.specs.added.Libraries.{AreLibrariesOver, IsLibrariesCause, LibraryValue, at_record, directory_records, libraries_bytes, libraries_format, libraries_left, libraries_map, libraries_next, library_at, library_value}
 use Rattle.goblin_pe_import.specs.declared.import.directory_entry.ImportDirectoryEntry.{ImportDirectoryEntry}
 use Rattle.goblin_pe_import.specs.declared.added.library_walk.Libraries.{Libraries}
 use Rattle.goblin_pe_import.specs.declared.added.library_walk.WalkedLibrary.{WalkedLibrary}
@@ -19,6 +19,10 @@ use Rattle.goblin_pe_import.specs.declared.added.library_walk.WalkedLibrary.{Wal
 pub ended-left : (s : Libraries) → s.at ≡ no_imports → libraries_left s ≡ []
 unfolding libraries_next
 ended-left s is = rw is refl
+
+pub same-over : (t : Libraries)
+    → AreLibrariesOver (libraries_map t) (libraries_format t) (libraries_bytes t) t
+same-over t = record { bytes_are = refl; map_is = refl; format_is = refl }
 
 module _ (s : Libraries) where
   abbrev strict : Bool

@@ -35,7 +35,7 @@ ghost use Rattle.goblin_pe_import.specs.added.StepsAhead.{walk_ahead};
 ghost use Rattle.goblin_pe_import.specs.Steps.{GivesWithin, HasNotGrown};
 
 use crate::added::ascii::ascii_kept;
-use crate::added::tested::{test_address_table, test_numbers};
+use crate::added::tested::{leads_to_none, test_numbers};
 use crate::import::bitfield::Bitfield;
 use crate::import::directory_entry::{ImportDirectoryEntry, SIZEOF_IMPORT_DIRECTORY_ENTRY};
 use crate::import::kept::{KeptEntry, next_kept_within};
@@ -211,8 +211,7 @@ fn is_skipped<'a, T: Bitfield<'a>>(
     if address_map.reads_strictly() {
         return (false, 0);
     }
-    let (tested, count) = test_address_table::<T>(bytes, entry, address_map);
-    (tested.is_err(), count)
+    leads_to_none::<T>(bytes, entry, address_map)
 }
 
 // The import of an entry that the lookup table at a cursor keeps. The library is `dll`.
