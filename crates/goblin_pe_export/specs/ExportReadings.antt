@@ -1,16 +1,16 @@
 -- The exports: the export directory, its tables, and a row for each name pointer, over a map of
 -- addresses to file offsets.
 use Rattle.std.specs.Prelude.{ℕ, ◌==◌, if◌then◌else◌, nat_le, List, [], length, map, slice_get}
-use Rattle.std.specs.Prelude.{Option, Some, None}
+use Rattle.std.specs.Prelude.{Option, Some, None, codes}
 use Rattle.goblin_base.specs.declared.endian.Endian.TheVariants.{Little}
 use Rattle.goblin_base.specs.declared.error.CauseOf.TheVariants.{ExportTable}
+use Rattle.goblin_base.specs.Answers.{IsTooShort}
 use Rattle.goblin_base.specs.Reading.{Reading}
+use Rattle.goblin_base.proofs.Picks.{by_cases-not_memory}
 use Rattle.readings.specs.Reads.{◌>>=◌, ◌beside◌, because, counted_if, each_kept, file_length}
 use Rattle.readings.specs.Reads.{given, mapped, needs_by, or_none, record_at, taken}
 use Rattle.goblin_pe_sect.specs.declared.data_directories.DataDirectory.{DataDirectory}
-use Rattle.goblin_pe_export.specs.ExportRecords.{ExportRow, ExportTables, IsAddressCountFault}
-use Rattle.goblin_pe_export.specs.ExportRecords.{IsCountFault, address_count-not_memory, addresses}
-use Rattle.goblin_pe_export.specs.ExportRecords.{NumberedExport, count-not_memory, counts_fit}
+use Rattle.goblin_pe_export.specs.ExportRecords.{ExportRow, ExportTables, addresses, NumberedExport}
 use Rattle.goblin_pe_export.specs.ExportRecords.{name_pointers, numbered_by, read_rows}
 use Rattle.goblin_pe_export.specs.ExportRecords.{export_directory_record, ordinals, rva_of}
 use Rattle.goblin_pe_export.specs.Forwarders.{Forwarder, forwarder_within}
@@ -26,12 +26,23 @@ use Rattle.goblin_pe_export.specs.declared.export.tables.ExportDirectoryTable.{E
 abbrev pub export_record_at : ℕ → Reading ExportDirectoryTable
 export_record_at p = because (ExportTable p) (record_at 40 (export_directory_record Little) p)
 
--- a record, if it counts no more entries of any table than the file has bytes
-abbrev pub fitting : ExportDirectoryTable → Reading ExportDirectoryTable
-fitting t =
+-- a record with this count of entries of a kind, if that is no more than the file has bytes
+abbrev pub counted : ℕ → List ℕ → ExportDirectoryTable → Reading ExportDirectoryTable
+counted count kind t =
     file_length
     >>= (λ n.
-    needs_by (if counts_fit n t then Some t else None) (IsCountFault n t) (count-not_memory n t))
+    needs_by (if nat_le count n then Some t else None) (IsTooShort count kind n)
+    (by_cases-not_memory (IsTooShort count kind n) (λ m h. h)))
+
+-- a record, if it counts no more addresses than the file has bytes
+abbrev pub fitting_addresses : ExportDirectoryTable → Reading ExportDirectoryTable
+fitting_addresses t = counted t.address_table_entries (codes "address table entries") t
+
+-- the same if it counts no more name pointers than that, either
+abbrev pub fitting : ExportDirectoryTable → Reading ExportDirectoryTable
+fitting t =
+    mapped (λ both. both.1)
+    (counted t.number_of_name_pointers (codes "name pointers") t beside fitting_addresses t)
 
 -- What a record leads to: the library's name, and the three tables, each empty if its address has
 -- no offset. The record's number of name pointers also counts the ordinals, even if fewer name
@@ -58,16 +69,6 @@ unfoldable pub export_data : Addressing → DataDirectory → Reading ExportTabl
 export_data addressing d =
     at_address addressing.offset d.virtual_address
     (λ p. export_record_at p >>= λ t. fitting t >>= export_tables addressing d)
-
--- ---- the address table alone
-
--- a record, if it counts no more addresses than the file has bytes
-abbrev pub fitting_addresses : ExportDirectoryTable → Reading ExportDirectoryTable
-fitting_addresses t =
-    file_length
-    >>= (λ n.
-    needs_by (if nat_le t.address_table_entries n then Some t else None) (IsAddressCountFault n t)
-    (address_count-not_memory n t))
 
 -- ---- the exports
 

@@ -1,18 +1,14 @@
 -- The record of an export directory, the entries of its tables, and the exports that these list, as
 -- values.
-use Rattle.std.specs.Prelude.{◌≤◌, ◌⊎◌, ℕ, ◌+◌, ◌&&◌, nat_le, nat_lt, if◌then◌else◌, Bool}
-use Rattle.std.specs.Prelude.{List, [], ◌∷◌, codes, None, Option, Some, Vec}
-use Rattle.std.specs.Prelude.{◌*◌, ◌-◌, ◌/◌, length, map, min, option_map, slice_range}
+use Rattle.std.specs.Prelude.{ℕ, ◌+◌, ◌&&◌, nat_le, nat_lt, if◌then◌else◌, Bool, List, [], ◌∷◌}
+use Rattle.std.specs.Prelude.{None, Option, Some, Vec, ◌*◌, ◌-◌, ◌/◌, length, map, min, option_map}
+use Rattle.std.specs.Prelude.{slice_range}
 use Rattle.std.specs.Global.{Global}
-use Rattle.std.proofs.Common.{inl, inr}
 use Rattle.goblin_base.specs.declared.endian.Endian.{Endian}
 use Rattle.goblin_base.specs.declared.endian.Endian.TheVariants.{Little}
-use Rattle.goblin_base.specs.declared.error.ErrorOf.{ErrorOf}
-use Rattle.goblin_base.specs.Answers.{IsMemory, IsTooShort}
 use Rattle.goblin_base.specs.Bytes.{number}
 use Rattle.goblin_base.specs.Record.{FieldValue, uint}
 use Rattle.goblin_base.specs.Tables.{Format, records_in}
-use Rattle.goblin_base.proofs.Picks.{by_cases-not_memory}
 use Rattle.goblin_pe_sect.specs.declared.data_directories.DataDirectory.{DataDirectory}
 use Rattle.goblin_pe_export.specs.declared.export.entries.TablesInFile.{TablesInFile}
 use Rattle.goblin_pe_export.specs.declared.export.tables.ExportAddressTableEntry.{ExportAddressTableEntry}
@@ -48,37 +44,6 @@ export_directory_fields t =
     ∷ uint 4 t.address_table_entries ∷ uint 4 t.number_of_name_pointers
     ∷ uint 4 t.export_address_table_rva ∷ uint 4 t.name_pointer_rva ∷ uint 4 t.ordinal_table_rva
     ∷ []
-
--- the record counts at most n name pointers and at most n addresses
-abbrev pub counts_fit : ℕ → ExportDirectoryTable → Bool
-counts_fit n t = nat_le t.number_of_name_pointers n && nat_le t.address_table_entries n
-
--- the cause is that the record counts more than n addresses
-abbrev pub IsAddressCountFault : ℕ → ExportDirectoryTable → ErrorOf → Type 0
-IsAddressCountFault n t e = IsTooShort t.address_table_entries (codes "address table entries") n e
-
--- Which cause is true of a record that counts more than n entries: there are too many name
--- pointers, or, if these fit, too many addresses.
-abbrev pub IsCountFault : ℕ → ExportDirectoryTable → ErrorOf → Type 0
-IsCountFault n t e =
-    IsTooShort t.number_of_name_pointers (codes "name pointers") n e
-    ⊎ ((t.number_of_name_pointers ≤ n) × IsAddressCountFault n t e)
-
-too_short-not_memory : (count : ℕ) (kind : List ℕ) (n : ℕ) (e : ErrorOf)
-    → IsTooShort count kind n e → ¬ IsMemory e
-too_short-not_memory count kind n = by_cases-not_memory (IsTooShort count kind n) (λ m h. h)
-
-pub address_count-not_memory : (n : ℕ) (t : ExportDirectoryTable) (e : ErrorOf)
-    → IsAddressCountFault n t e → ¬ IsMemory e
-address_count-not_memory n t =
-    too_short-not_memory t.address_table_entries (codes "address table entries") n
-
-pub count-not_memory : (n : ℕ) (t : ExportDirectoryTable) (e : ErrorOf)
-    → IsCountFault n t e → ¬ IsMemory e
-count-not_memory n t e (inl h) =
-    too_short-not_memory t.number_of_name_pointers (codes "name pointers") n e h
-count-not_memory n t e (inr h) =
-    address_count-not_memory n t e h.1
 
 -- ---- the tables
 

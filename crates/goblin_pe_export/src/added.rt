@@ -2,7 +2,6 @@
 //! on.
 
 mod addresses;
-mod ascii;
 mod export_marks;
 mod exports;
 

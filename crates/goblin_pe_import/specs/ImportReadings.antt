@@ -19,64 +19,6 @@ use Rattle.goblin_pe_import.specs.declared.import.directory_entry.ImportDirector
 abbrev pub import_record_at : ℕ → Reading ImportDirectoryEntry
 import_record_at p = because (ImportRecordEnd p) (record_at 20 (import_record Little) p)
 
--- the lookup table at an offset with its slots, or nothing if there is no offset
-unfoldable pub lookup_if : Bool → Format EntryValue → Addressing → Option ℕ
-    → Reading (Option (List LookupEntry) × List ℕ)
-lookup_if strict format addressing None = given (None, [])
-lookup_if strict format addressing (Some o) =
-    mapped (λ both. (Some both.0, both.1)) (lookup_with_slots strict format addressing o)
-
--- What a descriptor leads to: its name, its lookup table and its address table. Permissive mode
--- uses the empty name if there is none.
-unfoldable pub library_of : Bool → Format EntryValue → Addressing → ImportDirectoryEntry
-    → Reading ImportedLibrary
-library_of strict format addressing r =
-    mapped (λ parts. record {
-      import_directory_entry = r;
-      name = parts.0.0;
-      import_lookup_table = parts.0.1.0;
-      import_lookup_slots = parts.0.1.1;
-      import_address_table = parts.1;
-    })
-    (or_else strict [] (name_at addressing r.name_rva)
-    beside lookup_if strict format addressing (lookup_offset addressing r)
-    beside at_address addressing.offset (address_table_rva r) (address_table format))
-
--- the library of a descriptor; permissive mode leaves out a descriptor that leads to none
-abbrev pub kept_library : Bool → Format EntryValue → Addressing → ImportDirectoryEntry
-    → Reading (List ImportedLibrary)
-kept_library strict format addressing r = or_left_out strict (library_of strict format addressing r)
-
--- The libraries of the directory at an offset: those of the descriptors before the first that is
--- not in the file or ends the directory. Strict mode needs that descriptor, and a library for each
--- of those before it. Permissive mode leaves out descriptors that lead to none.
-abbrev pub libraries_at : Bool → Format EntryValue → Addressing → ℕ
-    → Reading (List ImportedLibrary)
-libraries_at strict format addressing o =
-    table import_slots strict import_record_at (kept_library strict format addressing) o
-
--- libraries with the indexes of their descriptors, one index for each
-abbrev pub at_index : ℕ → ImportedLibrary → NumberedLibrary
-at_index index library = record { index = index; library = library }
-
-unfoldable pub numbered : List ImportedLibrary → List ℕ → List NumberedLibrary
-numbered [] indexes = []
-numbered (library ∷ libraries) [] = []
-numbered (library ∷ libraries) (index ∷ indexes) =
-    at_index index library ∷ numbered libraries indexes
-
--- the libraries of the directory at an offset, and the indexes of the descriptors that are kept
-abbrev pub indexed_at : Bool → Format EntryValue → Addressing → ℕ
-    → Reading (List ImportedLibrary × List ℕ)
-indexed_at strict format addressing o =
-    table_with_slots import_slots strict import_record_at (kept_library strict format addressing) o
-
--- the same libraries, each with the index of its descriptor
-unfoldable pub numbered_libraries_at : Bool → Format EntryValue → Addressing → ℕ
-    → Reading (List NumberedLibrary)
-numbered_libraries_at strict format addressing o =
-    mapped (λ both. numbered both.0 both.1) (indexed_at strict format addressing o)
-
 -- The offset of the first descriptor of a directory that has this offset, if it has one. Permissive
 -- mode treats a directory at the front of the file as empty.
 abbrev pub first_record_offset : Bool → Option ℕ → Option ℕ
@@ -99,14 +41,60 @@ abbrev pub read_directory : {A : Type 0} → Bool → Addressing → (ℕ → Re
 read_directory strict addressing read rva =
     or_else strict 0 (offset_at addressing.offset rva) >>= read_past_front strict read
 
--- the libraries of the directory at an address
-unfoldable pub import_data : Bool → Format EntryValue → Addressing → ℕ
-    → Reading (List ImportedLibrary)
-import_data strict format addressing rva =
-    read_directory strict addressing (libraries_at strict format addressing) rva
+-- libraries with the indexes of their descriptors, one index for each
+abbrev pub at_index : ℕ → ImportedLibrary → NumberedLibrary
+at_index index library = record { index = index; library = library }
 
--- the same libraries, each with the index of its descriptor
-unfoldable pub numbered_data : Bool → Format EntryValue → Addressing → ℕ
-    → Reading (List NumberedLibrary)
-numbered_data strict format addressing rva =
-    read_directory strict addressing (numbered_libraries_at strict format addressing) rva
+unfoldable pub numbered : List ImportedLibrary → List ℕ → List NumberedLibrary
+numbered [] indexes = []
+numbered (library ∷ libraries) [] = []
+numbered (library ∷ libraries) (index ∷ indexes) =
+    at_index index library ∷ numbered libraries indexes
+
+module _ (strict : Bool) (format : Format EntryValue) (addressing : Addressing) where
+  -- the lookup table at an offset with its slots, or nothing if there is no offset
+  unfoldable pub lookup_if : Option ℕ → Reading (Option (List LookupEntry) × List ℕ)
+  lookup_if None = given (None, [])
+  lookup_if (Some o) =
+      mapped (λ both. (Some both.0, both.1)) (lookup_with_slots strict format addressing o)
+
+  -- What a descriptor leads to: its name, its lookup table and its address table. Permissive mode
+  -- uses the empty name if there is none.
+  unfoldable pub library_of : ImportDirectoryEntry → Reading ImportedLibrary
+  library_of r =
+      mapped (λ parts. record {
+        import_directory_entry = r;
+        name = parts.0.0;
+        import_lookup_table = parts.0.1.0;
+        import_lookup_slots = parts.0.1.1;
+        import_address_table = parts.1;
+      })
+      (or_else strict [] (name_at addressing r.name_rva)
+      beside lookup_if (lookup_offset addressing r)
+      beside at_address addressing.offset (address_table_rva r) (address_table format))
+
+  -- the library of a descriptor; permissive mode leaves out a descriptor that leads to none
+  abbrev pub kept_library : ImportDirectoryEntry → Reading (List ImportedLibrary)
+  kept_library r = or_left_out strict (library_of r)
+
+  -- The libraries of the directory at an offset: those of the descriptors before the first that is
+  -- not in the file or ends the directory. Strict mode needs that descriptor, and a library for
+  -- each of those before it. Permissive mode leaves out descriptors that lead to none.
+  abbrev pub libraries_at : ℕ → Reading (List ImportedLibrary)
+  libraries_at o = table import_slots strict import_record_at kept_library o
+
+  -- the libraries of the directory at an offset, and the indexes of the descriptors that are kept
+  abbrev pub indexed_at : ℕ → Reading (List ImportedLibrary × List ℕ)
+  indexed_at o = table_with_slots import_slots strict import_record_at kept_library o
+
+  -- the same libraries, each with the index of its descriptor
+  unfoldable pub numbered_libraries_at : ℕ → Reading (List NumberedLibrary)
+  numbered_libraries_at o = mapped (λ both. numbered both.0 both.1) (indexed_at o)
+
+  -- the libraries of the directory at an address
+  unfoldable pub import_data : ℕ → Reading (List ImportedLibrary)
+  import_data rva = read_directory strict addressing libraries_at rva
+
+  -- the same libraries, each with the index of its descriptor
+  unfoldable pub numbered_data : ℕ → Reading (List NumberedLibrary)
+  numbered_data rva = read_directory strict addressing numbered_libraries_at rva

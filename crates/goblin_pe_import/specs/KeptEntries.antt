@@ -28,26 +28,23 @@ abbrev pub kept_at : ℕ → ℕ → ℕ → LookupEntry → KeptValue
 kept_at width o place entry =
     record { slot = (place - o) / width; place = place; entry = entry }
 
--- what is kept of the entry in the slot at a place of a table at o
-abbrev pub entry_items : Bool → Format EntryValue → Addressing → List ℕ → ℕ → ℕ → EntryValue
-    → List (Option KeptValue)
-entry_items strict format addressing bytes o place v =
-    items_of (kept_at format.width o place) ((kept_entry strict addressing v).value bytes)
+module _ (strict : Bool) (format : Format EntryValue) (addressing : Addressing)
+    (bytes : List ℕ) where
+  -- what is kept of the entry in the slot at a place of a table at o
+  abbrev pub entry_items : ℕ → ℕ → EntryValue → List (Option KeptValue)
+  entry_items o place v =
+      items_of (kept_at format.width o place) ((kept_entry strict addressing v).value bytes)
 
--- the kept entries of the lookup table at o, from the slot at a place on; none without a place
-unfoldable pub entries_from : Bool → Format EntryValue → Addressing → List ℕ → ℕ → Option ℕ
-    → List (Option KeptValue)
-entries_from strict format addressing bytes o None = []
-entries_from strict format addressing bytes o (Some place) =
-    table_walk (entry_slots format) strict (entry_items strict format addressing bytes o) bytes
-    place
+  -- the kept entries of the lookup table at o, from the slot at a place on; none without a place
+  unfoldable pub entries_from : ℕ → Option ℕ → List (Option KeptValue)
+  entries_from o None = []
+  entries_from o (Some place) =
+      table_walk (entry_slots format) strict (entry_items o) bytes place
 
--- the cause that is true if one of them is refused: that of a table that begins there
-abbrev pub IsEntriesCause : Bool → Format EntryValue → Addressing → List ℕ → Option ℕ
-    → ErrorOf → Type 0
-IsEntriesCause strict format addressing bytes None e = ⊥
-IsEntriesCause strict format addressing bytes (Some place) e =
-    (lookup_table strict format addressing place).IsCause bytes e
+  -- the cause that is true if one of them is refused: that of a table that begins there
+  abbrev pub IsEntriesCause : Option ℕ → ErrorOf → Type 0
+  IsEntriesCause None e = ⊥
+  IsEntriesCause (Some place) e = (lookup_table strict format addressing place).IsCause bytes e
 
 -- where a walk over slots of `width` bytes goes on after it has yielded this
 abbrev pub place_after : ℕ → Option (Result KeptEntry ErrorOf) → Option ℕ

@@ -1,7 +1,5 @@
 -- The address table alone is that of the export data, where these are read.
-use Rattle.std.proofs.Common.{◌≡◌, ℕ, true, nat_le, List, [], length, Option, Some, None, refl, sym, ap, subst, IfSome, option_map}
-use Rattle.std.proofs.lemmas.Bool.{and_parts}
-use Rattle.std.proofs.lemmas.Option.{cond_some}
+use Rattle.std.proofs.Common.{◌≡◌, ℕ, Bool, true, false, if◌then◌else◌, nat_le, List, [], length, Option, Some, None, refl, sym, ap, subst, IfSome, option_map}
 use Rattle.goblin_base.proofs.Steps.{same_value, step}
 use Rattle.readings.specs.Reads.{◌>>=◌, counted_if, or_none, pair_of}
 use Rattle.goblin_pe_sect.specs.declared.data_directories.DataDirectory.{DataDirectory}
@@ -9,7 +7,7 @@ use Rattle.goblin_pe_sect.specs.AddressReadings.{name_at}
 use Rattle.goblin_pe_sect.specs.Addresses.{Addressing}
 use Rattle.goblin_pe_export.specs.declared.export.tables.ExportAddressTableEntry.{ExportAddressTableEntry}
 use Rattle.goblin_pe_export.specs.declared.export.tables.ExportDirectoryTable.{ExportDirectoryTable}
-use Rattle.goblin_pe_export.specs.ExportRecords.{ExportTables, addresses, counts_fit, name_pointers, ordinals}
+use Rattle.goblin_pe_export.specs.ExportRecords.{ExportTables, addresses, name_pointers, ordinals}
 use Rattle.goblin_pe_export.specs.added.ExportAddresses.{RepeatsAddresses, address_tables, export_addresses, without_names}
 use Rattle.goblin_pe_export.specs.ExportReadings.{export_data, export_record_at, export_tables, fitting, fitting_addresses}
 
@@ -26,6 +24,14 @@ kept (Some a) (Some b) (Some c) None t tables e = absurd cc
 kept (Some a) (Some b) (Some c) (Some x) t tables e =
     let whole : ExportTables = record { name = a; export_directory_table = t; export_name_pointer_table = b; export_ordinal_table = c; export_address_table = x } in
     ap (λ (tables : ExportTables). Some (without_names tables)) (same_value whole tables e)
+
+-- a record that is read has both counts
+both-fit : {T : Type 0} (a b : Bool) (t v : T)
+    → option_map (λ both. both.1) (pair_of (if a then Some t else None) (if b then Some t else None)) ≡ Some v
+    → (b ≡ true) × (t ≡ v)
+both-fit true true t v e = (refl, same_value t v e)
+both-fit true false t v e = absurd cc
+both-fit false b t v e = absurd cc
 
 module _ (addressing : Addressing) (d : DataDirectory) (bytes : List ℕ) where
   tables_kept : (t : ExportDirectoryTable) (tables : ExportTables) → (export_tables addressing d t).value bytes ≡ Some tables → (address_tables addressing d t).value bytes ≡ Some (without_names tables)
@@ -48,10 +54,9 @@ module _ (addressing : Addressing) (d : DataDirectory) (bytes : List ℕ) where
       let place = step (addressing.offset d.virtual_address) _ tables e in
       let own = step ((export_record_at place.value).value bytes) _ tables place.then in
       let fit = step ((fitting own.value).value bytes) (λ t. (export_tables addressing d t).value bytes) tables own.then in
-      let test = cond_some (counts_fit (length bytes) own.value) own.value fit.value fit.is in
-      let parts = and_parts (nat_le own.value.number_of_name_pointers (length bytes)) (nat_le own.value.address_table_entries (length bytes)) test.0 in
+      let test = both-fit _ (nat_le own.value.address_table_entries (length bytes)) own.value fit.value fit.is in
       let there : (export_tables addressing d own.value).value bytes ≡ Some tables = subst (λ (t : ExportDirectoryTable). (export_tables addressing d t).value bytes ≡ Some tables) (sym test.1) fit.then in
-      from place.value own.value (without_names tables) place.is own.is parts.1 (tables_kept own.value tables there)
+      from place.value own.value (without_names tables) place.is own.is test.0 (tables_kept own.value tables there)
 
   where_some : (o : Option ExportTables) (Holds : ExportTables → Type 0) → ((x : ExportTables) → o ≡ Some x → Holds x) → IfSome o Holds
   where_some None Holds each = tt

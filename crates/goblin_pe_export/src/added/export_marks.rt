@@ -97,31 +97,9 @@ fn add_export_data(
     add_tables(marks, bytes, table, directory, address_map)
 }
 
-// Marks the text of the name at `pointer`, and the text of the forwarder if `address` is one.
-#[tactic(auto, unfolding(crate::specs::ExportReadings::row_of, goblin_pe_sect::specs::AddressReadings::name_at), using(goblin_base::proofs::Marks::marking, crate::proofs::added::ExportRanges::forwarder_reach))]
-fn add_names(
-    marks: &mut Marks,
-    bytes: &[u8],
-    pointer: u32,
-    address: ExportAddressTableEntry,
-    address_map: &AddressMap,
-)
-    ensures { let m = map_of address_map.now in
-        let reached = (reading.row_of m.addressing pointer address).reaches bytes.now in
-        marks.new ≡ marked marks.old reached }
-{
-    let longest = address_map.longest_name();
-    add_text_at(marks, bytes, address_map.offset_of(pointer), longest);
-    match address {
-        ExportAddressTableEntry::ExportRVA(_) => (),
-        ExportAddressTableEntry::ForwarderRVA(rva) => {
-            add_text_at(marks, bytes, address_map.offset_of(rva), longest)
-        }
-    }
-}
-
-// Marks what the name pointer at an index leads to.
-#[tactic(auto, unfolding(crate::specs::ExportReadings::numbered_row), using(goblin_base::proofs::Marks::marking))]
+// Marks what the name pointer at an index leads to: the text of its name, and that of its forwarder
+// if there is one.
+#[tactic(auto, unfolding(crate::specs::ExportReadings::numbered_row, crate::specs::ExportReadings::row_of, goblin_pe_sect::specs::AddressReadings::name_at), using(goblin_base::proofs::Marks::marking, crate::proofs::added::ExportRanges::forwarder_reach))]
 fn add_pointer<T: Entries>(
     marks: &mut Marks,
     bytes: &[u8],
@@ -143,7 +121,14 @@ fn add_pointer<T: Entries>(
     let Some(address) = tables.address(usize::from(ordinal)) else {
         return;
     };
-    add_names(marks, bytes, pointer, address, address_map)
+    let longest = address_map.longest_name();
+    add_text_at(marks, bytes, address_map.offset_of(pointer), longest);
+    match address {
+        ExportAddressTableEntry::ExportRVA(_) => (),
+        ExportAddressTableEntry::ForwarderRVA(rva) => {
+            add_text_at(marks, bytes, address_map.offset_of(rva), longest)
+        }
+    }
 }
 
 // Marks the footprint of the exports that tables list.

@@ -1,7 +1,7 @@
 //! A walk over the exports of an image.
 
 ghost use Rattle.std.specs.Prelude.{◌≡◌, ◌≤◌, ◌<◌, ◌^◌, ◌+◌, IfOk, IfSome, MatchOption, None, Some};
-ghost use Rattle.std.specs.Prelude.{length, option_map, slice_get};
+ghost use Rattle.std.specs.Prelude.{length, option_map, slice_get, Bool, count_by, find};
 ghost use Rattle.std.specs.Iterator.{UpTo, at_most};
 ghost use Rattle.std.specs.Iterator.SizeHint.{IsWithinCount};
 ghost use Rattle.goblin_base.specs.Reading.{Reads};
@@ -14,19 +14,21 @@ ghost use Rattle.goblin_pe_export.specs.added.ExportWalks.{GivesExport, exports_
 ghost use Rattle.goblin_pe_export.specs.added.ExportWalks.{GivesExportBefore, exports_position};
 ghost use Rattle.goblin_pe_export.specs.added.ExportWalks.{KeepsOver, numbered_from, pointer_count};
 ghost use Rattle.goblin_pe_export.specs.added.ExportWalks.{walked_export, walked_tables};
+ghost use Rattle.goblin_pe_export.specs.added.ExportWalks.{NumberedExport, exports_bytes};
+ghost use Rattle.goblin_pe_export.specs.added.ExportWalks.{exports_map};
+ghost use Rattle.std.specs.Fn.{FnReturnsAt};
+ghost use Rattle.readings.specs.Tests.{IsTest};
+ghost use Rattle.goblin_pe_export.specs.added.LeftOutExports.{gives_export, pointers_left_out};
+ghost use Rattle.goblin_pe_export.specs.added.LeftOutExports.{reads_forwarder};
 
-use crate::added::ascii::ascii_export;
-use crate::export::Export;
 use crate::export::entries::{Entries, TablesInFile};
 use crate::export::tables::{ExportAddressTableEntry, ExportDirectoryTable};
-use goblin_base::Result;
+use crate::export::{Export, forwarder_at};
+use goblin_base::{Result, pread_ascii_str};
 use goblin_pe_sect::DataDirectory;
 use goblin_pe_sect::address_map::{AddressMap, Finder};
 use std::fmt;
 use std::iter::FusedIterator;
-
-mod left_out;
-mod tested;
 
 /// An export, as a walk yields it. It takes no memory.
 #[derive(Debug, Drop)]
@@ -54,6 +56,37 @@ pub struct Exports<'a, 'm> {
     tables: TablesInFile<'a>,
     // The index of the name pointer that is read next.
     next: usize,
+}
+
+// Whether an entry of the address table is not a forwarder, or is one whose text can be read.
+fn reads_forwarder(bytes: &[u8], address: ExportAddressTableEntry, finder: &mut Finder<'_>) -> bool
+    ensures value { let m = map_of finder.old in
+        result ≡ reads_forwarder m.addressing bytes.now address }
+    ensures same { finder.new ≡ finder.old }
+{
+    match address {
+        ExportAddressTableEntry::ExportRVA(_) => true,
+        ExportAddressTableEntry::ForwarderRVA(rva) => {
+            forwarder_at(bytes, finder.offset_of(rva), finder.longest_name()).is_some()
+        }
+    }
+}
+
+// Whether the name pointer at an index gives an export. Its name is not needed, so it is not read.
+#[tactic(auto, unfolding(crate::specs::ExportReadings::export_row, crate::specs::ExportReadings::numbered_row, crate::specs::ExportReadings::row_of))]
+fn gives_export(bytes: &[u8], tables: &TablesInFile, index: usize, finder: &mut Finder<'_>) -> bool
+    requires { index < length (tables_in tables.now).export_name_pointer_table }
+    ensures value { let m = map_of finder.old in
+        result ≡ gives_export m.addressing bytes.now (tables_in tables.now) index }
+    ensures same { finder.new ≡ finder.old }
+{
+    let Some(ordinal) = tables.ordinal(index) else {
+        return false;
+    };
+    match tables.address(usize::from(ordinal)) {
+        Some(address) => reads_forwarder(bytes, address, finder),
+        None => false,
+    }
 }
 
 impl<'a, 'm> Exports<'a, 'm> {
@@ -203,6 +236,55 @@ impl<'a, 'm> Exports<'a, 'm> {
         self.tables.address(index)
     }
 
+    /// How many name pointers of the directory give no export, wherever the walk is. Such a pointer
+    /// has no ordinal, or its ordinal lies past the address table, or it leads to a forwarder whose
+    /// text cannot be read. A name that cannot be read does not leave an export out.
+    #[tactic(auto, unfolding(crate::specs::added::LeftOutExports::pointers_left_out))]
+    pub fn left_out(&self) -> usize
+        ensures value { let m = exports_map self.now in
+            result
+            ≡ pointers_left_out m.addressing (exports_bytes self.now) (walked_tables self.now) }
+        ensures others { length (exports_at self.now 0) + result
+            ≡ length (walked_tables self.now).export_name_pointer_table }
+    {
+        let mut finder = self.finder.again();
+        let mut count = 0;
+        'pointers: for index in 0..self.tables.pointers() {
+            let gives = gives_export(self.bytes, &self.tables, index, &mut finder);
+            count += usize::from(!gives);
+        }
+        count
+    }
+
+    /// How many of the exports that are still to come pass a test.
+    pub fn count_exports<F: Fn(&WalkedExport<'a>) -> bool>(self, test: F) -> usize
+        requires { F.IsAlwaysCallable test }
+        ensures { (p : NumberedExport → Bool) → IsTest walked_export (FnReturnsAt F.Fn test) p
+            → result ≡ count_by p (exports_left self.entry) }
+    {
+        let mut count = 0;
+        'exports: for export in self {
+            if test(&export) {
+                count += 1;
+            }
+        }
+        count
+    }
+
+    /// The first of the exports still to come that passes a test, or `None` if none does.
+    pub fn find_export<F: Fn(&WalkedExport<'a>) -> bool>(self, test: F) -> Option<WalkedExport<'a>>
+        requires { F.IsAlwaysCallable test }
+        ensures { (p : NumberedExport → Bool) → IsTest walked_export (FnReturnsAt F.Fn test) p
+            → option_map walked_export result ≡ find p (exports_left self.entry) }
+    {
+        'exports: for export in self {
+            if test(&export) {
+                return Some(export);
+            }
+        }
+        None
+    }
+
     /// The next export, if its name pointer has an index below `end`. The walk does not look at
     /// name pointers from `end` on. If there is no such export, the walk moves to `end`, or to the
     /// end of the name pointers if that comes first; a walk that is already past it stays where it
@@ -214,9 +296,10 @@ impl<'a, 'm> Exports<'a, 'm> {
         let end = end.min(self.tables.pointers());
         'pointers: for index in self.next..end {
             self.next = index + 1;
-            let finder = &mut self.finder;
-            if let Some(export) = Exports::export_at(self.bytes, &self.tables, index, finder) {
-                return Some(export);
+            let (tables, finder) = (&self.tables, &mut self.finder);
+            let read = Export::of_pointer(self.bytes, tables, index, finder);
+            if let Some(((pointer, ordinal), export)) = read {
+                return Some(Exports::numbered(tables, index, pointer, ordinal, export));
             }
         }
         None
@@ -244,28 +327,10 @@ impl<'a, 'm> Exports<'a, 'm> {
         }
     }
 
-    // The export of the name pointer at an index, if it has one.
+    // The export of the name pointer at an index, if its name is ASCII, it is not a forwarder, and
+    // its RVA and its name lie among those that the finder keeps. `None` says nothing about it.
     #[inline(always)]
-    fn export_at(
-        bytes: &'a [u8],
-        tables: &TablesInFile<'a>,
-        index: usize,
-        finder: &mut Finder<'_>,
-    ) -> Option<WalkedExport<'a>>
-        ensures value { let m = map_of finder.old in
-            option_map walked_export result
-            ≡ numbered_export m.addressing bytes.now (tables_in tables.now) index }
-        ensures hint { IfSome result (λ x. x.hint ≡ index) }
-        ensures same { finder.new ≡ finder.old }
-    {
-        let ((pointer, ordinal), export) = Export::of_pointer(bytes, tables, index, finder)?;
-        Some(Exports::numbered(tables, index, pointer, ordinal, export))
-    }
-
-    // The same for an export whose name is ASCII, as `ascii_export` says. `None` says nothing about
-    // the export.
-    #[inline(always)]
-    #[tactic(auto, unfolding(crate::specs::ExportReadings::numbered_row))]
+    #[tactic(auto, unfolding(crate::specs::ExportReadings::numbered_row, crate::specs::ExportReadings::row_of, goblin_pe_sect::specs::AddressReadings::name_at))]
     fn ascii_at(
         bytes: &'a [u8],
         tables: &TablesInFile<'a>,
@@ -280,9 +345,24 @@ impl<'a, 'm> Exports<'a, 'm> {
     {
         let pointer = tables.pointer(index)?;
         let ordinal = tables.ordinal(index)?;
-        let address = tables.address(usize::from(ordinal))?;
-        let Some(export) = ascii_export(bytes, pointer, address, finder) else {
+        let ExportAddressTableEntry::ExportRVA(rva) = tables.address(usize::from(ordinal))? else {
             return None;
+        };
+        let Some(offset) = finder.near_offset(rva) else {
+            return None;
+        };
+        let Some(place) = finder.near_name_offset(pointer) else {
+            return None;
+        };
+        let Some(name) = pread_ascii_str(bytes, place) else {
+            return None;
+        };
+        let export = Export {
+            name: Some(name),
+            offset: Some(offset),
+            rva: rva as usize,
+            size: 0,
+            reexport: None,
         };
         Some(Exports::numbered(tables, index, pointer, ordinal, export))
     }

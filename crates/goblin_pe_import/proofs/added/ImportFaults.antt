@@ -1,5 +1,5 @@
 -- The error that ends a walk over imports.
-use Rattle.std.proofs.Common.{ℕ, Bool, List, Option, Some, None, Err, Ok, Result, ◌∙◌, inl, inr, IfErr, IfSome}
+use Rattle.std.proofs.Common.{ℕ, Bool, List, Option, Some, None, Err, Ok, Result, ◌∙◌, inl, inr, IfErr, IfSome, IsSomeAnd}
 use Rattle.goblin_base.specs.declared.error.ErrorOf.{ErrorOf}
 use Rattle.goblin_base.specs.Answers.{IsMemory, all_of}
 use Rattle.goblin_base.specs.Tables.{Format}
@@ -11,7 +11,7 @@ use Rattle.goblin_pe_sect.specs.Addresses.{map_of, reads_strictly, Addressing}
 use Rattle.goblin_pe_import.specs.ImportEntries.{EntryValue}
 use Rattle.goblin_pe_import.specs.ImportReadings.{libraries_at}
 use Rattle.goblin_pe_import.specs.LookupReadings.{lookup_table}
-use Rattle.goblin_pe_import.specs.added.ImportWalks.{GivesImport, IsImportsCause, imports_left, IsLaterCause, IsNextCause, IsWalkCause, IsWalkFault, pending_table, walk_left, walked_value}
+use Rattle.goblin_pe_import.specs.added.ImportWalks.{GivesImport, IsImportsCause, imports_left, IsLaterCause, IsRecordsCause, IsWalkCause, IsWalkFault, pending_table, walk_left, walked_value}
 use Rattle.goblin_pe_import.specs.KeptEntries.{IsEntriesCause, entries_from}
 use Rattle.goblin_pe_import.specs.added.StepsAhead.{GivesImportWithin}
 use Rattle.goblin_pe_import.specs.Steps.{GivesWithin}
@@ -25,7 +25,8 @@ module _ (strict : Bool) (format : Format EntryValue) (addressing : Addressing)
   entries-not_memory (Some place) fault =
       (lookup_table strict format addressing place).not_memory bytes e fault
 
-  next-not_memory : (next : Option ℕ) → IsNextCause strict format addressing bytes next e → ¬ IsMemory e
+  next-not_memory : (next : Option ℕ)
+      → IsSomeAnd next (λ p. IsRecordsCause strict format addressing bytes p e) → ¬ IsMemory e
   next-not_memory None fault = absurd fault
   next-not_memory (Some p) fault = (libraries_at strict format addressing p).not_memory bytes e fault
 
@@ -42,7 +43,7 @@ walk-not_memory format w e fault =
     (λ _. IsLaterCause strict format m.addressing bytes w.at.pending w.at.next_record) e
     (entries-not_memory strict format m.addressing bytes e w.at.place)
     (λ _. first_no_memory (table.value bytes) (table.IsCause bytes)
-    (λ _. IsNextCause strict format m.addressing bytes w.at.next_record) e
+    (λ _ e. IsSomeAnd w.at.next_record (λ p. IsRecordsCause strict format m.addressing bytes p e)) e
     (table.not_memory bytes e)
     (λ _. next-not_memory strict format m.addressing bytes e w.at.next_record))
     fault.1

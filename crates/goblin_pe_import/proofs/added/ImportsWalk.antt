@@ -1,27 +1,26 @@
 -- The walk over all imports: from one library to the next.
-use Rattle.std.proofs.Common.{◌≡◌, ◌≤◌, ◌+◌, ◌-◌, ◌*◌, ℕ, Bool, true, false, not, ◌&&◌, List, [], ◌∷◌, ◌++◌, length, Option, Some, None, refl, sym, ap, subst, ◌∙◌, append_assoc, lit≤, arith, Err, IfOk, MatchResult, Ok, Result, option_map, unwrap_or}
-use Rattle.std.proofs.Common.{mul-le-mul_left, is_some}
+use Rattle.std.proofs.Common.{◌≡◌, ◌≤◌, ◌+◌, ◌-◌, ◌*◌, ℕ, Bool, true, false, not, ◌&&◌, List, [], ◌∷◌, ◌++◌, length, IsSomeAnd, Option, Some, None, refl, sym, ap, ◌∙◌, append_assoc, lit≤, arith, option_map, unwrap_or, mul-le-mul_left, is_some}
+use Rattle.std.specs.Option.{option_len}
 use Rattle.goblin_base.specs.declared.error.ErrorOf.{ErrorOf}
 use Rattle.goblin_base.specs.Answers.{FirstFault, all_of}
-use Rattle.goblin_base.specs.Reading.{IsRefused, Reading}
+use Rattle.goblin_base.specs.Reading.{Reading}
 use Rattle.goblin_base.specs.Tables.{Format, ends_table, or_left_out}
 use Rattle.goblin_base.proofs.SlotTables.{reads}
 use Rattle.goblin_base.proofs.Steps.{unmapped}
 use Rattle.readings.specs.Reads.{pair_of}
 use Rattle.readings.specs.Walks.{from_slot, refusal_of, table_walk, until_refused}
-use Rattle.readings.proofs.Walks.{IsSlotCause, cause-slot, slot-end, slot-going, slot-missing, until_refused-later, walk-slot}
+use Rattle.readings.proofs.Walks.{cause-slot, slot-end, slot-going, slot-missing, until_refused-later, walk-slot}
 use Rattle.goblin_pe_import.specs.declared.import.directory_entry.ImportDirectoryEntry.{ImportDirectoryEntry}
 use Rattle.goblin_pe_import.specs.declared.added.imports.Walk.{Walk}
 use Rattle.goblin_pe_import.specs.ImportEntries.{EntryValue, LookupEntry}
 use Rattle.goblin_pe_import.specs.ImportReadings.{import_record_at, kept_library, library_of, lookup_if}
 use Rattle.goblin_pe_import.specs.ImportRecords.{address_table_rva, import_slots, is_last_record, lookup_offset}
 use Rattle.goblin_pe_import.specs.Imports.{NumberedImport}
-use Rattle.goblin_pe_import.specs.added.ImportWalks.{GivesLibrary, IsNextCause, IsLaterCause, IsNamedCause, IsRecordCause, IsRecordsCause, addresses_of, bound_next, imports_next, is_skipped, one_if, walk_bound, imports_from_record}
-use Rattle.goblin_pe_import.specs.added.ImportWalks.{imports_of_entries, record_index, later_items, library_items, library_name, pending_table}
+use Rattle.goblin_pe_import.specs.added.ImportWalks.{IsLaterCause, IsLaterLeftCause, later_left, IsNamedCause, IsRecordsCause, addresses_of, bound_next, imports_next, is_skipped, imports_from_record, imports_of_entries, record_index, later_items, library_items, library_name, pending_table}
 use Rattle.goblin_pe_import.specs.KeptEntries.{IsEntriesCause, KeptValue, entries_from, slots_bound}
 use Rattle.goblin_pe_import.proofs.LookupWalk.{in_two, lookup_walked}
 use Rattle.goblin_pe_import.proofs.PermissiveReads.{name_strict}
-use Rattle.goblin_pe_sect.specs.Addresses.{Addressing}
+use Rattle.goblin_pe_sect.specs.Addresses.{Addressing, map_of, reads_strictly}
 
 -- ---- values that may be missing
 
@@ -108,33 +107,35 @@ module _ (format : Format EntryValue) (addressing : Addressing) (bytes : List �
   in_table None fault = fault
   in_table (Some place) fault = fault
 
-  in_slot : (entry : Option ImportDirectoryEntry)
-      → IsRecordCause true format addressing bytes p entry e
-      → IsSlotCause true is_last_record (λ r. (kept_library true format addressing r).value bytes)
-      ((import_record_at p).IsCause bytes)
-      (λ r. (kept_library true format addressing r).IsCause bytes)
-      (IsRecordsCause true format addressing bytes (p + 20)) entry e
+  pub cause-missing : (strict : Bool) → strict ≡ true → reads import_slots bytes p ≡ None
+      → (import_record_at p).IsCause bytes e → IsRecordsCause strict format addressing bytes p e
+  cause-missing true is r fault =
+      cause-slot import_slots (kept_library true format addressing) bytes true import_record_at
+      (lit≤ tt) p None r e (refl, fault)
+  cause-missing false is r fault = absurd cc
+
+  pub cause-given : (strict : Bool) → strict ≡ true → (v : ImportDirectoryEntry)
+      → reads import_slots bytes p ≡ Some v → is_last_record v ≡ false
+      → FirstFault ((library_name strict addressing v).value bytes)
+      ((library_name strict addressing v).IsCause bytes)
+      (λ _. IsNamedCause strict format addressing bytes v
+      (IsRecordsCause strict format addressing bytes (p + 20))) e
+      → IsRecordsCause strict format addressing bytes p e
   unfolding library_of
-  in_slot None fault = (refl, fault)
-  in_slot (Some r) fault =
-      let at = lookup_offset addressing r in
-      let name = library_name true addressing r in
+  cause-given true is v r going fault =
+      let at = lookup_offset addressing v in
+      let name = library_name true addressing v in
       let table = lookup_if true format addressing at in
-      let addresses = addresses_of format addressing r in (
-        fault.0,
+      let addresses = addresses_of format addressing v in
+      cause-slot import_slots (kept_library true format addressing) bytes true import_record_at
+      (lit≤ tt) p (Some v) r e (
+        going,
         library-fault _ (in_two_if at) (name.value bytes) _ (table.value bytes) (addresses.value bytes)
             (name.IsCause bytes) (IsEntriesCause true format addressing bytes at) (table.IsCause bytes)
             (addresses.IsCause bytes) (IsRecordsCause true format addressing bytes (p + 20)) e
-            (listed true format addressing bytes wide at) (in_table at) fault.1,
+            (listed true format addressing bytes wide at) (in_table at) fault,
       )
-
-  pub cause-record : (strict : Bool) → strict ≡ true
-      → IsRecordCause strict format addressing bytes p ((import_record_at p).value bytes) e
-      → IsRecordsCause strict format addressing bytes p e
-  cause-record true is fault =
-      cause-slot import_slots (kept_library true format addressing) bytes true import_record_at
-      (lit≤ tt) p _ refl e (in_slot _ fault)
-  cause-record false is fault = absurd cc
+  cause-given false is v r going fault = absurd cc
 
 -- ---- the library of a record
 
@@ -185,17 +186,6 @@ module _ (strict : Bool) (format : Format EntryValue) (addressing : Addressing)
         absurd (cc (is, fault.0)),
   )
 
-  pub walk-unnamed : (e : ErrorOf) → name.value bytes ≡ None → name.IsCause bytes e
-      → (library_items strict format addressing bytes index r ≡ None ∷ []) × (strict ≡ true)
-      × IsRefused name bytes e
-  unfolding library_items
-  walk-unnamed e none fault =
-      let is = name_strict strict _ none in (
-        rw (none, is) refl,
-        is,
-        (none, fault),
-      )
-
   abbrev at : Option ℕ
   at = lookup_offset addressing r
 
@@ -220,26 +210,28 @@ module _ (strict : Bool) (format : Format EntryValue) (addressing : Addressing)
           λ e fault. (fault.0, rw named fault.1),
         )
 
--- ---- once the entries of a library have come
+-- ---- once the entries of the library that a walk is in have come
 
-module _ (strict : Bool) (format : Format EntryValue) (addressing : Addressing)
-    (bytes : List ℕ) (pending : Option ℕ) where
+module _ (format : Format EntryValue) (w : Walk) where
+  abbrev strict : Bool
+  strict = reads_strictly (map_of w.finder)
+
+  abbrev addressing : Addressing
+  addressing = (map_of w.finder).addressing
+
+  abbrev bytes : List ℕ
+  bytes = w.bytes.now
+
   abbrev table : Reading (List ℕ)
-  table = pending_table strict format addressing pending
-
-  abbrev later : ℕ → Option ℕ → List (Option NumberedImport)
-  later first next = until_refused (later_items strict format addressing bytes pending first next)
-
-  abbrev IsCause : Option ℕ → ErrorOf → Type 0
-  IsCause next e = IsLaterCause strict format addressing bytes pending next e
+  table = pending_table strict format addressing w.at.pending
 
   -- its address table is missing
-  pub later-refused : (first : ℕ) (next : Option ℕ) (e : ErrorOf)
+  pub later-refused : (e : ErrorOf)
       → (option_map (λ _. tt {0}) (table.value bytes) ≡ None) × table.IsCause bytes e
-      → (later first next ≡ None ∷ []) × IsCause next e
-  later-refused first next e refused =
+      → strict ≡ true → (later_left format w ≡ None ∷ []) × IsLaterLeftCause format w e
+  later-refused e refused strictly =
       let none = unmapped (λ _. tt {0}) _ refused.0 in
-      (rw none refl, rw none refused.1)
+      (rw none refl, (strictly, rw none refused.1))
 
   module _ (tested : option_map (λ _. tt {0}) (table.value bytes) ≡ Some (tt {0})) where
     is_there : (found : Option (List ℕ)) → option_map (λ _. tt {0}) found ≡ Some (tt {0})
@@ -249,96 +241,92 @@ module _ (strict : Bool) (format : Format EntryValue) (addressing : Addressing)
     is_there None e items IsTable IsLater = absurd cc
     is_there (Some x) e items IsTable IsLater = (refl, λ e fault. fault)
 
-    later-from : (first : ℕ) (next : Option ℕ)
-        → later first next ≡ until_refused (imports_next strict format addressing bytes first next)
-    later-from first next =
-        ap until_refused
-        (is_there (table.value bytes) tested (imports_next strict format addressing bytes first next)
-        (λ e. ⊥) (λ e. ⊥)).0
+    abbrev from : Option ℕ → List (Option NumberedImport)
+    from next = until_refused (imports_next strict format addressing bytes w.at.first_record next)
 
-    later-cause : (next : Option ℕ) (e : ErrorOf)
-        → IsNextCause strict format addressing bytes next e → IsCause next e
-    later-cause next e fault =
-        (is_there (table.value bytes) tested [] (table.IsCause bytes)
-        (IsNextCause strict format addressing bytes next)).1 e fault
+    later-from : later_left format w ≡ from w.at.next_record
+    later-from =
+        ap until_refused (is_there (table.value bytes) tested _ (λ e. ⊥) (λ e. ⊥)).0
 
     -- there are no more records
-    pub later-none : (first : ℕ) → later first None ≡ []
+    pub later-none : w.at.next_record ≡ None → later_left format w ≡ []
     unfolding imports_next
-    later-none first = later-from first None
+    later-none is = later-from ∙ ap from is
 
-    module _ (wide : 1 ≤ format.width) (first p : ℕ) where
+    module _ (wide : 1 ≤ format.width) (p : ℕ) (is : w.at.next_record ≡ Some p) where
       abbrev index : ℕ
-      index = record_index first p
+      index = record_index w.at.first_record p
 
       abbrev of_library : ImportDirectoryEntry → List (Option NumberedImport)
       of_library = library_items strict format addressing bytes index
 
       abbrev from_next : List (Option NumberedImport)
-      from_next = imports_from_record strict format addressing bytes first (p + 20)
+      from_next = imports_from_record strict format addressing bytes w.at.first_record (p + 20)
 
       by_record : (entry : Option ImportDirectoryEntry) → reads import_slots bytes p ≡ entry
-          → later first (Some p) ≡ from_record strict format addressing bytes first p entry
+          → later_left format w
+          ≡ from_record strict format addressing bytes w.at.first_record p entry
       unfolding imports_next
       by_record entry r =
-          later-from first (Some p) ∙ imports-once strict format addressing bytes first p
-          ∙ imports-slot strict format addressing bytes first p
-          ∙ ap (from_record strict format addressing bytes first p) r
+          later-from ∙ ap from is ∙ imports-once strict format addressing bytes w.at.first_record p
+          ∙ imports-slot strict format addressing bytes w.at.first_record p
+          ∙ ap (from_record strict format addressing bytes w.at.first_record p) r
 
-      by_cause : (entry : Option ImportDirectoryEntry) → reads import_slots bytes p ≡ entry
-          → strict ≡ true → (e : ErrorOf)
-          → IsRecordCause strict format addressing bytes p entry e
-          → IsCause (Some p) e
-      by_cause entry r is e fault =
-          later-cause (Some p) e
-          (cause-record format addressing bytes p wide e strict is
-          (subst
-          (λ (entry : Option ImportDirectoryEntry).
-          IsRecordCause strict format addressing bytes p entry e) (sym r) fault))
+      by_cause : (e : ErrorOf) → strict ≡ true → IsRecordsCause strict format addressing bytes p e
+          → IsLaterLeftCause format w e
+      by_cause e strictly fault = (
+        strictly,
+        (is_there (table.value bytes) tested [] (table.IsCause bytes)
+            (λ e. IsSomeAnd w.at.next_record (λ p. IsRecordsCause strict format addressing bytes p e))).1
+            e (rw is fault),
+      )
 
       pub later-end : (entry : Option ImportDirectoryEntry) → reads import_slots bytes p ≡ entry
           → ends_table is_last_record entry ≡ true → (strict && not (is_some entry)) ≡ false
-          → later first (Some p) ≡ []
+          → later_left format w ≡ []
       later-end entry r z there =
           by_record entry r ∙ slot-end strict is_last_record of_library from_next entry z there
 
       pub later-missing : (e : ErrorOf) → reads import_slots bytes p ≡ None → strict ≡ true
           → (import_record_at p).IsCause bytes e
-          → (later first (Some p) ≡ None ∷ []) × (strict ≡ true) × IsCause (Some p) e
+          → (later_left format w ≡ None ∷ []) × IsLaterLeftCause format w e
       later-missing e r m fault = (
         by_record None r ∙ slot-missing strict is_last_record of_library from_next m,
-        m,
-        by_cause None r m e fault,
+        by_cause e m (cause-missing format addressing bytes p wide e strict m r fault),
       )
 
-      -- what a walk goes on with, by what is made of the record's library
-      pub later-given : (v : ImportDirectoryEntry) → reads import_slots bytes p ≡ Some v
-          → is_last_record v ≡ false → {S : Type 0} (left : S → List (Option NumberedImport))
-          (IsLeft : S → ErrorOf → Type 0) (result : Result S ErrorOf)
-          → MatchResult result
-          (λ t. (left t ≡ whole strict format addressing bytes first index v (p + 20))
-          × ((e : ErrorOf) → IsLeft t e
-          → (strict ≡ true) × IsWholeCause strict format addressing bytes first index v (p + 20) e))
-          (λ e. (library_items strict format addressing bytes index v ≡ None ∷ [])
-          × (strict ≡ true)
-          × IsRefused (library_name strict addressing v) bytes e)
-          → GivesLibrary left IsLeft
-          (later_items strict format addressing bytes pending first (Some p))
-          (λ e. (strict ≡ true) × IsCause (Some p) e) (Some result)
-      later-given v r going left IsLeft (Ok t) h = (
-        h.0 ∙ sym (by_record (Some v) r ∙ slot-going strict is_last_record of_library from_next v going),
-        λ e fault.
-            let both = h.1 e fault in
-            (both.0, by_cause (Some v) r both.0 e (going, both.1)),
-      )
-      later-given v r going left IsLeft (Err e) h = (
-        by_record (Some v) r ∙ slot-going strict is_last_record of_library from_next v going
-            ∙ ap
-            (λ (xs : List (Option NumberedImport)). until_refused
-            (xs ++ imports_from_record strict format addressing bytes first (p + 20)))
-            h.0,
-        (h.1, by_cause (Some v) r h.1 e (going, rw (h.2.0) (h.2.1))),
-      )
+      module _ (v : ImportDirectoryEntry) (r : reads import_slots bytes p ≡ Some v)
+          (going : is_last_record v ≡ false) where
+        by_whole : later_left format w
+            ≡ whole strict format addressing bytes w.at.first_record index v (p + 20)
+        by_whole = by_record (Some v) r ∙ slot-going strict is_last_record of_library from_next v going
+
+        -- what is left of a walk that is in the record's library, or past it
+        pub later-given : (left : List (Option NumberedImport)) (IsLeft : ErrorOf → Type 0)
+            → (left ≡ whole strict format addressing bytes w.at.first_record index v (p + 20))
+            × ((e : ErrorOf) → IsLeft e → (strict ≡ true)
+            × IsWholeCause strict format addressing bytes w.at.first_record index v (p + 20) e)
+            → (left ≡ later_left format w)
+            × ((e : ErrorOf) → IsLeft e → IsLaterLeftCause format w e)
+        later-given left IsLeft h = (
+          h.0 ∙ sym by_whole,
+          λ e fault.
+              let both = h.1 e fault in
+              by_cause e both.0
+              (cause-given format addressing bytes p wide e strict both.0 v r going both.1),
+        )
+
+        -- its name is refused
+        pub later-unnamed : (e : ErrorOf) → (library_name strict addressing v).value bytes ≡ None
+            → (library_name strict addressing v).IsCause bytes e
+            → (later_left format w ≡ None ∷ []) × IsLaterLeftCause format w e
+        unfolding library_items
+        later-unnamed e none fault =
+            let is = name_strict strict _ none in (
+              by_whole ∙ rw (none, is) refl,
+              by_cause e is
+                  (cause-given format addressing bytes p wide e strict is v r going (rw none fault)),
+            )
 
 -- ---- how many may come
 
@@ -346,7 +334,7 @@ slots_few : (bytes : List ℕ) (place : Option ℕ) → slots_bound bytes place 
 slots_few bytes None = omega arith
 slots_few bytes (Some p) = omega arith
 
-one_few : (pending : Option ℕ) → one_if pending ≤ 1
+one_few : (pending : Option ℕ) → option_len pending ≤ 1
 one_few None = omega arith
 one_few (Some rva) = omega arith
 
@@ -359,12 +347,9 @@ fewer n p x y inside few one =
     omega (arith, few, one, more)
 
 -- a walk that goes on in the library of the record at p
-pub bound-given : (bytes : List ℕ) (p : ℕ) → p + 20 ≤ length bytes
-    → (r : Result Walk ErrorOf) → IfOk r (λ t. t.bytes.now ≡ bytes)
-    → IfOk r (λ t. t.at.next_record ≡ Some (p + 20))
-    → IfOk r (λ t. walk_bound t ≤ bound_next bytes (Some p))
-bound-given bytes p inside (Err e) same next = tt
-bound-given bytes p inside (Ok t) same next =
-    rw (same, next)
-    (fewer (length bytes) p (slots_bound bytes t.at.place) (one_if t.at.pending) inside
-    (slots_few bytes t.at.place) (one_few t.at.pending))
+pub bound-given : (bytes : List ℕ) (p : ℕ) (place pending : Option ℕ) → p + 20 ≤ length bytes
+    → slots_bound bytes place + option_len pending + bound_next bytes (Some (p + 20))
+    ≤ bound_next bytes (Some p)
+bound-given bytes p place pending inside =
+    fewer (length bytes) p (slots_bound bytes place) (option_len pending) inside
+    (slots_few bytes place) (one_few pending)

@@ -1,5 +1,5 @@
 -- The walk over the libraries of an import directory, record by record.
-use Rattle.std.proofs.Common.{◌≡◌, ◌+◌, ℕ, Bool, true, false, not, ◌&&◌, List, [], ◌∷◌, Option, Some, None, refl, sym, ap, subst, ◌∙◌, lit≤, is_some, Ok, Err}
+use Rattle.std.proofs.Common.{◌≡◌, ◌+◌, ℕ, Bool, true, false, not, ◌&&◌, List, [], ◌∷◌, Option, Some, None, refl, sym, ap, subst, ◌∙◌, lit≤, is_some, IsSomeAnd, Ok, Err}
 use Rattle.goblin_base.specs.declared.error.ErrorOf.{ErrorOf}
 use Rattle.goblin_base.specs.Tables.{ends_table}
 use Rattle.goblin_base.proofs.SlotTables.{reads}
@@ -10,7 +10,7 @@ use Rattle.goblin_pe_sect.specs.Addresses.{reads_strictly}
 use Rattle.goblin_pe_import.specs.ImportReadings.{import_record_at}
 use Rattle.goblin_pe_import.specs.ImportRecords.{import_slots, is_last_record}
 use Rattle.goblin_pe_import.specs.added.ImportWalks.{no_imports}
-use Rattle.goblin_pe_import.specs.added.Libraries.{IsEndCause, IsLibrariesCause, LibraryValue, at_record, libraries_bytes, libraries_format, libraries_from_record, libraries_left, libraries_map, libraries_next, library_at, library_value}
+use Rattle.goblin_pe_import.specs.added.Libraries.{AreLibrariesOver, IsLibrariesCause, LibraryValue, at_record, directory_records, libraries_bytes, libraries_format, libraries_left, libraries_map, libraries_next, library_at, library_value}
 use Rattle.goblin_pe_import.specs.declared.import.directory_entry.ImportDirectoryEntry.{ImportDirectoryEntry}
 use Rattle.goblin_pe_import.specs.declared.added.library_walk.Libraries.{Libraries}
 use Rattle.goblin_pe_import.specs.declared.added.library_walk.WalkedLibrary.{WalkedLibrary}
@@ -19,6 +19,10 @@ use Rattle.goblin_pe_import.specs.declared.added.library_walk.WalkedLibrary.{Wal
 pub ended-left : (s : Libraries) → s.at ≡ no_imports → libraries_left s ≡ []
 unfolding libraries_next
 ended-left s is = rw is refl
+
+pub same-over : (t : Libraries)
+    → AreLibrariesOver (libraries_map t) (libraries_format t) (libraries_bytes t) t
+same-over t = record { bytes_are = refl; map_is = refl; format_is = refl }
 
 module _ (s : Libraries) where
   abbrev strict : Bool
@@ -36,7 +40,7 @@ module _ (s : Libraries) where
       libraries_next strict (libraries_format s) (libraries_map s).addressing bytes s.at.first_record next
 
   abbrev IsEnd : Option ℕ → ErrorOf → Type 0
-  IsEnd next e = IsEndCause strict bytes next e
+  IsEnd next e = IsSomeAnd next (λ p. (directory_records strict p).IsCause bytes e)
 
   pub none-left : s.at.next_record ≡ None → libraries_left s ≡ []
   unfolding libraries_next
@@ -51,7 +55,7 @@ module _ (s : Libraries) where
 
     by_record : (entry : Option ImportDirectoryEntry) → reads import_slots bytes p ≡ entry
         → libraries_left s ≡ from_slot strict is_last_record items next entry
-    unfolding libraries_next libraries_from_record
+    unfolding libraries_next
     by_record entry r =
         ap left is
         ∙ walk-slot import_slots (λ p r. Some (library p r) ∷ []) bytes strict (lit≤ tt) p entry r
@@ -68,7 +72,7 @@ module _ (s : Libraries) where
 
     -- at most the last of them is a refusal
     once : until_refused next ≡ next
-    unfolding libraries_next libraries_from_record table_walk
+    unfolding libraries_next table_walk
     once = until_refused-later [] _
 
     -- the directory ends here

@@ -1,7 +1,6 @@
 -- The steps that a walk over imports takes.
-use Rattle.std.proofs.Common.{◌≡◌, ◌⊎◌, ◌≤◌, ◌+◌, ◌-◌, ◌/◌, ℕ, Bool, true, false, List, length, Option, Some, None, refl, sym, subst, ap, ◌∙◌, arith, inl, inr, lit≤, IfOk, Ok, Result}
+use Rattle.std.proofs.Common.{◌≡◌, ◌⊎◌, ◌≤◌, ◌+◌, ◌-◌, ◌/◌, ℕ, Bool, true, false, List, length, Option, Some, None, refl, sym, subst, ap, ◌∙◌, arith, inl, inr, lit≤}
 use Rattle.std.proofs.lemmas.Bool.{cases_lt}
-use Rattle.goblin_base.specs.declared.error.ErrorOf.{ErrorOf}
 use Rattle.goblin_base.specs.Tables.{Format, SlotFormat, ends_table, slot_at, stop}
 use Rattle.goblin_base.proofs.Below.{least-le}
 use Rattle.goblin_base.proofs.SlotTables.{ends, reach-stop, reads}
@@ -18,7 +17,6 @@ use Rattle.goblin_pe_import.specs.added.ImportWalks.{is_skipped, no_imports}
 use Rattle.goblin_pe_import.specs.declared.import.directory_entry.ImportDirectoryEntry.{ImportDirectoryEntry}
 use Rattle.goblin_pe_import.specs.declared.added.imports.Walk.{Walk}
 use Rattle.goblin_pe_sect.specs.Addresses.{map_of, reads_strictly, Addressing}
-use Rattle.goblin_pe_sect.specs.declared.address_map.AddressMap.{AddressMap}
 use Rattle.goblin_pe_import.proofs.SlotSteps.{sum-first}
 
 -- ---- the slots before a stop
@@ -131,31 +129,23 @@ module _ (format : Format EntryValue) (s : Walk) where
       let none = sum-here import_slots (record_steps strict format places s.bytes.now) s.bytes.now p (lit≤ tt) end r z in
       (omega (arith, is, none), omega (arith, is, few))
 
-  -- the walk goes on at t, in the library of the record at p
-  pub library-counted : (p : ℕ) (v : ImportDirectoryEntry) (t : Walk) (tested entered : ℕ)
-      → reads import_slots s.bytes.now p ≡ Some v → is_last_record v ≡ false
-      → t.bytes.now ≡ s.bytes.now → t.finder ≡ s.finder → t.at.next_record ≡ Some (p + 20)
+  -- the walk goes on in the library of the record at p, or past it
+  pub library-counted : (p : ℕ) (v : ImportDirectoryEntry) (tested looked : ℕ)
+      (place pending : Option ℕ) → reads import_slots s.bytes.now p ≡ Some v
+      → is_last_record v ≡ false
       → tested ≡ pending_ahead strict format places s.bytes.now s.at.pending
-      → entered ≡ 1 + tested_ahead strict format places s.bytes.now (address_table_rva v)
-      → entered + slots_ahead format s.bytes.now t.at.place
-      + pending_ahead strict format places s.bytes.now t.at.pending
+      → looked ≡ tested_ahead strict format places s.bytes.now (address_table_rva v)
+      → looked + 1 + slots_ahead format s.bytes.now place
+      + pending_ahead strict format places s.bytes.now pending
       ≡ record_steps strict format places s.bytes.now v
-      → (tested + entered + walk_ahead format t ≡ later (Some p))
-      × (tested + entered ≤ length s.bytes.now + 1)
-  library-counted p v t tested entered r going bytes finder next first one counted =
-      let ahead : walk_ahead format t ≡ walked s.finder s.bytes.now (Some (p + 20)) =
-      ap (λ (f : AddressMap). walked f t.bytes.now t.at.next_record) finder
-      ∙ ap (λ (b : List ℕ). walked s.finder b t.at.next_record) bytes
-      ∙ ap (λ (n : Option ℕ). walked s.finder s.bytes.now n) next in
+      → (tested + looked + 1 + (slots_ahead format s.bytes.now place
+      + later_ahead strict format places s.bytes.now pending (Some (p + 20))) ≡ later (Some p))
+      × (tested + looked + 1 ≤ length s.bytes.now + 1)
+  library-counted p v tested looked place pending r going first is counted =
       let sum = sum-first import_slots s.bytes.now p (lit≤ tt) v r going
       (record_steps strict format places s.bytes.now) in
       let few = address-few strict format places s.bytes.now s.at.pending (address_table_rva v) in
-      (omega (arith, ahead, sum, first, counted), omega (arith, few, first, one))
-    where
-      walked : AddressMap → List ℕ → Option ℕ → ℕ
-      walked f b n =
-          slots_ahead format b t.at.place
-          + later_ahead (reads_strictly (map_of f)) format (map_of f).addressing b t.at.pending n
+      (omega (arith, sum, first, counted), omega (arith, few, first, is))
 
 -- ---- what a limit has left
 
@@ -232,7 +222,3 @@ pub place-ended : (place steps : Option ℕ) → (place ≡ None) ⊎ IsOut step
 place-ended place steps (inl is) has = is
 place-ended place None (inr out) has = absurd out
 place-ended place (Some left) (inr out) has = absurd (omega (arith, out, has))
-
--- what holds of a value that a call has answered
-pub of_ok : {A : Type 0} (P : A → Type 0) (r : Result A ErrorOf) (x : A) → r ≡ Ok x → IfOk r P → P x
-of_ok {A} P r x is holds = subst (λ (q : Result A ErrorOf). IfOk q P) is holds

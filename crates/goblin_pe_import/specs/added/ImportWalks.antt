@@ -1,7 +1,8 @@
 -- The walk over all imports: what is still to come.
 use Rattle.std.specs.Prelude.{◌≡◌, ◌+◌, ◌-◌, ◌*◌, ◌/◌, not, [], ◌∷◌, map, Some, None, Ok, Err}
 use Rattle.std.specs.Prelude.{ℕ, if◌then◌else◌, length, option_map, unwrap_or, is_none, MatchOption}
-use Rattle.std.specs.Prelude.{Bool, ◌&&◌, true, false, List, ◌++◌, Option, Result, IfErr, IfSome}
+use Rattle.std.specs.Prelude.{Bool, ◌&&◌, true, List, ◌++◌, Option, Result, IfErr, IfSome, IsSomeAnd}
+use Rattle.std.specs.Option.{option_len}
 use Rattle.goblin_base.specs.declared.error.ErrorOf.{ErrorOf}
 use Rattle.goblin_base.specs.Answers.{FirstFault, IsMemory, all_of}
 use Rattle.goblin_base.specs.Reading.{Reading}
@@ -13,9 +14,8 @@ use Rattle.goblin_pe_sect.specs.AddressReadings.{at_address, name_at}
 use Rattle.goblin_pe_sect.specs.Addresses.{Addressing, MapOfAddresses, map_of, reads_strictly}
 use Rattle.goblin_pe_import.specs.ImportEntries.{EntryValue}
 use Rattle.goblin_pe_import.specs.ImportLookup.{entry_model}
-use Rattle.goblin_pe_import.specs.ImportReadings.{import_record_at, libraries_at}
-use Rattle.goblin_pe_import.specs.ImportRecords.{address_table_rva, import_slots, is_last_record}
-use Rattle.goblin_pe_import.specs.ImportRecords.{lookup_offset}
+use Rattle.goblin_pe_import.specs.ImportReadings.{libraries_at}
+use Rattle.goblin_pe_import.specs.ImportRecords.{address_table_rva, import_slots, lookup_offset}
 use Rattle.goblin_pe_import.specs.Imports.{NumberedImport, at_library, import_of}
 use Rattle.goblin_pe_import.specs.LookupReadings.{address_table}
 use Rattle.goblin_pe_import.specs.declared.import.directory_entry.ImportDirectoryEntry.{ImportDirectoryEntry}
@@ -39,13 +39,6 @@ abbrev pub kept_import : ℕ → ℕ → List ℕ → ℕ → ℕ → KeptValue 
 kept_import width index dll rva o kept =
     at_library index (import_of dll kept.slot (rva + (kept.place - o)) width kept.entry)
 
--- the imports of the entries from a place on
-abbrev pub imports_of_entries : Bool → Format EntryValue → Addressing → List ℕ → ℕ → List ℕ → ℕ
-    → ℕ → Option ℕ → List (Option NumberedImport)
-imports_of_entries strict format addressing bytes index dll rva o place =
-    map (option_map (kept_import format.width index dll rva o))
-    (entries_from strict format addressing bytes o place)
-
 -- the name of a descriptor's library
 abbrev pub library_name : Bool → Addressing → ImportDirectoryEntry → Reading (List ℕ)
 library_name strict addressing r = or_else strict [] (name_at addressing r.name_rva)
@@ -63,114 +56,9 @@ pending_table strict format addressing None = given []
 pending_table strict format addressing (Some rva) =
     pick strict (at_address addressing.offset rva (address_table format)) (given [])
 
--- the imports of a library of this name, then a refusal if strict mode cannot read its address
--- table; without a name only a refusal
-abbrev pub named_items : Bool → Format EntryValue → Addressing → List ℕ → ℕ
-    → ImportDirectoryEntry → Option (List ℕ) → List (Option NumberedImport)
-named_items strict format addressing bytes index r None = None ∷ []
-named_items strict format addressing bytes index r (Some dll) =
-    let table = lookup_offset addressing r in
-    let addresses = pending_table strict format addressing (Some (address_table_rva r)) in
-    imports_of_entries strict format addressing bytes index dll r.import_address_table_rva
-    (unwrap_or table 0) table
-    ++ refusal_of (addresses.value bytes)
-
--- whether a walk skips a library, as it does in permissive mode if its address table cannot be read
-abbrev pub is_skipped : Bool → Format EntryValue → Addressing → List ℕ
-    → ImportDirectoryEntry → Bool
-is_skipped strict format addressing bytes r =
-    not strict && is_none ((addresses_of format addressing r).value bytes)
-
--- What comes of the library of the descriptor with an index: its name is needed, then its imports
--- come, then strict mode needs its address table. Permissive mode needs that table first, and
--- leaves out the library without it.
-unfoldable pub library_items : Bool → Format EntryValue → Addressing → List ℕ → ℕ
-    → ImportDirectoryEntry → List (Option NumberedImport)
-library_items strict format addressing bytes index r =
-    if is_skipped strict format addressing bytes r then []
-    else named_items strict format addressing bytes index r
-    ((library_name strict addressing r).value bytes)
-
--- ---- all imports
-
 -- the index of the descriptor at p in a directory whose first one is at `first`
 abbrev pub record_index : ℕ → ℕ → ℕ
 record_index first p = (p - first) / 20
-
--- the imports of the libraries whose descriptors are in this directory from a place on
-unfoldable pub imports_from_record : Bool → Format EntryValue → Addressing → List ℕ → ℕ → ℕ
-    → List (Option NumberedImport)
-imports_from_record strict format addressing bytes first p =
-    table_walk import_slots strict
-    (λ p r. library_items strict format addressing bytes (record_index first p) r) bytes p
-
--- the imports from the next descriptor on, if there is one
-unfoldable pub imports_next : Bool → Format EntryValue → Addressing → List ℕ → ℕ → Option ℕ
-    → List (Option NumberedImport)
-imports_next strict format addressing bytes first None = []
-imports_next strict format addressing bytes first (Some p) =
-    imports_from_record strict format addressing bytes first p
-
--- the cause that is true if one of the libraries whose descriptors are in the directory from a
--- place on is refused
-abbrev pub IsRecordsCause : Bool → Format EntryValue → Addressing → List ℕ → ℕ → ErrorOf
-    → Type 0
-IsRecordsCause strict format addressing bytes p e =
-    (libraries_at strict format addressing p).IsCause bytes e
-
--- The cause that is true if a library that has a name is refused, or else what comes later: that of
--- its lookup table, then that of its address table, then the later one.
-abbrev pub IsNamedCause : Bool → Format EntryValue → Addressing → List ℕ
-    → ImportDirectoryEntry → (IsLater : ErrorOf → Type 0) → ErrorOf → Type 0
-IsNamedCause strict format addressing bytes r IsLater e =
-    let table = lookup_offset addressing r in
-    let addresses = pending_table strict format addressing (Some (address_table_rva r)) in
-    FirstFault (all_of (entries_from strict format addressing bytes (unwrap_or table 0) table))
-    (IsEntriesCause strict format addressing bytes table)
-    (λ _. FirstFault (addresses.value bytes) (addresses.IsCause bytes) (λ _. IsLater)) e
-
--- the cause that is true if there is no descriptor at p, or if its library is refused, or else what
--- comes later
-abbrev pub IsRecordCause : Bool → Format EntryValue → Addressing → List ℕ → ℕ
-    → Option ImportDirectoryEntry → ErrorOf → Type 0
-IsRecordCause strict format addressing bytes p None e = (import_record_at p).IsCause bytes e
-IsRecordCause strict format addressing bytes p (Some r) e =
-    let name = library_name strict addressing r in
-    (is_last_record r ≡ false)
-    × FirstFault (name.value bytes) (name.IsCause bytes)
-    (λ _. IsNamedCause strict format addressing bytes r
-    (IsRecordsCause strict format addressing bytes (p + 20))) e
-
--- the cause that is true if what comes from the next descriptor on is refused
-abbrev pub IsNextCause : Bool → Format EntryValue → Addressing → List ℕ → Option ℕ → ErrorOf
-    → Type 0
-IsNextCause strict format addressing bytes None e = ⊥
-IsNextCause strict format addressing bytes (Some p) e =
-    IsRecordsCause strict format addressing bytes p e
-
--- ---- how many more may come
-
--- an upper bound of what comes from the next descriptor on: for each descriptor that may be left, a
--- whole file of entries, a refusal of their table and one of the address table
-abbrev pub bound_next : List ℕ → Option ℕ → ℕ
-bound_next bytes next = (length bytes + 2) * slots_bound bytes next
-
--- ---- the walk, by what it holds of the library that it is in
-
--- what comes once the entries of a library have come: a refusal if its address table is still to be
--- tested and cannot be read, then the imports from the next descriptor on
-abbrev pub later_items : Bool → Format EntryValue → Addressing → List ℕ → Option ℕ → ℕ
-    → Option ℕ → List (Option NumberedImport)
-later_items strict format addressing bytes pending first next =
-    refusal_of ((pending_table strict format addressing pending).value bytes)
-    ++ imports_next strict format addressing bytes first next
-
-abbrev pub IsLaterCause : Bool → Format EntryValue → Addressing → List ℕ → Option ℕ
-    → Option ℕ → ErrorOf → Type 0
-IsLaterCause strict format addressing bytes pending next e =
-    let table = pending_table strict format addressing pending in
-    FirstFault (table.value bytes) (table.IsCause bytes)
-    (λ _. IsNextCause strict format addressing bytes next) e
 
 -- the cursor at the end
 abbrev pub no_imports : ImportCursor
@@ -185,14 +73,85 @@ no_imports = record {
   pending = None;
 }
 
--- what is still to come at a cursor, if the library there has this name
-abbrev pub items_left : Bool → Format EntryValue → Addressing → List ℕ → List ℕ → ImportCursor
-    → List (Option NumberedImport)
-items_left strict format addressing bytes dll c =
-    until_refused
-    (imports_of_entries strict format addressing bytes c.library dll c.rva c.table_offset
-    c.place
-    ++ later_items strict format addressing bytes c.pending c.first_record c.next_record)
+module _ (strict : Bool) (format : Format EntryValue) (addressing : Addressing)
+    (bytes : List ℕ) where
+  -- the imports of the entries from a place on
+  abbrev pub imports_of_entries : ℕ → List ℕ → ℕ → ℕ → Option ℕ → List (Option NumberedImport)
+  imports_of_entries index dll rva o place =
+      map (option_map (kept_import format.width index dll rva o))
+      (entries_from strict format addressing bytes o place)
+
+  -- whether a walk skips a library, as it does in permissive mode if its address table cannot be
+  -- read
+  abbrev pub is_skipped : ImportDirectoryEntry → Bool
+  is_skipped r = not strict && is_none ((addresses_of format addressing r).value bytes)
+
+  -- What comes of the library of the descriptor with an index: its name is needed, then its imports
+  -- come, then strict mode needs its address table. Permissive mode needs that table first, and
+  -- leaves out the library without it.
+  unfoldable pub library_items : ℕ → ImportDirectoryEntry → List (Option NumberedImport)
+  library_items index r =
+      let table = lookup_offset addressing r in
+      let o = unwrap_or table 0 in
+      let addresses = pending_table strict format addressing (Some (address_table_rva r)) in
+      if is_skipped r then []
+      else unwrap_or
+      (option_map
+      (λ dll. imports_of_entries index dll r.import_address_table_rva o table
+      ++ refusal_of (addresses.value bytes))
+      ((library_name strict addressing r).value bytes))
+      (None ∷ [])
+
+  -- the imports of the libraries whose descriptors are in this directory from a place on
+  unfoldable pub imports_from_record : ℕ → ℕ → List (Option NumberedImport)
+  imports_from_record first p =
+      table_walk import_slots strict (λ p r. library_items (record_index first p) r) bytes p
+
+  -- the imports from the next descriptor on, if there is one
+  unfoldable pub imports_next : ℕ → Option ℕ → List (Option NumberedImport)
+  imports_next first None = []
+  imports_next first (Some p) = imports_from_record first p
+
+  -- the cause that is true if one of the libraries whose descriptors are in the directory from a
+  -- place on is refused
+  abbrev pub IsRecordsCause : ℕ → ErrorOf → Type 0
+  IsRecordsCause p e = (libraries_at strict format addressing p).IsCause bytes e
+
+  -- The cause that is true if a library that has a name is refused, or else what comes later: that
+  -- of its lookup table, then that of its address table, then the later one.
+  abbrev pub IsNamedCause : ImportDirectoryEntry → (IsLater : ErrorOf → Type 0) → ErrorOf → Type 0
+  IsNamedCause r IsLater e =
+      let table = lookup_offset addressing r in
+      let addresses = pending_table strict format addressing (Some (address_table_rva r)) in
+      FirstFault (all_of (entries_from strict format addressing bytes (unwrap_or table 0) table))
+      (IsEntriesCause strict format addressing bytes table)
+      (λ _. FirstFault (addresses.value bytes) (addresses.IsCause bytes) (λ _. IsLater)) e
+
+  -- what comes once the entries of a library have come: a refusal if its address table is still to
+  -- be tested and cannot be read, then the imports from the next descriptor on
+  abbrev pub later_items : Option ℕ → ℕ → Option ℕ → List (Option NumberedImport)
+  later_items pending first next =
+      refusal_of ((pending_table strict format addressing pending).value bytes)
+      ++ imports_next first next
+
+  -- the cause that is true if it is refused
+  abbrev pub IsLaterCause : Option ℕ → Option ℕ → ErrorOf → Type 0
+  IsLaterCause pending next e =
+      let table = pending_table strict format addressing pending in
+      FirstFault (table.value bytes) (table.IsCause bytes)
+      (λ _ e. IsSomeAnd next (λ p. IsRecordsCause p e)) e
+
+  -- what is still to come at a cursor, if the library there has this name
+  abbrev pub items_left : List ℕ → ImportCursor → List (Option NumberedImport)
+  items_left dll c =
+      until_refused
+      (imports_of_entries c.library dll c.rva c.table_offset c.place
+      ++ later_items c.pending c.first_record c.next_record)
+
+-- an upper bound of what comes from the next descriptor on: for each descriptor that may be left, a
+-- whole file of entries, a refusal of their table and one of the address table
+abbrev pub bound_next : List ℕ → Option ℕ → ℕ
+bound_next bytes next = (length bytes + 2) * slots_bound bytes next
 
 -- the name of the library that a cursor is in; empty if it can't be read
 abbrev pub cursor_dll : Addressing → List ℕ → ImportCursor → List ℕ
@@ -232,30 +191,36 @@ abbrev pub IsNamed : Walk → Type 0
 IsNamed w =
     IsNamedAt w.at.place w.dll.now (cursor_dll (map_of w.finder).addressing w.bytes.now w.at)
 
--- how many refusals may come of an address table that is still to be tested
-abbrev pub one_if : Option ℕ → ℕ
-one_if None = 0
-one_if (Some rva) = 1
-
+-- an upper bound of the number of imports to come
 abbrev pub walk_bound : Walk → ℕ
 walk_bound w =
-    slots_bound w.bytes.now w.at.place + one_if w.at.pending
+    slots_bound w.bytes.now w.at.place + option_len w.at.pending
     + bound_next w.bytes.now w.at.next_record
 
--- Once the entries of a library have come, the walk goes on at t. `later` is what is to come then,
--- and `IsCause` says which cause is true if a refusal is among it.
-abbrev pub GivesLibrary : {S A : Type 0} → (S → List (Option A)) → (S → ErrorOf → Type 0)
-    → List (Option A) → (ErrorOf → Type 0) → Option (Result S ErrorOf) → Type 0
-GivesLibrary left IsLeftCause later IsCause None = until_refused later ≡ []
-GivesLibrary left IsLeftCause later IsCause (Some (Ok t)) =
-    (left t ≡ until_refused later) × ((e : ErrorOf) → IsLeftCause t e → IsCause e)
-GivesLibrary left IsLeftCause later IsCause (Some (Err e)) =
-    (until_refused later ≡ None ∷ []) × IsCause e
+-- what comes once the entries of the library that a walk is in have come
+abbrev pub later_left : Format EntryValue → Walk → List (Option NumberedImport)
+later_left format w =
+    let m = map_of w.finder in
+    until_refused
+    (later_items (reads_strictly m) format m.addressing w.bytes.now w.at.pending w.at.first_record
+    w.at.next_record)
 
--- the answer of a call, with the walk as the call has left it
-abbrev pub walk_answer : {X : Type 0} → Walk → Result X ErrorOf → Result Walk ErrorOf
-walk_answer t (Ok x) = Ok t
-walk_answer t (Err e) = Err e
+abbrev pub IsLaterLeftCause : Format EntryValue → Walk → ErrorOf → Type 0
+IsLaterLeftCause format w e =
+    let m = map_of w.finder in
+    (reads_strictly m ≡ true)
+    × IsLaterCause (reads_strictly m) format m.addressing w.bytes.now w.at.pending w.at.next_record e
+
+-- Once the entries of the library that the walk s is in have come, a call moves the walk to the
+-- next library, where it is t. Or there is no other library, or the call is refused.
+abbrev pub GivesLibrary : {X : Type 0} → Format EntryValue → Walk → Option (Result X ErrorOf) → Walk
+    → Type 0
+GivesLibrary format s None t = later_left format s ≡ []
+GivesLibrary format s (Some (Ok x)) t =
+    (walk_left format t ≡ later_left format s)
+    × ((e : ErrorOf) → IsWalkCause format t e → IsLaterLeftCause format s e)
+GivesLibrary format s (Some (Err e)) t =
+    (later_left format s ≡ None ∷ []) × IsLaterLeftCause format s e
 
 -- ---- the walk as callers see it
 

@@ -59,30 +59,26 @@ abbrev pub entries_of_directory : (EntryValue → Bool) → Format EntryValue �
 entries_of_directory test format addressing bytes o =
     sum_of_slots import_slots (entries_of_record test format addressing bytes) bytes o
 
--- How much is left out of the directory at an offset: libraries and entries in permissive mode, and
--- entries that lead nowhere in either mode.
+-- how many libraries are left out of the directory at an offset
 abbrev pub libraries_of_directory : Format EntryValue → Addressing → List ℕ → ℕ → ℕ
 libraries_of_directory format addressing bytes o =
     sum_of_slots import_slots
     (λ r. from_bool (is_library_left_out (o == 0) format addressing bytes r)) bytes o
 
-abbrev pub left_out_of_directory : Format EntryValue → Addressing → List ℕ → ℕ → ℕ
-left_out_of_directory format addressing bytes o =
-    entries_of_directory (is_entry_left_out (o == 0) addressing bytes) format addressing bytes o
-
-abbrev pub unmapped_of_directory : Format EntryValue → Addressing → List ℕ → ℕ → ℕ
-unmapped_of_directory format addressing bytes o =
-    entries_of_directory (is_unmapped addressing) format addressing bytes o
-
--- the same for the directory at an address; nothing if the address has no offset
+-- How much is left out of the directory at an address: libraries and entries in permissive mode,
+-- and entries that lead nowhere in either mode; nothing if the address has no offset.
 abbrev pub libraries_left_out : Format EntryValue → Addressing → List ℕ → ℕ → ℕ
 libraries_left_out format addressing bytes rva =
     amount_of (libraries_of_directory format addressing bytes) (addressing.offset rva)
 
 abbrev pub entries_left_out : Format EntryValue → Addressing → List ℕ → ℕ → ℕ
 entries_left_out format addressing bytes rva =
-    amount_of (left_out_of_directory format addressing bytes) (addressing.offset rva)
+    amount_of
+    (λ o. entries_of_directory (is_entry_left_out (o == 0) addressing bytes) format addressing bytes
+    o)
+    (addressing.offset rva)
 
 abbrev pub unmapped_entries : Format EntryValue → Addressing → List ℕ → ℕ → ℕ
 unmapped_entries format addressing bytes rva =
-    amount_of (unmapped_of_directory format addressing bytes) (addressing.offset rva)
+    amount_of (entries_of_directory (is_unmapped addressing) format addressing bytes)
+    (addressing.offset rva)

@@ -1,7 +1,7 @@
 -- The walk over the libraries of an import directory: what is still to come.
 use Rattle.std.specs.Prelude.{◌≡◌, ℕ, Bool, ◌&&◌, not, if◌then◌else◌, List, [], ◌∷◌, Option}
 use Rattle.std.specs.Prelude.{Some, None, unwrap_or, Result, Err, IfErr, IfOk, IfSome, MatchOption}
-use Rattle.std.specs.Prelude.{◌+◌, ◌==◌}
+use Rattle.std.specs.Prelude.{◌+◌, ◌==◌, IsSomeAnd}
 use Rattle.std.specs.Option.{ok_or}
 use Rattle.std.specs.Result.{result_map_both}
 use Rattle.goblin_base.specs.declared.error.ErrorOf.{ErrorOf}
@@ -90,20 +90,14 @@ inside_library strict addressing x =
 
 -- ---- all libraries
 
--- One library for each descriptor of a directory from a place on, before the first that is not in
--- the file or ends the directory. Strict mode needs that descriptor.
-unfoldable pub libraries_from_record : Bool → Format EntryValue → Addressing → List ℕ → ℕ → ℕ
-    → List (Option LibraryValue)
-libraries_from_record strict format addressing bytes first p =
-    table_walk import_slots strict
-    (λ p r. Some (library_at format addressing bytes first p r) ∷ []) bytes p
-
--- the libraries from the next descriptor on, if there is one
+-- One library for each descriptor of a directory from the next one on, if there is one, before the
+-- first that is not in the file or ends the directory. Strict mode needs that descriptor.
 unfoldable pub libraries_next : Bool → Format EntryValue → Addressing → List ℕ → ℕ → Option ℕ
     → List (Option LibraryValue)
 libraries_next strict format addressing bytes first None = []
 libraries_next strict format addressing bytes first (Some p) =
-    libraries_from_record strict format addressing bytes first p
+    table_walk import_slots strict
+    (λ p r. Some (library_at format addressing bytes first p r) ∷ []) bytes p
 
 -- the libraries whose descriptors come next at a cursor; a library that the cursor is in has come
 abbrev pub cursor_libraries : MapOfAddresses → Format EntryValue → List ℕ → ImportCursor
@@ -117,12 +111,9 @@ abbrev pub directory_records : Bool → ℕ → Reading (List ImportDirectoryEnt
 directory_records strict p = table import_slots strict import_record_at (λ r. given (r ∷ [])) p
 
 -- the cause that is true if a refusal is among them: the directory reaches the end of the file
-abbrev pub IsEndCause : Bool → List ℕ → Option ℕ → ErrorOf → Type 0
-IsEndCause strict bytes None e = ⊥
-IsEndCause strict bytes (Some p) e = (directory_records strict p).IsCause bytes e
-
 abbrev pub IsCursorEndCause : MapOfAddresses → List ℕ → ImportCursor → ErrorOf → Type 0
-IsCursorEndCause m bytes c e = IsEndCause (reads_strictly m) bytes c.next_record e
+IsCursorEndCause m bytes c e =
+    IsSomeAnd c.next_record (λ p. (directory_records (reads_strictly m) p).IsCause bytes e)
 
 -- ---- the walk
 

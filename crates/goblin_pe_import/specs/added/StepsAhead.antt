@@ -25,33 +25,32 @@ use Rattle.goblin_pe_import.specs.Steps.{slots_ahead, HasNotGrown, AreCounted, G
 abbrev pub slots_at_address : Format EntryValue → Addressing → List ℕ → ℕ → ℕ
 slots_at_address format addressing bytes rva = slots_ahead format bytes (addressing.offset rva)
 
--- how many slots an address table has that is tested after its library's entries, as in strict mode
-abbrev pub pending_ahead : Bool → Format EntryValue → Addressing → List ℕ → Option ℕ → ℕ
-pending_ahead strict format addressing bytes pending =
-    if strict then amount_of (slots_at_address format addressing bytes) pending else 0
+module _ (strict : Bool) (format : Format EntryValue) (addressing : Addressing)
+    (bytes : List ℕ) where
+  -- how many slots an address table has that is tested after its library's entries, as in strict
+  -- mode
+  abbrev pub pending_ahead : Option ℕ → ℕ
+  pending_ahead pending =
+      if strict then amount_of (slots_at_address format addressing bytes) pending else 0
 
--- how many slots an address table has that is tested before them, as in permissive mode
-abbrev pub tested_ahead : Bool → Format EntryValue → Addressing → List ℕ → ℕ → ℕ
-tested_ahead strict format addressing bytes rva =
-    if strict then 0 else slots_at_address format addressing bytes rva
+  -- how many slots an address table has that is tested before them, as in permissive mode
+  abbrev pub tested_ahead : ℕ → ℕ
+  tested_ahead rva = if strict then 0 else slots_at_address format addressing bytes rva
 
--- A descriptor is one step. Then come the slots of its library's address table and, if the library
--- is not left out, those of its lookup table.
-unfoldable pub record_steps : Bool → Format EntryValue → Addressing → List ℕ
-    → ImportDirectoryEntry → ℕ
-record_steps strict format addressing bytes r =
-    1 + tested_ahead strict format addressing bytes (address_table_rva r)
-    + (if is_skipped strict format addressing bytes r then 0
-    else slots_ahead format bytes (lookup_offset addressing r)
-    + pending_ahead strict format addressing bytes (Some (address_table_rva r)))
+  -- A descriptor is one step. Then come the slots of its library's address table and, if the
+  -- library is not left out, those of its lookup table.
+  unfoldable pub record_steps : ImportDirectoryEntry → ℕ
+  record_steps r =
+      1 + tested_ahead (address_table_rva r)
+      + (if is_skipped strict format addressing bytes r then 0
+      else slots_ahead format bytes (lookup_offset addressing r)
+      + pending_ahead (Some (address_table_rva r)))
 
--- How many steps are ahead once the entries of a library have come. At last come those of the
--- directory's descriptors, from the next one on.
-abbrev pub later_ahead : Bool → Format EntryValue → Addressing → List ℕ → Option ℕ → Option ℕ
-    → ℕ
-later_ahead strict format addressing bytes pending next =
-    pending_ahead strict format addressing bytes pending
-    + amount_of (sum_of_slots import_slots (record_steps strict format addressing bytes) bytes) next
+  -- How many steps are ahead once the entries of a library have come. At last come those of the
+  -- directory's descriptors, from the next one on.
+  abbrev pub later_ahead : Option ℕ → Option ℕ → ℕ
+  later_ahead pending next =
+      pending_ahead pending + amount_of (sum_of_slots import_slots record_steps bytes) next
 
 -- How many steps a walk takes from a cursor to its end.
 abbrev pub cursor_ahead : MapOfAddresses → Format EntryValue → List ℕ → ImportCursor → ℕ

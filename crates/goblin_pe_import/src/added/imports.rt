@@ -1,16 +1,16 @@
 //! A walk over all imports of an image.
 
-ghost use Rattle.std.specs.Prelude.{◌≡◌, ◌+◌, ◌-◌, ◌<◌, ◌≤◌, ◌^◌, ◌∷◌, ◌++◌, [], IfErr, IfOk};
-ghost use Rattle.std.specs.Prelude.{IfSome, MatchOption, MatchResult, None, Some, false, length};
-ghost use Rattle.std.specs.Prelude.{List, option_map, true, ℕ, IsSome, IsOk, Ok, suc};
+ghost use Rattle.std.specs.Prelude.{◌≡◌, ◌+◌, ◌-◌, ◌<◌, ◌≤◌, ◌^◌, IfErr, IfOk, IfSome, MatchOption};
+ghost use Rattle.std.specs.Prelude.{None, Some, false, length, List, true, ℕ, IsSome, IsOk, Ok};
+ghost use Rattle.std.specs.Prelude.{suc};
 ghost use Rattle.std.specs.Iterator.{UpTo, at_most};
 ghost use Rattle.std.specs.Iterator.SizeHint.{IsWithinCount};
 ghost use Rattle.std.specs.List.{flat_map};
+ghost use Rattle.std.specs.Option.{option_len};
 ghost use Rattle.goblin_base.specs.declared.error.ErrorOf.{ErrorOf};
-ghost use Rattle.goblin_base.specs.Answers.{FirstFault};
-ghost use Rattle.goblin_base.specs.Reading.{IsRefused, Reads};
+ghost use Rattle.goblin_base.specs.Reading.{Reads};
 ghost use Rattle.readings.specs.Reads.{mapped};
-ghost use Rattle.readings.specs.Walks.{GivesNext, IsWalkOf, Walks, until_refused};
+ghost use Rattle.readings.specs.Walks.{GivesNext, IsWalkOf, Walks};
 ghost use Rattle.goblin_pe_sect.specs.Addresses.{map_of, reads_strictly};
 ghost use Rattle.goblin_pe_import.specs.added.ImportCursors.{BeginsAt, before_record, first_import};
 ghost use Rattle.goblin_pe_import.specs.ImportReadings.{indexed_at, numbered_data};
@@ -19,28 +19,23 @@ ghost use Rattle.goblin_pe_import.specs.Imports.{numbered_imports};
 ghost use Rattle.goblin_pe_import.specs.added.ImportWalks.{GivesImport, GivesLibrary, GivesAscii};
 ghost use Rattle.goblin_pe_import.specs.added.ImportWalks.{HasName, IsCursorCause, IsNamed};
 ghost use Rattle.goblin_pe_import.specs.added.ImportWalks.{IsWalkAt, IsImportsCause, cursor_left};
-ghost use Rattle.goblin_pe_import.specs.added.ImportWalks.{cursor_of, IsLaterCause, IsNamedCause};
-ghost use Rattle.goblin_pe_import.specs.added.ImportWalks.{IsRecordsCause, IsWalkCause, is_skipped};
+ghost use Rattle.goblin_pe_import.specs.added.ImportWalks.{cursor_of, IsWalkCause, is_skipped};
 ghost use Rattle.goblin_pe_import.specs.added.ImportWalks.{bound_next, imports_bound, imports_map};
-ghost use Rattle.goblin_pe_import.specs.added.ImportWalks.{imports_bytes, imports_from_record};
-ghost use Rattle.goblin_pe_import.specs.added.ImportWalks.{imports_left, kept_import, no_imports};
+ghost use Rattle.goblin_pe_import.specs.added.ImportWalks.{imports_bytes, imports_left};
+ghost use Rattle.goblin_pe_import.specs.added.ImportWalks.{kept_import, no_imports, finder_of};
+ghost use Rattle.goblin_pe_import.specs.added.ImportWalks.{ascii_at, ascii_walk, walk_at};
+ghost use Rattle.goblin_pe_import.specs.added.ImportWalks.{record_index, pending_table, walk_bound};
+ghost use Rattle.goblin_pe_import.specs.added.ImportWalks.{walk_left, walked_value};
 ghost use Rattle.goblin_pe_import.specs.KeptEntries.{kept_value, slots_bound};
-ghost use Rattle.goblin_pe_import.specs.added.ImportWalks.{later_items, library_items};
-ghost use Rattle.goblin_pe_import.specs.added.ImportWalks.{library_name, one_if};
-ghost use Rattle.goblin_pe_import.specs.added.ImportWalks.{finder_of, ascii_at};
-ghost use Rattle.goblin_pe_import.specs.added.ImportWalks.{ascii_walk, walk_answer, walk_at};
-ghost use Rattle.goblin_pe_import.specs.added.ImportWalks.{record_index};
-ghost use Rattle.goblin_pe_import.specs.added.ImportWalks.{pending_table, walk_bound, walk_left};
-ghost use Rattle.goblin_pe_import.specs.added.ImportWalks.{walked_value};
 ghost use Rattle.goblin_pe_import.specs.ImportRecords.{address_table_rva};
 ghost use Rattle.goblin_pe_import.specs.added.StepsAhead.{EndsWithin, GivesImportWithin};
-ghost use Rattle.goblin_pe_import.specs.Steps.{GivesWithin, HasNotGrown, slots_ahead};
 ghost use Rattle.goblin_pe_import.specs.added.StepsAhead.{HaveRunOut, LooksAt, imports_ahead};
-ghost use Rattle.goblin_pe_import.specs.added.StepsAhead.{later_ahead, record_steps, tested_ahead};
-ghost use Rattle.goblin_pe_import.specs.added.StepsAhead.{pending_ahead, walk_ahead};
+ghost use Rattle.goblin_pe_import.specs.added.StepsAhead.{later_ahead, tested_ahead, pending_ahead};
+ghost use Rattle.goblin_pe_import.specs.added.StepsAhead.{walk_ahead};
+ghost use Rattle.goblin_pe_import.specs.Steps.{GivesWithin, HasNotGrown};
 
 use crate::added::ascii::ascii_kept;
-use crate::added::tested::{test_address_table, test_numbers};
+use crate::added::tested::{leads_to_none, test_numbers};
 use crate::import::bitfield::Bitfield;
 use crate::import::directory_entry::{ImportDirectoryEntry, SIZEOF_IMPORT_DIRECTORY_ENTRY};
 use crate::import::kept::{KeptEntry, next_kept_within};
@@ -179,7 +174,7 @@ fn test_pending<'a, 'e, T: Bitfield<'a>>(
         n ≡ pending_ahead (reads_strictly m) T.format m.addressing bytes.now pending) }
     ensures few { IfOk result (λ n. n ≤ length bytes.now) }
     ensures strictly { IfErr result (λ e. reads_strictly (map_of finder.old) ≡ true) }
-    ensures there { IfErr result (λ e. 1 ≤ one_if pending) }
+    ensures there { IfErr result (λ e. 1 ≤ option_len pending) }
     ensures wide { 1 ≤ T.format.width }
     ensures same { finder.new ≡ finder.old }
 {
@@ -216,35 +211,30 @@ fn is_skipped<'a, T: Bitfield<'a>>(
     if address_map.reads_strictly() {
         return (false, 0);
     }
-    let (tested, count) = test_address_table::<T>(bytes, entry, address_map);
-    (tested.is_err(), count)
+    leads_to_none::<T>(bytes, entry, address_map)
 }
 
-// The import of an entry that a lookup table keeps. The library is `dll`, its import descriptor has
-// the index `library`, its address table the address `rva`, and its lookup table lies at
-// `table_offset`.
+// The import of an entry that the lookup table at a cursor keeps. The library is `dll`.
 #[inline(always)]
 fn import_of<'a, T: Bitfield<'a>>(
     kept: KeptEntry<'a>,
     dll: &'a str,
-    library: usize,
-    rva: u32,
-    table_offset: usize,
+    at: &ImportCursor,
 ) -> WalkedImport<'a>
     requires { kept.place < 2 ^ 63 }
-    ensures { walked_value result
-        ≡ kept_import T.format.width library dll.now rva table_offset
+    ensures { let c = at.now in
+        walked_value result
+        ≡ kept_import T.format.width c.library dll.now c.rva c.table_offset
         (kept_value kept.entry) }
 {
     let KeptEntry { slot, place, entry } = kept;
-    let size = T::size_of();
     WalkedImport {
         entry,
         dll,
-        library,
+        library: at.library,
         slot,
-        slot_rva: rva as usize + place.saturating_sub(table_offset),
-        size,
+        slot_rva: at.rva as usize + place.saturating_sub(at.table_offset),
+        size: T::size_of(),
     }
 }
 
@@ -275,98 +265,23 @@ impl<'a, 'm> Walk<'a, 'm> {
         self.at = ImportCursor::end();
     }
 
-    // Moves the walk to the library of `entry`, the import descriptor at `offset`. The descriptors
-    // after it begin at `next`. Returns how many steps this takes.
-    #[inline(always)]
-    fn enter<'e, T: Bitfield<'a>>(
-        &mut self,
-        entry: &ImportDirectoryEntry,
-        offset: usize,
-        next: usize,
-    ) -> ResultOf<'e, usize>
-        ensures gives { let m = map_of self.old.finder in
-            let strict = reads_strictly m in
-            let bytes = self.old.bytes.now in
-            let first = self.old.at.first_record in
-            let name = library_name strict m.addressing entry.now in
-            let index = record_index first offset in
-            let items = library_items strict T.format m.addressing bytes index entry.now in
-            MatchResult (walk_answer self.new result)
-            (λ t.
-            (walk_left T.format t
-            ≡ until_refused
-            (items ++ imports_from_record strict T.format m.addressing bytes first next))
-            × ((e : ErrorOf) → IsWalkCause T.format t e
-            → (strict ≡ true)
-            × FirstFault (name.value bytes) (name.IsCause bytes)
-            (λ _. IsNamedCause strict T.format m.addressing bytes entry.now
-            (IsRecordsCause strict T.format m.addressing bytes next)) e))
-            (λ e. (items ≡ None ∷ [])
-            × (strict ≡ true) × IsRefused name bytes e) }
-        ensures named { IfOk (walk_answer self.new result) IsNamed }
-        ensures bytes { self.new.bytes.now ≡ self.old.bytes.now }
-        ensures finder { self.new.finder ≡ self.old.finder }
-        ensures next { IfOk (walk_answer self.new result) (λ t. t.at.next_record ≡ Some next) }
-        ensures counted { let m = map_of self.old.finder in
-            let strict = reads_strictly m in
-            let bytes = self.old.bytes.now in
-            IfOk result (λ n.
-            n + slots_ahead T.format bytes self.new.at.place
-            + pending_ahead strict T.format m.addressing bytes self.new.at.pending
-            ≡ record_steps strict T.format m.addressing bytes entry.now) }
-        ensures looked { let m = map_of self.old.finder in
-            IfOk result (λ n. n ≡ 1 + tested_ahead (reads_strictly m) T.format m.addressing
-            self.old.bytes.now (address_table_rva entry.now)) }
-        ensures few { IfOk result (λ n. n ≤ length self.old.bytes.now + 1) }
-    {
-        let (is_out, tested) = is_skipped::<T>(self.bytes, entry, self.finder.address_map());
-        if is_out {
-            self.at.next_record = Some(next);
-            self.at.place = None;
-            self.at.pending = None;
-            return Ok(tested + 1);
-        }
-        let first_record = self.at.first_record;
-        self.dll = library_name(self.bytes, entry.name_rva, &mut self.finder)?;
-        let place = lookup_offset(entry, &mut self.finder);
-        self.at = ImportCursor {
-            first_record,
-            next_record: Some(next),
-            library: record_index(first_record, offset),
-            name_rva: entry.name_rva,
-            rva: entry.import_address_table_rva,
-            table_offset: place.unwrap_or(0),
-            place,
-            pending: Some(address_table_rva(entry)),
-        };
-        Ok(tested + 1)
-    }
-
     // Moves the walk to the next library, once it has yielded the entries of this one. Returns how
     // many steps this takes. If there is no other library, it returns `None`, and sets `last` to
     // the number of steps.
     #[inline(always)]
     fn next_library<'e, T: Bitfield<'a>>(&mut self, last: &mut usize) -> Option<ResultOf<'e, usize>>
-        ensures gives { let m = map_of self.old.finder in
-            let bytes = self.old.bytes.now in
-            let c = self.old.at in
-            GivesLibrary (walk_left T.format) (IsWalkCause T.format)
-            (later_items (reads_strictly m) T.format m.addressing bytes c.pending c.first_record
-            c.next_record)
-            (λ e. (reads_strictly m ≡ true)
-            × IsLaterCause (reads_strictly m) T.format m.addressing bytes
-            c.pending c.next_record e) (option_map (walk_answer self.new) result) }
-        ensures named { IfSome (option_map (walk_answer self.new) result) (λ r. IfOk r IsNamed) }
+        ensures gives { GivesLibrary T.format self.old result self.new }
+        ensures named { IfSome result (λ r. IfOk r (λ _. IsNamed self.new)) }
         ensures bytes { self.new.bytes.now ≡ self.old.bytes.now }
         ensures finder { self.new.finder ≡ self.old.finder }
         ensures nearer { let bytes = self.old.bytes.now in
-            IfSome (option_map (walk_answer self.new) result) (λ r. IfOk r (λ t.
-            slots_bound bytes t.at.next_record < slots_bound bytes self.old.at.next_record)) }
-        ensures bound { IfSome (option_map (walk_answer self.new) result) (λ r. IfOk r (λ t.
-            walk_bound t ≤ bound_next self.old.bytes.now self.old.at.next_record)) }
+            IfSome result (λ r. IfOk r (λ _.
+            slots_bound bytes self.new.at.next_record < slots_bound bytes self.old.at.next_record)) }
+        ensures bound { IfSome result (λ r. IfOk r (λ _.
+            walk_bound self.new ≤ bound_next self.old.bytes.now self.old.at.next_record)) }
         ensures there { let c = self.old.at in
             IfSome result (λ r. IfErr r (λ e.
-            1 ≤ one_if c.pending + bound_next self.old.bytes.now c.next_record)) }
+            1 ≤ option_len c.pending + bound_next self.old.bytes.now c.next_record)) }
         ensures counted { let m = map_of self.old.finder in
             let bytes = self.old.bytes.now in
             let c = self.old.at in
@@ -391,10 +306,31 @@ impl<'a, 'm> Walk<'a, 'm> {
             }
             return Some(Err(Error::Malformed(Cause::ImportRecordEnd(offset))));
         };
-        match self.enter::<T>(&record, offset, offset + size) {
-            Ok(entered) => Some(Ok(tested + entered)),
-            Err(error) => Some(Err(error)),
+        let (is_out, looked) = is_skipped::<T>(self.bytes, &record, self.finder.address_map());
+        let steps = tested + looked + 1;
+        if is_out {
+            self.at.next_record = Some(offset + size);
+            self.at.place = None;
+            self.at.pending = None;
+            return Some(Ok(steps));
         }
+        let first_record = self.at.first_record;
+        self.dll = match library_name(self.bytes, record.name_rva, &mut self.finder) {
+            Ok(name) => name,
+            Err(error) => return Some(Err(error)),
+        };
+        let place = lookup_offset(&record, &mut self.finder);
+        self.at = ImportCursor {
+            first_record,
+            next_record: Some(offset + size),
+            library: record_index(first_record, offset),
+            name_rva: record.name_rva,
+            rva: record.import_address_table_rva,
+            table_offset: place.unwrap_or(0),
+            place,
+            pending: Some(address_table_rva(&record)),
+        };
+        Some(Ok(steps))
     }
 
     // An upper bound of the number of imports to come, if it fits.
@@ -406,30 +342,6 @@ impl<'a, 'm> Walk<'a, 'm> {
         let slots = slots_bound(self.bytes, self.at.place) + pending;
         let records = slots_bound(self.bytes, self.at.next_record);
         slots.checked_add((self.bytes.len() + 2).checked_mul(records)?)
-    }
-
-    // The import in the slot at `place` of the library that the walk is in, if it is by ordinal or
-    // by an ASCII name, as `ascii_kept` says. `None` says nothing about the slot.
-    #[inline(always)]
-    fn ascii_import<T: Bitfield<'a>>(&self, place: usize) -> Option<WalkedImport<'a>>
-        ensures steps { IfSome result (λ import. GivesNext walked_value (walk_left T.format)
-            (IsWalkCause T.format) (walk_at self.now place) (Some (Ok import))
-            (walk_at self.now (place + T.format.width))) }
-        ensures inside { IfSome result (λ _. place + T.format.width ≤ length self.now.bytes.now) }
-        ensures short { IfSome result (λ _. place + T.format.width < 2 ^ 63) }
-        ensures counted { IfSome result (λ _. walk_ahead T.format (walk_at self.now place)
-            ≡ suc (walk_ahead T.format (walk_at self.now (place + T.format.width)))) }
-    {
-        let ImportCursor {
-            library,
-            rva,
-            table_offset,
-            ..
-        } = self.at;
-        let Some(kept) = ascii_kept::<T>(self.bytes, table_offset, place, &self.finder) else {
-            return None;
-        };
-        Some(import_of::<T>(kept, self.dll, library, rva, table_offset))
     }
 
     // The next import within a budget of steps. Each step looks at a slot or an import descriptor.
@@ -455,30 +367,15 @@ impl<'a, 'm> Walk<'a, 'm> {
             (walk_ahead T.format self.old) (walk_ahead T.format self.new)) }
     {
         'libraries: loop {
-            let ImportCursor {
-                library,
-                rva,
-                table_offset,
-                mut place,
-                ..
-            } = self.at;
-            match next_kept_within::<T>(
-                self.bytes,
-                table_offset,
-                &mut place,
-                &mut self.finder,
-                steps,
-            ) {
-                Some(Ok(kept)) => {
-                    self.at.place = place;
-                    let import = import_of::<T>(kept, self.dll, library, rva, table_offset);
-                    return Some(Ok(import));
-                }
+            let (bytes, finder) = (self.bytes, &mut self.finder);
+            let offset = self.at.table_offset;
+            match next_kept_within::<T>(bytes, offset, &mut self.at.place, finder, steps) {
+                Some(Ok(kept)) => return Some(Ok(import_of::<T>(kept, self.dll, &self.at))),
                 Some(Err(error)) => {
                     self.end();
                     return Some(Err(error));
                 }
-                None => self.at.place = place,
+                None => (),
             }
             if are_out(steps) {
                 return None;
@@ -713,9 +610,12 @@ impl<'a, 'm, 'e, T: Bitfield<'a>> AsciiImports<'a, 'm, 'e, T> {
         ensures counted { IfSome result (λ _. imports_ahead T.format (ascii_at self.old)
             ≡ suc (imports_ahead T.format (ascii_at self.new))) }
     {
-        let Some(import) = self.imports.walk.ascii_import::<T>(self.place) else {
+        let walk = &self.imports.walk;
+        let offset = walk.at.table_offset;
+        let Some(kept) = ascii_kept::<T>(walk.bytes, offset, self.place, &walk.finder) else {
             return None;
         };
+        let import = import_of::<T>(kept, walk.dll, &walk.at);
         self.place += T::size_of();
         Some(import)
     }

@@ -5,7 +5,7 @@ ghost use Rattle.std.specs.Int.{from_bool};
 ghost use Rattle.goblin_pe_sect.specs.Addresses.{map_of};
 ghost use Rattle.goblin_pe_import.specs.added.LeftOut as left_out;
 
-use crate::added::tested::test_address_table;
+use crate::added::tested::leads_to_none;
 use crate::import::bitfield::Bitfield;
 use crate::import::directory_entry::{ImportDirectoryEntry, SIZEOF_IMPORT_DIRECTORY_ENTRY};
 use crate::import::library::lookup_offset;
@@ -83,20 +83,6 @@ fn entries_of_table<'a, T: Bitfield<'a>>(
     (entries, unmapped)
 }
 
-// Whether an import descriptor leads to no library, because its address table cannot be read.
-pub(super) fn leads_to_none<'a, T: Bitfield<'a>>(
-    bytes: &'a [u8],
-    entry: &ImportDirectoryEntry,
-    address_map: &AddressMap,
-) -> bool
-    ensures { let m = map_of address_map.now in
-        result ≡ left_out.leads_to_none T.format m.addressing bytes.now entry.now }
-{
-    test_address_table::<T>(bytes, entry, address_map)
-        .0
-        .is_err()
-}
-
 // How much is left out for an import descriptor: its library, or entries of that library's lookup
 // table.
 #[tactic(auto, unfolding(crate::specs::added::LeftOut::entries_of_record))]
@@ -119,7 +105,7 @@ fn of_record<'a, T: Bitfield<'a>>(
         ≡ left_out.entries_of_record (left_out.is_unmapped m.addressing) T.format m.addressing
         bytes.now entry.now }
 {
-    if leads_to_none::<T>(bytes, entry, address_map) {
+    if leads_to_none::<T>(bytes, entry, address_map).0 {
         return LeftOut {
             libraries: 1,
             ..LeftOut::default()
@@ -131,40 +117,6 @@ fn of_record<'a, T: Bitfield<'a>>(
     };
     LeftOut {
         libraries: usize::from(is_front),
-        entries,
-        unmapped_entries,
-    }
-}
-
-// How much is left out of the directory at an offset.
-fn of_directory<'a, T: Bitfield<'a>>(
-    bytes: &'a [u8],
-    offset: usize,
-    address_map: &AddressMap,
-) -> LeftOut
-    ensures libraries { let m = map_of address_map.now in
-        result.libraries ≡ left_out.libraries_of_directory T.format m.addressing bytes.now offset }
-    ensures entries { let m = map_of address_map.now in
-        result.entries
-        ≡ min (left_out.left_out_of_directory T.format m.addressing bytes.now offset) usize.MAX }
-    ensures unmapped { let m = map_of address_map.now in
-        result.unmapped_entries
-        ≡ min (left_out.unmapped_of_directory T.format m.addressing bytes.now offset) usize.MAX }
-{
-    let is_front = offset == 0;
-    let mut libraries = 0;
-    let mut entries = 0usize;
-    let mut unmapped_entries = 0usize;
-    let mut place = offset;
-    'records: while let Some(record) = next_record(bytes, place) {
-        let more = of_record::<T>(bytes, &record, is_front, address_map);
-        libraries += more.libraries;
-        entries = entries.saturating_add(more.entries);
-        unmapped_entries = unmapped_entries.saturating_add(more.unmapped_entries);
-        place += SIZEOF_IMPORT_DIRECTORY_ENTRY;
-    }
-    LeftOut {
-        libraries,
         entries,
         unmapped_entries,
     }
@@ -191,9 +143,20 @@ impl LeftOut {
             result.unmapped_entries
             ≡ min (left_out.unmapped_entries T.format m.addressing bytes.now rva) usize.MAX }
     {
-        match address_map.offset_of(directory.virtual_address) {
-            Some(offset) => of_directory::<T>(bytes, offset, address_map),
-            None => LeftOut::default(),
+        let Some(offset) = address_map.offset_of(directory.virtual_address) else {
+            return LeftOut::default();
+        };
+        let mut left_out = LeftOut::default();
+        let mut place = offset;
+        'records: while let Some(record) = next_record(bytes, place) {
+            let more = of_record::<T>(bytes, &record, offset == 0, address_map);
+            left_out.libraries += more.libraries;
+            left_out.entries = left_out.entries.saturating_add(more.entries);
+            left_out.unmapped_entries = left_out
+                .unmapped_entries
+                .saturating_add(more.unmapped_entries);
+            place += SIZEOF_IMPORT_DIRECTORY_ENTRY;
         }
+        left_out
     }
 }

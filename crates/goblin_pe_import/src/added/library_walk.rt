@@ -1,26 +1,23 @@
 //! A walk over the libraries of an image, one for each import descriptor.
 
-ghost use Rattle.std.specs.Prelude.{◌≡◌, ◌<◌, IfErr, IfOk, IfSome, List, Some, ℕ};
+ghost use Rattle.std.specs.Prelude.{◌≡◌, ◌<◌, IfSome, List, Some, ℕ};
 ghost use Rattle.std.specs.Iterator.{UpTo, at_most};
 ghost use Rattle.std.specs.Iterator.SizeHint.{IsWithinCount};
 ghost use Rattle.std.specs.Result.{result_map_both};
-ghost use Rattle.goblin_base.specs.Answers.{IsMemory};
 ghost use Rattle.goblin_base.specs.Tables.{Format};
-ghost use Rattle.readings.specs.Walks.{GivesNext};
 ghost use Rattle.goblin_pe_sect.specs.Addresses.{MapOfAddresses, map_of, reads_strictly};
 ghost use Rattle.goblin_pe_import.specs.ImportEntries.{EntryValue};
 ghost use Rattle.goblin_pe_import.specs.added.ImportWalks.{cursor_left, imports_from_record};
-ghost use Rattle.goblin_pe_import.specs.added.Libraries.{AreAtEnd, name_or_cause};
-ghost use Rattle.goblin_pe_import.specs.added.Libraries.{AreLibrariesAt, at_record, inside_library};
-ghost use Rattle.goblin_pe_import.specs.added.Libraries.{AreLibrariesOver, GivesNextLibrary};
-ghost use Rattle.goblin_pe_import.specs.added.Libraries.{IsLibrariesCause, cursor_libraries};
-ghost use Rattle.goblin_pe_import.specs.added.Libraries.{after_library, entries_by, libraries_left};
-ghost use Rattle.goblin_pe_import.specs.added.Libraries.{libraries_bound, libraries_bytes};
-ghost use Rattle.goblin_pe_import.specs.added.Libraries.{libraries_cursor, libraries_format};
-ghost use Rattle.goblin_pe_import.specs.added.Libraries.{libraries_map, library_at, library_value};
+ghost use Rattle.goblin_pe_import.specs.added.Libraries.{name_or_cause, AreLibrariesAt, at_record};
+ghost use Rattle.goblin_pe_import.specs.added.Libraries.{inside_library, GivesNextLibrary};
+ghost use Rattle.goblin_pe_import.specs.added.Libraries.{cursor_libraries, entries_by};
+ghost use Rattle.goblin_pe_import.specs.added.Libraries.{libraries_left, libraries_bound};
+ghost use Rattle.goblin_pe_import.specs.added.Libraries.{libraries_bytes, libraries_cursor};
+ghost use Rattle.goblin_pe_import.specs.added.Libraries.{libraries_format, libraries_map};
+ghost use Rattle.goblin_pe_import.specs.added.Libraries.{library_at, library_value};
 
 use crate::added::imports::{ImportCursor, record_index, slots_bound};
-use crate::added::left_out::leads_to_none;
+use crate::added::tested::leads_to_none;
 use crate::import::directory_entry::{ImportDirectoryEntry, SIZEOF_IMPORT_DIRECTORY_ENTRY};
 use crate::import::library::{address_table_rva, lookup_offset};
 use crate::import::slots::{may_end, next_record};
@@ -174,10 +171,11 @@ impl<'a, 'm> Libraries<'a, 'm> {
         ensures same { self.new ≡ self.old }
     {
         let first = self.at.first_record;
-        let is_none = if self.is_narrow {
-            leads_to_none::<u32>(self.bytes, &entry, self.finder.address_map())
+        let address_map = self.finder.address_map();
+        let (is_none, _) = if self.is_narrow {
+            leads_to_none::<u32>(self.bytes, &entry, address_map)
         } else {
-            leads_to_none::<u64>(self.bytes, &entry, self.finder.address_map())
+            leads_to_none::<u64>(self.bytes, &entry, address_map)
         };
         WalkedLibrary {
             import_directory_entry: entry,
@@ -188,18 +186,16 @@ impl<'a, 'm> Libraries<'a, 'm> {
             cursor: ImportCursor::at_record(first, offset),
         }
     }
+}
 
-    fn next_library(&mut self) -> Option<Result<WalkedLibrary<'a>>>
-        ensures gives { GivesNext library_value libraries_left IsLibrariesCause self.old result
-            self.new }
-        ensures refused { IfSome result (λ r. IfErr r (λ e. ¬ IsMemory e)) }
-        ensures over { AreLibrariesOver (libraries_map self.old) (libraries_format self.old)
-            (libraries_bytes self.old) self.new }
-        ensures after { IfSome result
-            (λ r. IfOk r (λ x. libraries_cursor self.new ≡ after_library (library_value x))) }
-        ensures ended { AreAtEnd result self.new }
-        ensures fewer { IfSome result (λ r. libraries_bound self.new < libraries_bound self.old) }
-    {
+impl<'a, 'm> Iterator for Libraries<'a, 'm> {
+    type Item = Result<WalkedLibrary<'a>>;
+
+    ghost next_gives = { GivesNextLibrary };
+
+    ghost remaining = { λ it. at_most (libraries_bound it) };
+
+    fn next(&mut self) -> Option<Result<WalkedLibrary<'a>>> {
         let Some(offset) = self.at.next_record else {
             self.at = ImportCursor::end();
             return None;
@@ -216,18 +212,6 @@ impl<'a, 'm> Libraries<'a, 'm> {
         let next = offset + SIZEOF_IMPORT_DIRECTORY_ENTRY;
         self.at = ImportCursor::at_record(self.at.first_record, next);
         Some(Ok(library))
-    }
-}
-
-impl<'a, 'm> Iterator for Libraries<'a, 'm> {
-    type Item = Result<WalkedLibrary<'a>>;
-
-    ghost next_gives = { GivesNextLibrary };
-
-    ghost remaining = { λ it. at_most (libraries_bound it) };
-
-    fn next(&mut self) -> Option<Result<WalkedLibrary<'a>>> {
-        self.next_library()
     }
 
     fn size_hint(&self) -> (usize, Option<usize>)

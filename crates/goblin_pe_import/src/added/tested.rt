@@ -1,20 +1,21 @@
 //! Tests of address tables, whose numbers are not kept.
 
-ghost use Rattle.std.specs.Prelude.{◌≡◌};
+ghost use Rattle.std.specs.Prelude.{◌≡◌, is_none};
 ghost use Rattle.goblin_base.specs.Reading.{Reads};
 ghost use Rattle.goblin_base.specs.Tables.{stop};
 ghost use Rattle.readings.specs.Reads.{mapped};
-ghost use Rattle.goblin_pe_sect.specs.AddressReadings.{at_address};
-ghost use Rattle.goblin_pe_sect.specs.Addresses.{map_of, offset_of};
+ghost use Rattle.goblin_pe_sect.specs.Addresses.{map_of};
 ghost use Rattle.goblin_pe_import.specs.ImportRecords.{address_table_rva};
 ghost use Rattle.goblin_pe_import.specs.ImportEntries.{entry_slots};
 ghost use Rattle.goblin_pe_import.specs.LookupReadings.{address_table};
+ghost use Rattle.goblin_pe_import.specs.added.ImportWalks.{addresses_of};
+ghost use Rattle.goblin_pe_import.specs.added.LeftOut.{leads_to_none};
 ghost use Rattle.goblin_pe_import.specs.added.StepsAhead.{slots_at_address};
 
 use crate::import::address_table_rva;
 use crate::import::bitfield::{Bitfield, read_entry};
 use crate::import::directory_entry::ImportDirectoryEntry;
-use goblin_base::{Cause, Error, ReadFault, ResultOf};
+use goblin_base::{Error, ReadFault, ResultOf};
 use goblin_pe_sect::address_map::AddressMap;
 
 // Tests whether there is an address table at an offset, as `address_table` reads it. Also returns
@@ -47,25 +48,25 @@ pub(super) fn test_numbers<'a, 'e, T: Bitfield<'a>>(
     (Ok(()), count)
 }
 
-// Tests whether the library of an import descriptor has an address table, and returns how many
-// numbers it looks at. They are not kept.
-pub(super) fn test_address_table<'a, 'e, T: Bitfield<'a>>(
+// Whether an import descriptor leads to no library, because its address table cannot be read, and
+// how many numbers of that table are looked at. They are not kept.
+#[tactic(auto, using(crate::proofs::added::LeftOutLibraries::library_left_out))]
+pub(super) fn leads_to_none<'a, T: Bitfield<'a>>(
     bytes: &'a [u8],
     entry: &ImportDirectoryEntry,
     address_map: &AddressMap,
-) -> (ResultOf<'e, ()>, usize)
-    ensures tested { let rva = address_table_rva entry.now in
-        Reads (λ _. tt {0}) result.0
-        (mapped (λ _. tt {0})
-        (at_address (offset_of (map_of address_map.now)) rva (address_table T.format)))
-        bytes.now }
+) -> (bool, usize)
+    ensures out { let m = map_of address_map.now in
+        result.0 ≡ is_none ((addresses_of T.format m.addressing entry.now).value bytes.now) }
+    ensures none { let m = map_of address_map.now in
+        result.0 ≡ leads_to_none T.format m.addressing bytes.now entry.now }
     ensures counted { result.1
         ≡ slots_at_address T.format (map_of address_map.now).addressing bytes.now
         (address_table_rva entry.now) }
 {
-    let rva = address_table_rva(entry);
-    let Some(offset) = address_map.offset_of(rva) else {
-        return (Err(Error::Malformed(Cause::Unmapped(rva as usize))), 0);
+    let Some(offset) = address_map.offset_of(address_table_rva(entry)) else {
+        return (true, 0);
     };
-    test_numbers::<T>(bytes, offset)
+    let (tested, count) = test_numbers::<T>(bytes, offset);
+    (tested.is_err(), count)
 }

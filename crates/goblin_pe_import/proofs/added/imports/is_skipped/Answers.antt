@@ -3,5 +3,5 @@ use Rattle.goblin_pe_import.proofs.added.imports.is_skipped.Goals as goal
 
 pub returns-clause-few : goal.returns-clause-few
 returns-clause-few g c =
-    rw c.test_address_table-count.ensures.counted
+    rw c.leads_to_none.ensures.counted
     (slots-few g.T.Bitfield.format c.args.bytes.now _)
