@@ -238,6 +238,7 @@ impl<'a> HeaderParts<'a> {
 }
 
 // The Windows fields, or zeros if there are none.
+#[tactic(auto, unfolding(goblin_base::specs::Bytes::number))]
 fn windows_or_zeros(fields: Option<WindowsFields>) -> WindowsFields
     ensures { result ≡ unwrap_or fields no_windows_fields }
 {
