@@ -3,7 +3,7 @@
 ghost use Rattle.std.specs.Prelude.{◌≡◌, ◌≢◌, ◌-◌, IfErr, List, MatchResult, OnErr, ℕ, length};
 ghost use Rattle.goblin_base.specs.declared.error.ErrorOf.{ErrorOf};
 ghost use Rattle.goblin_base.specs.Answers.{IsMemory};
-ghost use Rattle.goblin_pe.specs.Addresses.{MapOfAddresses};
+ghost use Rattle.goblin_pe_sect.specs.Addresses.{MapOfAddresses};
 ghost use Rattle.goblin_pe.specs.added.Layouts.{layout_bytes, layout_map, layout_places};
 ghost use Rattle.goblin_pe.specs.Whole.{TablePlaces};
 ghost use Rattle.goblin_pe_c_tables.specs.Batches.{GivesRecords, WalksOver, at_room, batch_at};

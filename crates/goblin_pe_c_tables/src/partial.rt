@@ -76,6 +76,7 @@ fn given_or_zeros<T: Copy>(header: &Result<T>, zeros: T) -> T
 }
 
 // A DOS header of zeros.
+#[tactic(auto, unfolding(goblin_base::specs::Bytes::number))]
 fn zero_dos_header() -> DosHeader
     ensures { result ≡ zero_dos_header }
 {
