@@ -88,16 +88,16 @@ class Page(Case):
                         self.assertIn(piece, sources)
 
     def test_each_word_is_in_its_file(self):
-        """The file is one of goblin_pe, or one that it re-exports."""
+        """The file is one of goblin_pe, or one of a crate below, under the name that goblin_pe has for it."""
         specs = CRATES / "goblin_pe/specs"
-        files = {folder + name: CRATES / (crate or "goblin_pe") / "specs" / f"{folder}{name}.antt"
-                 for node, folder in (("Lib", ""), ("added", "added/"))
-                 for crate, name in re.findall(rf"(?m)^pub (?:mod|use Rattle\.(\w+)\.specs\.{folder.replace('/', '.')})\s*(\w+)$",
-                                               (specs / f"{node}.antt").read_text("utf-8"))}
+        below = {name: CRATES / crate / "specs"
+                 for crate, name in re.findall(r"(?m)^pub use Rattle\.(\w+)\.specs as (\w+)$", (specs / "Lib.antt").read_text("utf-8"))}
         table, = re.findall(r"(?ms)^Word \| File\n\S+\n(.*?)\n\n", PAGE.read_text("utf-8"))
         for row in table.splitlines():
             words, names = (cell.split("; ") for cell in row.strip("| ").split(" | "))
             for group, name in zip(words, names, strict=True):
+                first, _, rest = name.strip("`").partition("/")
+                file = below[first] / rest if first in below else specs / name.strip("`")
                 for word in re.findall("`(.*?)`", group):
                     with self.subTest(word=word):
-                        self.assertRegex(files[name.strip("`")].read_text("utf-8"), rf"(?m)^[\w ]*\bpub (\w+ )?◌?{re.escape(word)}◌? ")
+                        self.assertRegex(file.with_suffix(".antt").read_text("utf-8"), rf"(?m)^[\w ]*\bpub (\w+ )?◌?{re.escape(word)}◌? ")

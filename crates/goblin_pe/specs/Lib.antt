@@ -1,70 +1,13 @@
-pub mod Callers
 pub mod Modes
 pub mod TableRuns
 pub mod TwinParts
 pub mod Whole
 pub mod added
 -- The definitions of the crates below, so that a caller's clauses name only this crate.
-pub use Rattle.goblin_base.specs.Answers
-pub use Rattle.goblin_base.specs.Bytes
-pub use Rattle.goblin_base.specs.ErrorText
-pub use Rattle.goblin_base.specs.Footprints
-pub use Rattle.goblin_base.specs.Marks
-pub use Rattle.goblin_base.specs.Parts
-pub use Rattle.goblin_base.specs.Reading
-pub use Rattle.goblin_base.specs.Record
-pub use Rattle.goblin_base.specs.RecordLaws
-pub use Rattle.goblin_base.specs.Strtab
-pub use Rattle.goblin_base.specs.Tables
-pub use Rattle.goblin_base.specs.Values
-pub use Rattle.readings.specs.Reads
-pub use Rattle.readings.specs.Tests
-pub use Rattle.readings.specs.Walks
-pub use Rattle.goblin_pe_sect.specs.AddressReadings
-pub use Rattle.goblin_pe_sect.specs.Addresses
-pub use Rattle.goblin_pe_sect.specs.BaseRelocations
-pub use Rattle.goblin_pe_sect.specs.DataDirectories
-pub use Rattle.goblin_pe_sect.specs.DirectoryReadings
-pub use Rattle.goblin_pe_sect.specs.Digits
-pub use Rattle.goblin_pe_sect.specs.Mapping
-pub use Rattle.goblin_pe_sect.specs.Multiples
-pub use Rattle.goblin_pe_sect.specs.Options
-pub use Rattle.goblin_pe_sect.specs.Relocations
-pub use Rattle.goblin_pe_sect.specs.SectionName
-pub use Rattle.goblin_pe_sect.specs.SectionReadings
-pub use Rattle.goblin_pe_sect.specs.SectionTable
-pub use Rattle.goblin_pe_sect.specs.WindowIndex
-pub use Rattle.goblin_pe_sect.specs.WindowIndexFields
-pub use Rattle.goblin_pe_sect.specs.WindowOrder
-pub use Rattle.goblin_pe_sect.specs.WindowStretches
-pub use Rattle.goblin_pe_symbol.specs.AuxiliarySymbols
-pub use Rattle.goblin_pe_symbol.specs.Symbols
-pub use Rattle.goblin_pe_head.specs.CoffHeader
-pub use Rattle.goblin_pe_head.specs.CoffReadings
-pub use Rattle.goblin_pe_head.specs.DosHeader
-pub use Rattle.goblin_pe_head.specs.DosStub
-pub use Rattle.goblin_pe_head.specs.HeaderLaws
-pub use Rattle.goblin_pe_head.specs.HeaderReadings
-pub use Rattle.goblin_pe_head.specs.OptionalHeader
-pub use Rattle.goblin_pe_head.specs.OptionalHeaderLaws
-pub use Rattle.goblin_pe_head.specs.PeHeader
-pub use Rattle.goblin_pe_head.specs.RichHeader
-pub use Rattle.goblin_pe_head.specs.RichMetadata
-pub use Rattle.goblin_pe_head.specs.RichReadings
-pub use Rattle.goblin_pe_head.specs.TeHeader
-pub use Rattle.goblin_pe_head.specs.TeReadings
-pub use Rattle.goblin_pe_import.specs.ImportBound
-pub use Rattle.goblin_pe_import.specs.ImportEntries
-pub use Rattle.goblin_pe_import.specs.ImportLookup
-pub use Rattle.goblin_pe_import.specs.ImportReadings
-pub use Rattle.goblin_pe_import.specs.ImportRecords
-pub use Rattle.goblin_pe_import.specs.Imports
-pub use Rattle.goblin_pe_import.specs.KeptEntries
-pub use Rattle.goblin_pe_import.specs.LookupReadings
-pub use Rattle.goblin_pe_import.specs.Steps
-pub use Rattle.goblin_pe_import.specs.TableSums
-pub use Rattle.goblin_pe_export.specs.ExportReadings
-pub use Rattle.goblin_pe_export.specs.ExportRecords
-pub use Rattle.goblin_pe_export.specs.Exports
-pub use Rattle.goblin_pe_export.specs.ForwarderLaws
-pub use Rattle.goblin_pe_export.specs.Forwarders
+pub use Rattle.goblin_base.specs as base
+pub use Rattle.readings.specs as readings
+pub use Rattle.goblin_pe_sect.specs as sect
+pub use Rattle.goblin_pe_symbol.specs as symbol
+pub use Rattle.goblin_pe_head.specs as head
+pub use Rattle.goblin_pe_import.specs as import
+pub use Rattle.goblin_pe_export.specs as export

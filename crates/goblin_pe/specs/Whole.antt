@@ -329,6 +329,20 @@ whole_in view opts = by_layout opts (whole_with view opts)
 abbrev pub whole_file : ParseOptions → Reading WholeFile
 whole_file opts = whole_in Sections opts
 
+-- ---- one table of a file
+
+-- a reader of a table, from the options, the map of addresses and the places of the tables:
+-- `import_list`, `export_part` and `relocation_part` are such readers
+abbrev pub TableReader : Type 0 → Type 1
+TableReader A = ParseOptions → Addressing → TablePlaces → Reading A
+
+-- one table of a file; apart from it, only the header and the sections have to be read
+abbrev pub file_table : {A : Type 0} → TableReader A → ParseOptions → Reading A
+file_table read opts =
+    by_layout opts (λ h sections.
+    let places = places_in h.optional_header in
+    read opts (addressing_by opts (mapped_in Sections h sections) places) places)
+
 -- ---- what contracts see
 
 -- a list that a part owns, as its items

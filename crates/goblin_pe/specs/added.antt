@@ -1,20 +1,5 @@
 pub mod Checksums
 pub mod Damages
-pub mod DirectoryParts
 pub mod Keys
 pub mod LayoutCursors
-pub mod LayoutTables
 pub mod Layouts
-pub mod TakenMemory
--- The definitions of the crates below, so that a caller's clauses name only this crate.
-pub use Rattle.goblin_pe_export.specs.added.ExportAddresses
-pub use Rattle.goblin_pe_export.specs.added.ExportWalks
-pub use Rattle.goblin_pe_export.specs.added.LeftOutExports
-pub use Rattle.goblin_pe_head.specs.added.HeaderParts
-pub use Rattle.goblin_pe_import.specs.added.ImportCursors
-pub use Rattle.goblin_pe_import.specs.added.ImportWalks
-pub use Rattle.goblin_pe_import.specs.added.LeftOut
-pub use Rattle.goblin_pe_import.specs.added.Libraries
-pub use Rattle.goblin_pe_import.specs.added.StepsAhead
-pub use Rattle.goblin_pe_sect.specs.added.Backward
-pub use Rattle.readings.specs.added.Questions

@@ -7,9 +7,8 @@ ghost use Rattle.goblin_pe_sect.specs.Options.{is_strict};
 ghost use Rattle.goblin_pe_head.specs.HeaderReadings.{pe_header};
 ghost use Rattle.goblin_pe_head.specs.CoffHeader.{IsTooManySections};
 ghost use Rattle.goblin_pe_sect.specs.Addresses.{map_by, offset_of};
-ghost use Rattle.goblin_pe.specs.Callers.{file_table};
 ghost use Rattle.goblin_pe.specs.Whole.{import_data_part, listed_imports_part, places_in};
-ghost use Rattle.goblin_pe.specs.Whole.{whole_file};
+ghost use Rattle.goblin_pe.specs.Whole.{file_table, whole_file};
 
 use crate::export::{Export, ExportData};
 use crate::import::{Import, ImportData};

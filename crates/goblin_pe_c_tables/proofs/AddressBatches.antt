@@ -8,9 +8,9 @@ use Rattle.goblin_pe_sect.specs.Addresses.{Addressing}
 use Rattle.goblin_pe_export.specs.declared.export.tables.ExportAddressTableEntry.{ExportAddressTableEntry}
 use Rattle.goblin_pe_c_tables.specs.declared.export_directory.PeExportAddress.{PeExportAddress}
 use Rattle.goblin_pe_export.specs.declared.added.exports.Exports.{Exports}
-use Rattle.goblin_pe.specs.Addresses.{MapOfAddresses}
-use Rattle.goblin_pe.specs.ExportRecords.{ExportTables}
-use Rattle.goblin_pe.specs.added.ExportWalks.{walked_tables}
+use Rattle.goblin_pe_sect.specs.Addresses.{MapOfAddresses}
+use Rattle.goblin_pe_export.specs.ExportRecords.{ExportTables}
+use Rattle.goblin_pe_export.specs.added.ExportWalks.{walked_tables}
 use Rattle.goblin_pe.specs.added.Layouts.{address_part}
 use Rattle.goblin_pe.specs.Whole.{TablePlaces, part_map}
 use Rattle.goblin_pe.specs.declared.whole.Part.{Part}

@@ -9,9 +9,9 @@ use Rattle.goblin_pe_export.specs.ExportRecords.{name_pointers}
 use Rattle.goblin_pe_export.specs.added.ExportWalks.{GivesExportBefore, exports_position, pointer_count}
 use Rattle.goblin_pe_export.proofs.added.ExportWalk.{from_end}
 use Rattle.goblin_base.proofs.RecordItems.{length-records_in}
-use Rattle.goblin_pe.specs.Addresses.{MapOfAddresses, map_of}
-use Rattle.goblin_pe.specs.ExportRecords.{ExportTables}
-use Rattle.goblin_pe.specs.added.ExportWalks.{KeepsOver, NumberedExport, exports_at, exports_left, numbered_from, walked_export, walked_tables}
+use Rattle.goblin_pe_sect.specs.Addresses.{MapOfAddresses, map_of}
+use Rattle.goblin_pe_export.specs.ExportRecords.{ExportTables}
+use Rattle.goblin_pe_export.specs.added.ExportWalks.{KeepsOver, NumberedExport, exports_at, exports_left, numbered_from, walked_export, walked_tables}
 use Rattle.goblin_pe.specs.added.Layouts.{IsExportWalk, walked_exports}
 use Rattle.goblin_pe.specs.Whole.{IfRead, TablePlaces, export_part, part_map}
 use Rattle.goblin_pe.specs.declared.whole.Part.{Part}

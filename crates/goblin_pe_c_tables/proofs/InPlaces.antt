@@ -5,7 +5,7 @@ use Rattle.goblin_base.specs.Answers.{FirstFault}
 use Rattle.goblin_base.specs.Reading.{IsRefused}
 use Rattle.goblin_pe_sect.specs.SectionTable.{Section}
 use Rattle.goblin_pe.specs.declared.added.layout.Layout.{Layout}
-use Rattle.goblin_pe.specs.Addresses.{MapOfAddresses}
+use Rattle.goblin_pe_sect.specs.Addresses.{MapOfAddresses}
 use Rattle.goblin_pe.specs.added.Layouts.{layout_bytes, layout_map, layout_places, layout_sections}
 use Rattle.goblin_pe.specs.Whole.{TablePlaces}
 use Rattle.goblin_pe_c_headers.specs.declared.options.PeOptions.{PeOptions}

@@ -1,8 +1,8 @@
 -- The records of exports, as definitions.
 use Rattle.std.specs.Prelude.{ℕ, Bool, List, [], ◌∷◌, Option, Some, None, unwrap_or, is_some}
-use Rattle.goblin_pe.specs.added.ExportWalks.{NumberedExport}
-use Rattle.goblin_pe.specs.Forwarders.{Forwarder}
-use Rattle.goblin_pe.specs.Forwarders.Forwarder.{ByName, ByOrdinal}
+use Rattle.goblin_pe_export.specs.added.ExportWalks.{NumberedExport}
+use Rattle.goblin_pe_export.specs.Forwarders.{Forwarder}
+use Rattle.goblin_pe_export.specs.Forwarders.Forwarder.{ByName, ByOrdinal}
 use Rattle.goblin_pe_c_tables.specs.declared.export.PeExport.{PeExport}
 use Rattle.goblin_pe_c_tables.specs.declared.forwarder.PeForwarder.{PeForwarder}
 

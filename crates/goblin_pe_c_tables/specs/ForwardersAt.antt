@@ -2,7 +2,7 @@
 use Rattle.std.specs.Prelude.{ℕ}
 use Rattle.goblin_base.specs.Reading.{Reading}
 use Rattle.goblin_pe_sect.specs.AddressReadings.{at_address}
-use Rattle.goblin_pe.specs.Forwarders.{Forwarder, forwarder_within}
+use Rattle.goblin_pe_export.specs.Forwarders.{Forwarder, forwarder_within}
 use Rattle.goblin_pe_c_headers.specs.Addresses.{image_map}
 use Rattle.goblin_pe_c_headers.specs.Options.{longest_of}
 use Rattle.goblin_pe_c_headers.specs.Places.{image_places}

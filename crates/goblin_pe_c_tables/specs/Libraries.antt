@@ -3,11 +3,11 @@ use Rattle.std.specs.Prelude.{◌≡◌, ◌==◌, if◌then◌else◌, IsSome, 
 use Rattle.std.specs.Prelude.{option_map, take, unwrap_or}
 use Rattle.std.specs.Result.{result_ok}
 use Rattle.goblin_pe_import.specs.declared.import.directory_entry.ImportDirectoryEntry.{ImportDirectoryEntry}
-use Rattle.goblin_pe.specs.Addresses.{MapOfAddresses, reads_strictly}
-use Rattle.goblin_pe.specs.added.ImportWalks.{library_items, library_name, no_imports}
+use Rattle.goblin_pe_sect.specs.Addresses.{MapOfAddresses, reads_strictly}
+use Rattle.goblin_pe_import.specs.added.ImportWalks.{library_items, library_name, no_imports}
 use Rattle.readings.specs.Walks.{until_refused}
-use Rattle.goblin_pe.specs.added.Libraries.{IsCursorEndCause, LibraryValue, after_library}
-use Rattle.goblin_pe.specs.added.Libraries.{cursor_libraries, inside_library, library_at}
+use Rattle.goblin_pe_import.specs.added.Libraries.{IsCursorEndCause, LibraryValue, after_library}
+use Rattle.goblin_pe_import.specs.added.Libraries.{cursor_libraries, inside_library, library_at}
 use Rattle.goblin_pe.specs.Whole.{TablePlaces, entry_format}
 use Rattle.goblin_pe_c_tables.specs.declared.library.PeLibrary.{PeLibrary}
 use Rattle.goblin_pe_c_tables.specs.declared.next.PeImportCursor.{PeImportCursor}

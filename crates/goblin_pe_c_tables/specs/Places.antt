@@ -3,7 +3,7 @@ use Rattle.std.specs.Prelude.{◌≡◌, ℕ, Bool, List, length, Some, IsSomeAn
 use Rattle.goblin_pe_sect.specs.Addresses.{AreMany, MapOfAddresses, map_in, with_longest}
 use Rattle.goblin_pe_sect.specs.Options.{front_of}
 use Rattle.goblin_pe_sect.specs.SectionTable.{Section}
-use Rattle.goblin_pe.specs.PeHeader.{PeHeader}
+use Rattle.goblin_pe_head.specs.PeHeader.{PeHeader}
 use Rattle.goblin_pe.specs.Whole.{TablePlaces, mapped_in, places_in}
 use Rattle.goblin_pe.specs.Whole.{section_table_offset, sections_after, size_of_headers}
 use Rattle.goblin_pe_c_headers.specs.declared.options.PeOptions.{PeOptions}

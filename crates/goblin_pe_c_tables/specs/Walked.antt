@@ -14,15 +14,15 @@ use Rattle.goblin_pe_sect.specs.Options.{is_strict}
 use Rattle.goblin_pe_sect.specs.SectionTable.{Section}
 use Rattle.goblin_pe_head.specs.HeaderReadings.{pe_header}
 use Rattle.goblin_pe_head.specs.PeHeader.{PeHeader}
-use Rattle.goblin_pe.specs.Addresses.{MapOfAddresses}
+use Rattle.goblin_pe_sect.specs.Addresses.{MapOfAddresses}
 use Rattle.goblin_pe_export.specs.added.ExportAddresses.{without_names}
 use Rattle.goblin_pe.specs.added.Layouts.{address_part}
 use Rattle.goblin_pe.specs.Modes.{in_mode}
 use Rattle.goblin_pe.specs.declared.added.damage.Damage.{Damage}
 use Rattle.goblin_pe.specs.declared.whole.Part.{Part}
 use Rattle.goblin_pe.specs.declared.whole.Part.TheVariants as part
-use Rattle.goblin_pe.specs.ExportRecords.{ExportTables, NumberedExport}
-use Rattle.goblin_pe.specs.Imports.{NumberedImport}
+use Rattle.goblin_pe_export.specs.ExportRecords.{ExportTables, NumberedExport}
+use Rattle.goblin_pe_import.specs.Imports.{NumberedImport}
 use Rattle.goblin_pe.specs.Whole.{NumberedTables, TableParts, by_layout, collected_tables}
 use Rattle.goblin_pe.specs.Whole.{imports_in, IfRead, TablePlaces, export_part, layout, part_map}
 use Rattle.goblin_pe.specs.Whole.{places_in, relocation_part, tables_with}

@@ -4,8 +4,8 @@ ghost use Rattle.std.specs.Prelude.{◌≡◌, ◌<◌, IfErr, MatchResult, Some
 ghost use Rattle.goblin_base.specs.Answers.{IsMemory};
 ghost use Rattle.goblin_pe_sect.specs.Addresses.{map_of};
 ghost use Rattle.goblin_pe.specs.added.Layouts.{layout_bytes, layout_map, layout_places};
-ghost use Rattle.goblin_pe.specs.added.Libraries.{AreLibrariesOver, IsLibrariesCause};
-ghost use Rattle.goblin_pe.specs.added.Libraries.{libraries_left, library_value};
+ghost use Rattle.goblin_pe_import.specs.added.Libraries.{AreLibrariesOver, IsLibrariesCause};
+ghost use Rattle.goblin_pe_import.specs.added.Libraries.{libraries_left, library_value};
 ghost use Rattle.goblin_pe.specs.Whole.{entry_format};
 ghost use Rattle.goblin_pe_c_tables.specs.Batches.{batch_at};
 ghost use Rattle.goblin_pe_c_tables.specs.Libraries.{GivesLibraries, IsLibrariesFault};

@@ -6,18 +6,18 @@ use Rattle.std.specs.Str.{bytes_eq}
 use Rattle.goblin_pe.specs.declared.error.ErrorOf.{ErrorOf}
 use Rattle.goblin_pe.specs.declared.optional_header.OptionalHeader.{OptionalHeader}
 use Rattle.goblin_pe.specs.declared.options.ParseOptions.{ParseOptions}
-use Rattle.goblin_pe.specs.Callers.{file_table}
-use Rattle.goblin_pe.specs.added.LayoutTables.{read_or}
-use Rattle.goblin_pe.specs.ErrorText.{error_text}
-use Rattle.goblin_pe.specs.ExportRecords.{ExportRow, ExportTables, NumberedExport}
-use Rattle.goblin_pe.specs.Imports.{NumberedImport}
-use Rattle.goblin_pe.specs.Mapping.{section_at}
-use Rattle.goblin_pe.specs.Options.{default_options, mapping_by}
-use Rattle.goblin_pe.specs.PeHeader.{PeHeader}
-use Rattle.goblin_pe.specs.Reading.{IsRefused, Reading}
-use Rattle.goblin_pe.specs.Reads.{mapped}
-use Rattle.goblin_pe.specs.SectionTable.{Section}
-use Rattle.goblin_pe.specs.added.Questions.{has_any}
+use Rattle.goblin_pe.specs.Whole.{file_table}
+use Rattle.goblin_pe.specs.added.Layouts.{read_or}
+use Rattle.goblin_pe.specs.base.ErrorText.{error_text}
+use Rattle.goblin_pe.specs.export.ExportRecords.{ExportRow, ExportTables, NumberedExport}
+use Rattle.goblin_pe.specs.import.Imports.{NumberedImport}
+use Rattle.goblin_pe.specs.sect.Mapping.{section_at}
+use Rattle.goblin_pe.specs.sect.Options.{default_options, mapping_by}
+use Rattle.goblin_pe.specs.head.PeHeader.{PeHeader}
+use Rattle.goblin_pe.specs.base.Reading.{IsRefused, Reading}
+use Rattle.goblin_pe.specs.readings.Reads.{mapped}
+use Rattle.goblin_pe.specs.sect.SectionTable.{Section}
+use Rattle.goblin_pe.specs.readings.added.Questions.{has_any}
 use Rattle.goblin_pe.specs.Whole.{export_part, import_list, layout}
 
 -- ---- imports

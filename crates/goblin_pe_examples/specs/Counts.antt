@@ -6,12 +6,12 @@ use Rattle.goblin_pe.specs.declared.export.ExportAddressTableEntry.TheVariants.{
 use Rattle.goblin_pe.specs.declared.export.ExportAddressTableEntry.TheVariants.{ForwarderRVA}
 use Rattle.goblin_pe.specs.declared.options.ParseMode.TheVariants.{Permissive}
 use Rattle.goblin_pe.specs.declared.options.ParseOptions.{ParseOptions}
-use Rattle.goblin_pe.specs.added.LayoutTables.{read_or}
-use Rattle.goblin_pe.specs.Options.{default_options}
-use Rattle.goblin_pe.specs.Reading.{Reading}
-use Rattle.goblin_pe.specs.Reads.{mapped}
-use Rattle.goblin_pe.specs.RichMetadata.{metadata_items}
-use Rattle.goblin_pe.specs.HeaderReadings.{rich_header}
+use Rattle.goblin_pe.specs.added.Layouts.{read_or}
+use Rattle.goblin_pe.specs.sect.Options.{default_options}
+use Rattle.goblin_pe.specs.base.Reading.{Reading}
+use Rattle.goblin_pe.specs.readings.Reads.{mapped}
+use Rattle.goblin_pe.specs.head.RichMetadata.{metadata_items}
+use Rattle.goblin_pe.specs.head.HeaderReadings.{rich_header}
 use Rattle.goblin_pe.specs.Whole.{whole_file}
 
 -- the options of permissive mode, which passes over damaged parts

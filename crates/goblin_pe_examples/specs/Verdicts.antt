@@ -2,7 +2,7 @@
 use Rattle.std.specs.Prelude.{◌≡◌, ℕ, List}
 use Rattle.std.specs.Option.{is_some}
 use Rattle.goblin_pe.specs.added.Keys.{IsKeyOf}
-use Rattle.goblin_pe.specs.Options.{default_options}
+use Rattle.goblin_pe.specs.sect.Options.{default_options}
 use Rattle.goblin_pe.specs.Whole.{whole_file}
 use Rattle.goblin_pe_examples.specs.declared.verdict.Verdict.{Verdict}
 

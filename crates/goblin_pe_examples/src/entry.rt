@@ -1,7 +1,7 @@
 //! Whether a program is entered in code.
 
 ghost use Rattle.std.specs.Prelude.{◌≡◌};
-ghost use Rattle.goblin_pe.specs.Reading.{ReadsOrMemory};
+ghost use Rattle.goblin_pe.specs.base.Reading.{ReadsOrMemory};
 ghost use Rattle.goblin_pe_examples.specs.Audits.{enters_code, is_entered_in_code};
 
 use goblin_pe::header::Header;

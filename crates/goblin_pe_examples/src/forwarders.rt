@@ -1,15 +1,15 @@
 //! How many exports of a file are forwarders.
 
 ghost use Rattle.std.specs.Prelude.{◌≡◌, IfErr, IsSomeAnd, count_by};
-ghost use Rattle.goblin_pe.specs.Answers.{IsMemory};
-ghost use Rattle.goblin_pe.specs.added.LayoutTables.{layout_table, read_or};
+ghost use Rattle.goblin_pe.specs.base.Answers.{IsMemory};
+ghost use Rattle.goblin_pe.specs.added.Layouts.{layout_table, read_or};
 ghost use Rattle.goblin_pe.specs.added.Layouts.{layout_bytes};
-ghost use Rattle.goblin_pe.specs.added.ExportWalks.{exports_left};
-ghost use Rattle.goblin_pe.specs.HeaderReadings.{pe_header};
-ghost use Rattle.goblin_pe.specs.Options.{is_strict};
-ghost use Rattle.goblin_pe.specs.Reading.{Reads, ReadsOrMemory};
-ghost use Rattle.goblin_pe.specs.Reads.{mapped};
-ghost use Rattle.goblin_pe.specs.added.TakenMemory.{TakesIndex};
+ghost use Rattle.goblin_pe.specs.export.added.ExportWalks.{exports_left};
+ghost use Rattle.goblin_pe.specs.head.HeaderReadings.{pe_header};
+ghost use Rattle.goblin_pe.specs.sect.Options.{is_strict};
+ghost use Rattle.goblin_pe.specs.base.Reading.{Reads, ReadsOrMemory};
+ghost use Rattle.goblin_pe.specs.readings.Reads.{mapped};
+ghost use Rattle.goblin_pe.specs.added.Layouts.{TakesIndex};
 ghost use Rattle.goblin_pe.specs.Whole.{export_part};
 ghost use Rattle.goblin_pe_examples.specs.Audits.{forwarder_count, forwarders, is_forwarder};
 

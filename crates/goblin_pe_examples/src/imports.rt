@@ -1,15 +1,15 @@
 //! From which libraries a file imports.
 
 ghost use Rattle.std.specs.Prelude.{IfErr, IsSomeAnd, false, option_map, true};
-ghost use Rattle.goblin_pe.specs.Answers.{Answers, IsMemory, all_of};
-ghost use Rattle.goblin_pe.specs.added.LayoutTables.{layout_table, read_or};
-ghost use Rattle.goblin_pe.specs.HeaderReadings.{pe_header};
+ghost use Rattle.goblin_pe.specs.base.Answers.{Answers, IsMemory, all_of};
+ghost use Rattle.goblin_pe.specs.added.Layouts.{layout_table, read_or};
+ghost use Rattle.goblin_pe.specs.head.HeaderReadings.{pe_header};
 ghost use Rattle.goblin_pe.specs.added.Layouts.{IsFileImportsCause, file_imports_left};
 ghost use Rattle.goblin_pe.specs.added.Layouts.{layout_bytes};
-ghost use Rattle.goblin_pe.specs.Reading.{Reads, ReadsOrMemory};
-ghost use Rattle.goblin_pe.specs.Reads.{mapped};
-ghost use Rattle.goblin_pe.specs.added.TakenMemory.{TakesIndex};
-ghost use Rattle.goblin_pe.specs.added.Questions.{counted, has_any};
+ghost use Rattle.goblin_pe.specs.base.Reading.{Reads, ReadsOrMemory};
+ghost use Rattle.goblin_pe.specs.readings.Reads.{mapped};
+ghost use Rattle.goblin_pe.specs.added.Layouts.{TakesIndex};
+ghost use Rattle.goblin_pe.specs.readings.added.Questions.{counted, has_any};
 ghost use Rattle.goblin_pe.specs.Whole.{import_list};
 ghost use Rattle.goblin_pe_examples.specs.Audits.{imports_from, is_from};
 

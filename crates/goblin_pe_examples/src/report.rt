@@ -2,10 +2,10 @@
 
 ghost use Rattle.std.specs.Prelude.{◌≡◌, ◌++◌, IfErr, IfOk, IsSome, MatchOption};
 ghost use Rattle.std.specs.Prelude.{None, codes, option_map, string_bytes};
-ghost use Rattle.goblin_pe.specs.Answers.{IsMemory};
-ghost use Rattle.goblin_pe.specs.Reading.{IsRefused};
-ghost use Rattle.goblin_pe.specs.ErrorText.{error_text};
-ghost use Rattle.goblin_pe.specs.Options.{default_options};
+ghost use Rattle.goblin_pe.specs.base.Answers.{IsMemory};
+ghost use Rattle.goblin_pe.specs.base.Reading.{IsRefused};
+ghost use Rattle.goblin_pe.specs.base.ErrorText.{error_text};
+ghost use Rattle.goblin_pe.specs.sect.Options.{default_options};
 ghost use Rattle.goblin_pe.specs.Whole.{whole_file};
 ghost use Rattle.goblin_pe_examples.specs.Audits.{Tells};
 

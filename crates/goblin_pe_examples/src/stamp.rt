@@ -2,11 +2,11 @@
 
 ghost use Rattle.std.specs.Prelude.{◌≡◌, ◌⊎◌, IfErr, IfOk, IsSomeAnd, None, OnErr, Some};
 ghost use Rattle.std.specs.Prelude.{length, option_and_then, true};
-ghost use Rattle.goblin_pe.specs.Answers.{FirstFault, IsSliceFault};
-ghost use Rattle.goblin_pe.specs.Bytes.{overwritten};
-ghost use Rattle.goblin_pe.specs.HeaderReadings.{pe_header};
-ghost use Rattle.goblin_pe.specs.PeHeader.{IsUnwrittenPart, header_bytes};
-ghost use Rattle.goblin_pe.specs.Reading.{IsRefused};
+ghost use Rattle.goblin_pe.specs.base.Answers.{FirstFault, IsSliceFault};
+ghost use Rattle.goblin_pe.specs.base.Bytes.{overwritten};
+ghost use Rattle.goblin_pe.specs.head.HeaderReadings.{pe_header};
+ghost use Rattle.goblin_pe.specs.head.PeHeader.{IsUnwrittenPart, header_bytes};
+ghost use Rattle.goblin_pe.specs.base.Reading.{IsRefused};
 ghost use Rattle.goblin_pe_examples.specs.Audits.{stamped};
 
 use goblin_pe::header::Header;

@@ -2,9 +2,9 @@
 
 ghost use Rattle.std.specs.Prelude.{◌≡◌, ◌<◌, IfErr, IfOk, List, MatchOption, ℕ};
 ghost use Rattle.std.specs.Option.{is_some};
-ghost use Rattle.goblin_pe.specs.Answers.{IsMemory};
-ghost use Rattle.goblin_pe.specs.Footprints.{Agree};
-ghost use Rattle.goblin_pe.specs.Options.{default_options};
+ghost use Rattle.goblin_pe.specs.base.Answers.{IsMemory};
+ghost use Rattle.goblin_pe.specs.base.Footprints.{Agree};
+ghost use Rattle.goblin_pe.specs.sect.Options.{default_options};
 ghost use Rattle.goblin_pe.specs.Whole.{whole_file};
 ghost use Rattle.goblin_pe_examples.specs.Verdicts.{IsVerdictOn};
 

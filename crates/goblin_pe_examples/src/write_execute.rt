@@ -1,7 +1,7 @@
 //! Which sections may be written and executed.
 
 ghost use Rattle.std.specs.Prelude.{◌≡◌, filter};
-ghost use Rattle.goblin_pe.specs.Reading.{ReadsOrMemory};
+ghost use Rattle.goblin_pe.specs.base.Reading.{ReadsOrMemory};
 ghost use Rattle.goblin_pe_examples.specs.Audits.{is_writable_code, writable_code};
 
 use goblin_pe::header::Header;

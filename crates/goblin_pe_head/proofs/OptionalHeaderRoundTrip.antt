@@ -14,13 +14,14 @@ use Rattle.goblin_pe_sect.proofs.DataDirectoriesRoundTrip.{entries_back}
 use Rattle.goblin_pe_head.specs.declared.optional_header.standard_fields.StandardFields32.{StandardFields32}
 use Rattle.goblin_pe_head.specs.declared.optional_header.standard_fields.StandardFields64.{StandardFields64}
 use Rattle.goblin_pe_head.specs.declared.optional_header.windows_fields.WindowsFields32.{WindowsFields32}
+use Rattle.goblin_pe_head.specs.declared.optional_header.windows_fields.WindowsFields64.{WindowsFields64}
 use Rattle.goblin_pe_head.specs.declared.optional_header.OptionalHeader.{OptionalHeader}
 use Rattle.goblin_pe_head.specs.HeaderReadings.{optional_header, standard_by, windows_by}
-use Rattle.goblin_pe_head.specs.OptionalHeader.{optional_bytes, standard_32_fields, standard_32_record, standard_64_fields, standard_64_record, standard_from_32, standard_from_64, standard_to_32, standard_to_64, windows_32_fields, windows_32_record, windows_64_fields, windows_64_record, windows_from_32, windows_to_32}
+use Rattle.goblin_pe_head.specs.OptionalHeader.{optional_bytes, standard_32_fields, standard_32_record, standard_64_fields, standard_64_record, standard_from_32, standard_from_64, standard_to_32, standard_to_64, as_windows_32, windows_32_fields, windows_32_record, windows_fields, windows_record, windows_to_32}
 use Rattle.goblin_pe_head.specs.OptionalHeaderLaws.{optional_header-within}
 use Rattle.goblin_pe_head.specs.HeaderLaws.{OptionalWritesBack, filling, optional_size}
 use Rattle.goblin_pe_head.proofs.OptionalParts.{IsOptionalOf, magic_32, magic_64, optional_of}
-use Rattle.goblin_pe_head.proofs.OptionalFieldsRoundTrip.{standard_32_back, standard_64_back, windows_32_back, windows_64_back}
+use Rattle.goblin_pe_head.proofs.OptionalFieldsRoundTrip.{standard_32_back, standard_64_back, windows_4_back, windows_64_back}
 
 -- a field of four bytes fits 32 bits
 pub four-bytes : (own : List ℕ) (p : ℕ) → IsBytes own → number Little 4 own p < 2 ^ 32
@@ -35,8 +36,8 @@ standard_64-same : (own : List ℕ) → IsBytes own → standard_to_64 (standard
 unfolding standard_to_64 standard_from_64
 standard_64-same own h = rw (mod-eq_of_lt (four-bytes own 4 h), mod-eq_of_lt (four-bytes own 8 h), mod-eq_of_lt (four-bytes own 12 h), mod-eq_of_lt (four-bytes own 20 h)) refl
 
-windows_32-same : (own : List ℕ) → IsBytes own → windows_to_32 (windows_from_32 (windows_32_record Little own)) ≡ Some (windows_32_record Little own)
-unfolding windows_to_32 windows_from_32
+windows_32-same : (own : List ℕ) → IsBytes own → windows_to_32 (windows_record 4 Little own) ≡ Some (windows_32_record Little own)
+unfolding windows_to_32
 windows_32-same own h = rw (lt-ltb _ _ (four-bytes own 0 h), lt-ltb _ _ (four-bytes own 44 h), lt-ltb _ _ (four-bytes own 48 h), lt-ltb _ _ (four-bytes own 52 h), lt-ltb _ _ (four-bytes own 56 h)) refl
 
 form_32 : (h : OptionalHeader) (s : StandardFields32) (w : WindowsFields32) → h.standard_fields.magic ≡ 0x10B → standard_to_32 h.standard_fields ≡ s → windows_to_32 h.windows_fields ≡ Some w
@@ -45,7 +46,7 @@ unfolding optional_bytes
 form_32 h s w magic standard windows = rw (standard, windows, magic) refl
 
 form_64 : (h : OptionalHeader) (s : StandardFields64) → h.standard_fields.magic ≡ 0x20B → standard_to_64 h.standard_fields ≡ s
-    → optional_bytes Little h ≡ Some (encoding Little (standard_64_fields s) ++ (encoding Little (windows_64_fields h.windows_fields) ++ (encoding Little (entries_fields h.data_directories.data_directories) ++ [])))
+    → optional_bytes Little h ≡ Some (encoding Little (standard_64_fields s) ++ (encoding Little (windows_fields 8 h.windows_fields) ++ (encoding Little (entries_fields h.data_directories.data_directories) ++ [])))
 unfolding optional_bytes
 form_64 h s magic standard = rw (standard, magic) refl
 
@@ -80,19 +81,18 @@ narrow bytes x h is =
     let count = header.windows_fields.number_of_rva_and_sizes in
     let entries = header.data_directories.data_directories in
     let s = mapped (record_at 28 (standard_32_record Little) bytes 0) standard_from_32 header.standard_fields is.standard in
-    let w = mapped (record_at 68 (windows_32_record Little) bytes 28) windows_from_32 header.windows_fields is.windows in
     let s_is = (record_at-some 28 (standard_32_record Little) bytes 0 s.value s.is).is in
-    let w_is = (record_at-some 68 (windows_32_record Little) bytes 28 w.value w.is).is in
+    let w_is = (record_at-some 68 (windows_record 4 Little) bytes 28 header.windows_fields is.windows).is in
     let standard : standard_to_32 header.standard_fields ≡ s.value =
     ap standard_to_32 (sym s.made) ∙ ap (λ (x : StandardFields32). standard_to_32 (standard_from_32 x)) s_is ∙ standard_32-same (slice_range bytes 0 (0 + 28)) (IsBytes-slice bytes 0 28 h) ∙ sym s_is in
-    let windows : windows_to_32 header.windows_fields ≡ Some w.value =
-    ap windows_to_32 (sym w.made) ∙ ap (λ (x : WindowsFields32). windows_to_32 (windows_from_32 x)) w_is ∙ windows_32-same (slice_range bytes 28 (28 + 68)) (IsBytes-slice bytes 28 68 h) ∙ ap (λ (x : WindowsFields32). Some x) (sym w_is) in
+    let windows : windows_to_32 header.windows_fields ≡ Some (as_windows_32 header.windows_fields) =
+    ap windows_to_32 w_is ∙ windows_32-same (slice_range bytes 28 (28 + 68)) (IsBytes-slice bytes 28 68 h) ∙ ap (λ (x : WindowsFields64). Some (as_windows_32 x)) (sym w_is) in
     let magic = magic_32 bytes x is in (
       rw magic (sym is.size),
-      form_32 header s.value w.value magic standard windows
-          ∙ ap (λ (xs : List ℕ). Some xs) (pieces bytes 28 68 (8 * count) (encoding Little (standard_32_fields s.value)) (encoding Little (windows_32_fields w.value)) (encoding Little (entries_fields entries)) (filling header)
+      form_32 header s.value (as_windows_32 header.windows_fields) magic standard windows
+          ∙ ap (λ (xs : List ℕ). Some xs) (pieces bytes 28 68 (8 * count) (encoding Little (standard_32_fields s.value)) (encoding Little (windows_fields 4 header.windows_fields)) (encoding Little (entries_fields entries)) (filling header)
           (record_bytes-are 28 (standard_32_record Little) standard_32_fields bytes 0 s.value (standard_32_back Little) h s.is)
-          (record_bytes-are 68 (windows_32_record Little) windows_32_fields bytes 28 w.value (windows_32_back Little) h w.is)
+          (record_bytes-are 68 (windows_record 4 Little) (windows_fields 4) bytes 28 header.windows_fields (windows_4_back Little) h is.windows)
           (entries-are bytes count 96 entries h is.directories))
           ∙ ap (λ (n : ℕ). Some (take n bytes ++ filling header)) is.size,
     )
@@ -110,9 +110,9 @@ wide bytes x h is =
     let magic = magic_64 bytes x is in (
       rw magic (sym is.size),
       form_64 header s.value magic standard
-          ∙ ap (λ (xs : List ℕ). Some xs) (pieces bytes 24 88 (8 * count) (encoding Little (standard_64_fields s.value)) (encoding Little (windows_64_fields header.windows_fields)) (encoding Little (entries_fields entries)) (filling header)
+          ∙ ap (λ (xs : List ℕ). Some xs) (pieces bytes 24 88 (8 * count) (encoding Little (standard_64_fields s.value)) (encoding Little (windows_fields 8 header.windows_fields)) (encoding Little (entries_fields entries)) (filling header)
           (record_bytes-are 24 (standard_64_record Little) standard_64_fields bytes 0 s.value (standard_64_back Little) h s.is)
-          (record_bytes-are 88 (windows_64_record Little) windows_64_fields bytes 24 header.windows_fields (windows_64_back Little) h is.windows)
+          (record_bytes-are 88 (windows_record 8 Little) (windows_fields 8) bytes 24 header.windows_fields (windows_64_back Little) h is.windows)
           (entries-are bytes count 112 entries h is.directories))
           ∙ ap (λ (n : ℕ). Some (take n bytes ++ filling header)) is.size,
     )

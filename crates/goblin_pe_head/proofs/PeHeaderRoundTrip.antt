@@ -21,7 +21,7 @@ use Rattle.goblin_pe_head.specs.DosHeader.{dos_fields, dos_record}
 use Rattle.goblin_pe_head.specs.DosStub.{default_stub}
 use Rattle.goblin_pe_head.specs.HeaderLaws.{DosWritesBack, HeaderWritesBack, end_after, filling, filling_after, optional_size, HeaderReadsBack, header_end, OptionalWritesBack}
 use Rattle.goblin_pe_head.specs.HeaderReadings.{SignedParts, coff_parts, dos_header, dos_signature, header_of, optional_at, optional_header, parts_at, pe_header, pe_signature, signed_record, standard_by, stub_in, that_is, windows_by}
-use Rattle.goblin_pe_head.specs.OptionalHeader.{standard_32_record, standard_64_record, standard_from_32, standard_from_64, windows_32_record, windows_64_record, windows_from_32}
+use Rattle.goblin_pe_head.specs.OptionalHeader.{standard_32_record, standard_64_record, standard_from_32, standard_from_64, windows_record}
 use Rattle.goblin_pe_head.specs.PeHeader.{PeHeader, header_bytes, header_parts, written_part}
 use Rattle.goblin_pe_head.specs.RichReadings.{rich_at, rich_in}
 use Rattle.readings.proofs.Pairs.{both, strict_in_its_place}
@@ -244,7 +244,7 @@ narrow-front n x a b front le is =
     record {
       front = number-front n Little 2 0 0x10B a b front (omega (arith, end, le)) is.front;
       standard = mapped-front n 28 0 (standard_32_record Little) standard_from_32 x.0.standard_fields a b front (omega arith) (omega (arith, end, le)) is.standard;
-      windows = mapped-front n 68 28 (windows_32_record Little) windows_from_32 x.0.windows_fields a b front (omega arith) (omega (arith, end, le)) is.windows;
+      windows = record-front n 68 (windows_record 4 Little) 28 x.0.windows_fields a b front (omega arith) (omega (arith, end, le)) is.windows;
       directories = directories-front n x.0.windows_fields.number_of_rva_and_sizes 96 x.0.data_directories.data_directories a b front (omega (arith, end, le)) is.directories;
       size = is.size;
     }
@@ -256,7 +256,7 @@ wide-front n x a b front le is =
     record {
       front = number-front n Little 2 0 0x20B a b front (omega (arith, end, le)) is.front;
       standard = mapped-front n 24 0 (standard_64_record Little) standard_from_64 x.0.standard_fields a b front (omega arith) (omega (arith, end, le)) is.standard;
-      windows = record-front n 88 (windows_64_record Little) 24 x.0.windows_fields a b front (omega arith) (omega (arith, end, le)) is.windows;
+      windows = record-front n 88 (windows_record 8 Little) 24 x.0.windows_fields a b front (omega arith) (omega (arith, end, le)) is.windows;
       directories = directories-front n x.0.windows_fields.number_of_rva_and_sizes 112 x.0.data_directories.data_directories a b front (omega (arith, end, le)) is.directories;
       size = is.size;
     }

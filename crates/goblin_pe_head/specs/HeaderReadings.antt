@@ -22,9 +22,9 @@ use Rattle.goblin_pe_head.specs.declared.optional_header.windows_fields.WindowsF
 use Rattle.goblin_pe_head.specs.CoffHeader.{coff_header}
 use Rattle.goblin_pe_head.specs.DosHeader.{dos_record}
 use Rattle.goblin_pe_head.specs.DosStub.{IsStubFault, default_stub}
-use Rattle.goblin_pe_head.specs.OptionalHeader.{IsBadMagic, windows_32_record, windows_64_record}
+use Rattle.goblin_pe_head.specs.OptionalHeader.{IsBadMagic, windows_record}
 use Rattle.goblin_pe_head.specs.OptionalHeader.{fields_size, standard_32_record, standard_64_record}
-use Rattle.goblin_pe_head.specs.OptionalHeader.{standard_from_32, standard_from_64, windows_from_32}
+use Rattle.goblin_pe_head.specs.OptionalHeader.{standard_from_32, standard_from_64}
 use Rattle.goblin_pe_head.specs.PeHeader.{PeHeader, zero_dos_header}
 use Rattle.goblin_pe_head.specs.RichHeader.{Rich}
 use Rattle.goblin_pe_head.specs.RichReadings.{rich_at}
@@ -101,8 +101,8 @@ standard_by magic =
 -- the Windows fields, which follow the standard fields
 unfoldable pub windows_by : ℕ → Reading WindowsFields64
 windows_by magic =
-    by_magic (mapped windows_from_32 (record_at 68 (windows_32_record Little) 28))
-    (record_at 88 (windows_64_record Little) 24) magic
+    by_magic (record_at 68 (windows_record 4 Little) 28) (record_at 88 (windows_record 8 Little) 24)
+    magic
 
 -- the fields before the data directories
 abbrev pub fields_with : ℕ → StandardFields × WindowsFields64 → FixedFields

@@ -1,7 +1,7 @@
 -- The optional header: standard fields and Windows fields in the width that the magic gives, and
 -- then the data directories.
 use Rattle.std.specs.List.{concat}
-use Rattle.std.specs.Prelude.{◌≡◌, ◌≢◌, ◌⊎◌, ℕ, ◌%◌, ◌^◌, ◌==◌, if◌then◌else◌, List, [], ◌∷◌}
+use Rattle.std.specs.Prelude.{◌≡◌, ◌≢◌, ◌⊎◌, ℕ, ◌+◌, ◌*◌, ◌%◌, ◌^◌, ◌==◌, if◌then◌else◌, List, [], ◌∷◌}
 use Rattle.std.specs.Prelude.{nat_lt, Option, Some, None, Result, option_map}
 use Rattle.goblin_base.specs.declared.endian.Endian.{Endian}
 use Rattle.goblin_base.specs.declared.error.ErrorOf.{ErrorOf}
@@ -71,85 +71,105 @@ standard_64_fields f =
     ∷ uint 4 f.address_of_entry_point
     ∷ uint 4 f.base_of_code ∷ []
 
--- the Windows fields for 32 bits in a record's 68 bytes
+-- the Windows fields in a record's 48 + 5 w bytes; five of them have w bytes each: 4 for 32 bits, 8
+-- for 64 bits
+abbrev pub windows_record : ℕ → Endian → List ℕ → WindowsFields64
+windows_record w endian bytes = record {
+  image_base = number endian w bytes 0;
+  section_alignment = number endian 4 bytes w;
+  file_alignment = number endian 4 bytes (w + 4);
+  major_operating_system_version = number endian 2 bytes (w + 8);
+  minor_operating_system_version = number endian 2 bytes (w + 10);
+  major_image_version = number endian 2 bytes (w + 12);
+  minor_image_version = number endian 2 bytes (w + 14);
+  major_subsystem_version = number endian 2 bytes (w + 16);
+  minor_subsystem_version = number endian 2 bytes (w + 18);
+  win32_version_value = number endian 4 bytes (w + 20);
+  size_of_image = number endian 4 bytes (w + 24);
+  size_of_headers = number endian 4 bytes (w + 28);
+  check_sum = number endian 4 bytes (w + 32);
+  subsystem = number endian 2 bytes (w + 36);
+  dll_characteristics = number endian 2 bytes (w + 38);
+  size_of_stack_reserve = number endian w bytes (w + 40);
+  size_of_stack_commit = number endian w bytes (2 * w + 40);
+  size_of_heap_reserve = number endian w bytes (3 * w + 40);
+  size_of_heap_commit = number endian w bytes (4 * w + 40);
+  loader_flags = number endian 4 bytes (5 * w + 40);
+  number_of_rva_and_sizes = number endian 4 bytes (5 * w + 44);
+}
+
+-- their fields, in order
+abbrev pub windows_fields : ℕ → WindowsFields64 → List FieldValue
+windows_fields w f =
+    uint w f.image_base ∷ uint 4 f.section_alignment ∷ uint 4 f.file_alignment
+    ∷ uint 2 f.major_operating_system_version
+    ∷ uint 2 f.minor_operating_system_version ∷ uint 2 f.major_image_version
+    ∷ uint 2 f.minor_image_version
+    ∷ uint 2 f.major_subsystem_version ∷ uint 2 f.minor_subsystem_version
+    ∷ uint 4 f.win32_version_value
+    ∷ uint 4 f.size_of_image ∷ uint 4 f.size_of_headers ∷ uint 4 f.check_sum ∷ uint 2 f.subsystem
+    ∷ uint 2 f.dll_characteristics ∷ uint w f.size_of_stack_reserve ∷ uint w f.size_of_stack_commit
+    ∷ uint w f.size_of_heap_reserve ∷ uint w f.size_of_heap_commit ∷ uint 4 f.loader_flags
+    ∷ uint 4 f.number_of_rva_and_sizes ∷ []
+
+-- the fields as those for 32 bits
+abbrev pub as_windows_32 : WindowsFields64 → WindowsFields32
+as_windows_32 s = record {
+  image_base = s.image_base;
+  section_alignment = s.section_alignment;
+  file_alignment = s.file_alignment;
+  major_operating_system_version = s.major_operating_system_version;
+  minor_operating_system_version = s.minor_operating_system_version;
+  major_image_version = s.major_image_version;
+  minor_image_version = s.minor_image_version;
+  major_subsystem_version = s.major_subsystem_version;
+  minor_subsystem_version = s.minor_subsystem_version;
+  win32_version_value = s.win32_version_value;
+  size_of_image = s.size_of_image;
+  size_of_headers = s.size_of_headers;
+  check_sum = s.check_sum;
+  subsystem = s.subsystem;
+  dll_characteristics = s.dll_characteristics;
+  size_of_stack_reserve = s.size_of_stack_reserve;
+  size_of_stack_commit = s.size_of_stack_commit;
+  size_of_heap_reserve = s.size_of_heap_reserve;
+  size_of_heap_commit = s.size_of_heap_commit;
+  loader_flags = s.loader_flags;
+  number_of_rva_and_sizes = s.number_of_rva_and_sizes;
+}
+
+-- the Windows fields of either width, from those for 32 bits
+abbrev pub windows_from_32 : WindowsFields32 → WindowsFields64
+windows_from_32 s = record {
+  image_base = s.image_base;
+  section_alignment = s.section_alignment;
+  file_alignment = s.file_alignment;
+  major_operating_system_version = s.major_operating_system_version;
+  minor_operating_system_version = s.minor_operating_system_version;
+  major_image_version = s.major_image_version;
+  minor_image_version = s.minor_image_version;
+  major_subsystem_version = s.major_subsystem_version;
+  minor_subsystem_version = s.minor_subsystem_version;
+  win32_version_value = s.win32_version_value;
+  size_of_image = s.size_of_image;
+  size_of_headers = s.size_of_headers;
+  check_sum = s.check_sum;
+  subsystem = s.subsystem;
+  dll_characteristics = s.dll_characteristics;
+  size_of_stack_reserve = s.size_of_stack_reserve;
+  size_of_stack_commit = s.size_of_stack_commit;
+  size_of_heap_reserve = s.size_of_heap_reserve;
+  size_of_heap_commit = s.size_of_heap_commit;
+  loader_flags = s.loader_flags;
+  number_of_rva_and_sizes = s.number_of_rva_and_sizes;
+}
+
+-- the Windows fields for 32 bits in a record's 68 bytes, and their fields, in order
 abbrev pub windows_32_record : Endian → List ℕ → WindowsFields32
-windows_32_record endian bytes = record {
-  image_base = number endian 4 bytes 0;
-  section_alignment = number endian 4 bytes 4;
-  file_alignment = number endian 4 bytes 8;
-  major_operating_system_version = number endian 2 bytes 12;
-  minor_operating_system_version = number endian 2 bytes 14;
-  major_image_version = number endian 2 bytes 16;
-  minor_image_version = number endian 2 bytes 18;
-  major_subsystem_version = number endian 2 bytes 20;
-  minor_subsystem_version = number endian 2 bytes 22;
-  win32_version_value = number endian 4 bytes 24;
-  size_of_image = number endian 4 bytes 28;
-  size_of_headers = number endian 4 bytes 32;
-  check_sum = number endian 4 bytes 36;
-  subsystem = number endian 2 bytes 40;
-  dll_characteristics = number endian 2 bytes 42;
-  size_of_stack_reserve = number endian 4 bytes 44;
-  size_of_stack_commit = number endian 4 bytes 48;
-  size_of_heap_reserve = number endian 4 bytes 52;
-  size_of_heap_commit = number endian 4 bytes 56;
-  loader_flags = number endian 4 bytes 60;
-  number_of_rva_and_sizes = number endian 4 bytes 64;
-}
+windows_32_record endian bytes = as_windows_32 (windows_record 4 endian bytes)
 
--- their fields, in order
 abbrev pub windows_32_fields : WindowsFields32 → List FieldValue
-windows_32_fields f =
-    uint 4 f.image_base ∷ uint 4 f.section_alignment ∷ uint 4 f.file_alignment
-    ∷ uint 2 f.major_operating_system_version
-    ∷ uint 2 f.minor_operating_system_version ∷ uint 2 f.major_image_version
-    ∷ uint 2 f.minor_image_version
-    ∷ uint 2 f.major_subsystem_version ∷ uint 2 f.minor_subsystem_version
-    ∷ uint 4 f.win32_version_value
-    ∷ uint 4 f.size_of_image ∷ uint 4 f.size_of_headers ∷ uint 4 f.check_sum ∷ uint 2 f.subsystem
-    ∷ uint 2 f.dll_characteristics ∷ uint 4 f.size_of_stack_reserve ∷ uint 4 f.size_of_stack_commit
-    ∷ uint 4 f.size_of_heap_reserve ∷ uint 4 f.size_of_heap_commit ∷ uint 4 f.loader_flags
-    ∷ uint 4 f.number_of_rva_and_sizes ∷ []
-
--- the Windows fields for 64 bits in a record's 88 bytes
-abbrev pub windows_64_record : Endian → List ℕ → WindowsFields64
-windows_64_record endian bytes = record {
-  image_base = number endian 8 bytes 0;
-  section_alignment = number endian 4 bytes 8;
-  file_alignment = number endian 4 bytes 12;
-  major_operating_system_version = number endian 2 bytes 16;
-  minor_operating_system_version = number endian 2 bytes 18;
-  major_image_version = number endian 2 bytes 20;
-  minor_image_version = number endian 2 bytes 22;
-  major_subsystem_version = number endian 2 bytes 24;
-  minor_subsystem_version = number endian 2 bytes 26;
-  win32_version_value = number endian 4 bytes 28;
-  size_of_image = number endian 4 bytes 32;
-  size_of_headers = number endian 4 bytes 36;
-  check_sum = number endian 4 bytes 40;
-  subsystem = number endian 2 bytes 44;
-  dll_characteristics = number endian 2 bytes 46;
-  size_of_stack_reserve = number endian 8 bytes 48;
-  size_of_stack_commit = number endian 8 bytes 56;
-  size_of_heap_reserve = number endian 8 bytes 64;
-  size_of_heap_commit = number endian 8 bytes 72;
-  loader_flags = number endian 4 bytes 80;
-  number_of_rva_and_sizes = number endian 4 bytes 84;
-}
-
--- their fields, in order
-abbrev pub windows_64_fields : WindowsFields64 → List FieldValue
-windows_64_fields f =
-    uint 8 f.image_base ∷ uint 4 f.section_alignment ∷ uint 4 f.file_alignment
-    ∷ uint 2 f.major_operating_system_version
-    ∷ uint 2 f.minor_operating_system_version ∷ uint 2 f.major_image_version
-    ∷ uint 2 f.minor_image_version
-    ∷ uint 2 f.major_subsystem_version ∷ uint 2 f.minor_subsystem_version
-    ∷ uint 4 f.win32_version_value
-    ∷ uint 4 f.size_of_image ∷ uint 4 f.size_of_headers ∷ uint 4 f.check_sum ∷ uint 2 f.subsystem
-    ∷ uint 2 f.dll_characteristics ∷ uint 8 f.size_of_stack_reserve ∷ uint 8 f.size_of_stack_commit
-    ∷ uint 8 f.size_of_heap_reserve ∷ uint 8 f.size_of_heap_commit ∷ uint 4 f.loader_flags
-    ∷ uint 4 f.number_of_rva_and_sizes ∷ []
+windows_32_fields f = windows_fields 4 (windows_from_32 f)
 
 -- the standard fields of either width, from those for 32 bits
 unfoldable pub standard_from_32 : StandardFields32 → StandardFields
@@ -206,32 +226,6 @@ standard_to_64 s = record {
   base_of_code = s.base_of_code % 2 ^ 32;
 }
 
--- the Windows fields of either width, from those for 32 bits
-unfoldable pub windows_from_32 : WindowsFields32 → WindowsFields64
-windows_from_32 s = record {
-  image_base = s.image_base;
-  section_alignment = s.section_alignment;
-  file_alignment = s.file_alignment;
-  major_operating_system_version = s.major_operating_system_version;
-  minor_operating_system_version = s.minor_operating_system_version;
-  major_image_version = s.major_image_version;
-  minor_image_version = s.minor_image_version;
-  major_subsystem_version = s.major_subsystem_version;
-  minor_subsystem_version = s.minor_subsystem_version;
-  win32_version_value = s.win32_version_value;
-  size_of_image = s.size_of_image;
-  size_of_headers = s.size_of_headers;
-  check_sum = s.check_sum;
-  subsystem = s.subsystem;
-  dll_characteristics = s.dll_characteristics;
-  size_of_stack_reserve = s.size_of_stack_reserve;
-  size_of_stack_commit = s.size_of_stack_commit;
-  size_of_heap_reserve = s.size_of_heap_reserve;
-  size_of_heap_commit = s.size_of_heap_commit;
-  loader_flags = s.loader_flags;
-  number_of_rva_and_sizes = s.number_of_rva_and_sizes;
-}
-
 -- a number that fits 32 bits
 abbrev pub narrowed : ℕ → Option ℕ
 narrowed n = if nat_lt n (2 ^ 32) then Some n else None
@@ -249,29 +243,13 @@ windows_to_32 s = do
   size_of_stack_commit ← narrowed s.size_of_stack_commit
   size_of_heap_reserve ← narrowed s.size_of_heap_reserve
   size_of_heap_commit ← narrowed s.size_of_heap_commit
-  Some (record {
+  Some (as_windows_32 (record s {
     image_base = image_base;
-    section_alignment = s.section_alignment;
-    file_alignment = s.file_alignment;
-    major_operating_system_version = s.major_operating_system_version;
-    minor_operating_system_version = s.minor_operating_system_version;
-    major_image_version = s.major_image_version;
-    minor_image_version = s.minor_image_version;
-    major_subsystem_version = s.major_subsystem_version;
-    minor_subsystem_version = s.minor_subsystem_version;
-    win32_version_value = s.win32_version_value;
-    size_of_image = s.size_of_image;
-    size_of_headers = s.size_of_headers;
-    check_sum = s.check_sum;
-    subsystem = s.subsystem;
-    dll_characteristics = s.dll_characteristics;
     size_of_stack_reserve = size_of_stack_reserve;
     size_of_stack_commit = size_of_stack_commit;
     size_of_heap_reserve = size_of_heap_reserve;
     size_of_heap_commit = size_of_heap_commit;
-    loader_flags = s.loader_flags;
-    number_of_rva_and_sizes = s.number_of_rva_and_sizes;
-  })
+  }))
 
 -- what the conversion to 32 bits returns
 abbrev pub NarrowsWindows : WindowsFields64 → Result WindowsFields32 ErrorOf → Type 0
@@ -309,7 +287,7 @@ bytes_32 endian h =
 abbrev pub bytes_64 : Endian → OptionalHeader → List ℕ
 bytes_64 endian h = concat (
     encoding endian (standard_64_fields (standard_to_64 h.standard_fields))
-    ∷ encoding endian (windows_64_fields h.windows_fields)
+    ∷ encoding endian (windows_fields 8 h.windows_fields)
     ∷ encoding endian (entries_fields h.data_directories.data_directories)
     ∷ []
     )

@@ -12,8 +12,7 @@ use Rattle.goblin_pe_sect.specs.DirectoryReadings.{directories_at}
 use Rattle.goblin_pe_sect.proofs.EntriesWithin.{directories-within}
 use Rattle.goblin_pe_head.specs.HeaderReadings.{fields_with, fixed_fields, optional_header}
 use Rattle.goblin_pe_head.specs.HeaderReadings.{standard_by, windows_by}
-use Rattle.goblin_pe_head.specs.OptionalHeader.{fields_size, windows_32_record, windows_64_record}
-use Rattle.goblin_pe_head.specs.OptionalHeader.{windows_from_32}
+use Rattle.goblin_pe_head.specs.OptionalHeader.{fields_size, windows_record}
 
 bind-within : {A B : Type 0} (o : Option A) (f : A → Option B) (P : A → Type 0) (Q : B → Type 0)
     → IfSome o P → ((x : A) → P x → IfSome (f x) Q) → IfSome (o >>= f) Q
@@ -57,13 +56,11 @@ windows-within : (magic : ℕ) (bytes : List ℕ)
     → IfSome ((windows_by magic).value bytes) (λ _. fields_size magic ≤ length bytes)
 unfolding windows_by
 windows-within magic bytes =
-    let narrow = record_at 68 (windows_32_record Little) bytes 28 in
-    let wide = record_at 88 (windows_64_record Little) bytes 24 in
     either-within (length bytes) (nat_eq magic 0x10B) (nat_eq magic 0x20B)
-    (option_map windows_from_32 narrow) wide
-    (made-within narrow windows_from_32 (96 ≤ length bytes) (λ _. 96 ≤ length bytes)
-    (record-within 68 (windows_32_record Little) bytes 28) (λ _ h. h))
-    (record-within 88 (windows_64_record Little) bytes 24)
+    (record_at 68 (windows_record 4 Little) bytes 28)
+    (record_at 88 (windows_record 8 Little) bytes 24)
+    (record-within 68 (windows_record 4 Little) bytes 28)
+    (record-within 88 (windows_record 8 Little) bytes 24)
 
 fixed-within : (magic : ℕ) (bytes : List ℕ)
     → IfSome ((fixed_fields magic).value bytes) (λ f. f.size ≤ length bytes)

@@ -3,8 +3,8 @@
 ghost use Rattle.std.specs.Prelude.{◌≡◌, ◌≢◌, ◌<◌, string_bytes, Err, IfErr, IfOk, IfSome};
 ghost use Rattle.std.specs.Prelude.{IsSomeAnd, IsTrue, OnErr, OnOk, Some};
 ghost use Rattle.std.specs.Io.KnownBytes.{Appends, Keeps};
-ghost use Rattle.goblin_pe.specs.Reading.{IsRefused};
-ghost use Rattle.goblin_pe.specs.Answers.{IsMemory};
+ghost use Rattle.goblin_pe.specs.base.Reading.{IsRefused};
+ghost use Rattle.goblin_pe.specs.base.Answers.{IsMemory};
 ghost use Rattle.pe_listing.specs.Listing.{listing_of};
 ghost use Rattle.pe_list.specs.Run.{AppendsPart, IfRefused};
 

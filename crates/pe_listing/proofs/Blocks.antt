@@ -1,7 +1,7 @@
 -- How many blocks there are.
 use Rattle.std.proofs.Common.{ℕ, zero, suc, ◌+◌, ◌-◌, ◌≤◌, Bool, true, false, cond, List, [], ◌∷◌, length, arith, Result, Ok, Err, nat_lt}
 use Rattle.goblin_pe.specs.declared.error.ErrorOf.{ErrorOf}
-use Rattle.goblin_pe.specs.BaseRelocations.{Block, block_at, block_items, first_items, then_items}
+use Rattle.goblin_pe.specs.sect.BaseRelocations.{Block, block_at, block_items, first_items, then_items}
 use Rattle.pe_listing.specs.Lines.{block_count}
 
 counted : (items : List (Result Block ErrorOf)) → block_count items ≤ length items

@@ -3,17 +3,17 @@ use Rattle.std.specs.Prelude.{ℕ, ◌/◌, List, [], ◌∷◌, ◌++◌, codes
 use Rattle.std.specs.Prelude.{None, Result, Ok, Err, suc}
 use Rattle.std.specs.List.{concat, flat_map}
 use Rattle.goblin_pe.specs.declared.error.ErrorOf.{ErrorOf}
-use Rattle.goblin_pe.specs.Bytes.{before_nul}
-use Rattle.goblin_pe.specs.BaseRelocations.{Block, block_items}
-use Rattle.goblin_pe.specs.SectionTable.{Section}
+use Rattle.goblin_pe.specs.base.Bytes.{before_nul}
+use Rattle.goblin_pe.specs.sect.BaseRelocations.{Block, block_items}
+use Rattle.goblin_pe.specs.sect.SectionTable.{Section}
 use Rattle.goblin_pe.specs.declared.optional_header.OptionalHeader.{OptionalHeader}
-use Rattle.goblin_pe.specs.PeHeader.{PeHeader}
+use Rattle.goblin_pe.specs.head.PeHeader.{PeHeader}
 use Rattle.goblin_pe.specs.declared.whole.Part.{Part}
 use Rattle.goblin_pe.specs.declared.whole.Part.TheVariants.{Absent, Read, Refused}
-use Rattle.goblin_pe.specs.Exports.{ExportRow}
-use Rattle.goblin_pe.specs.Forwarders.{Forwarder}
-use Rattle.goblin_pe.specs.Forwarders.Forwarder.{ByName, ByOrdinal}
-use Rattle.goblin_pe.specs.Imports.{ImportValue}
+use Rattle.goblin_pe.specs.export.Exports.{ExportRow}
+use Rattle.goblin_pe.specs.export.Forwarders.{Forwarder}
+use Rattle.goblin_pe.specs.export.Forwarders.Forwarder.{ByName, ByOrdinal}
+use Rattle.goblin_pe.specs.import.Imports.{ImportValue}
 use Rattle.goblin_pe.specs.Whole.{WholeFile}
 use Rattle.pe_listing.specs.Text.{decimal_field, hex_field, name_field}
 

@@ -2,9 +2,9 @@
 use Rattle.std.specs.Prelude.{ℕ, List}
 use Rattle.goblin_pe.specs.declared.options.ParseMode.{ParseMode}
 use Rattle.goblin_pe.specs.declared.options.ParseOptions.{ParseOptions}
-use Rattle.goblin_pe.specs.Options.{default_options}
-use Rattle.goblin_pe.specs.Reading.{Reading}
-use Rattle.goblin_pe.specs.Reads.{mapped}
+use Rattle.goblin_pe.specs.sect.Options.{default_options}
+use Rattle.goblin_pe.specs.base.Reading.{Reading}
+use Rattle.goblin_pe.specs.readings.Reads.{mapped}
 use Rattle.goblin_pe.specs.Whole.{whole_file}
 use Rattle.pe_listing.specs.Lines.{whole_lines}
 

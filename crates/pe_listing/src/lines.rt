@@ -2,9 +2,9 @@
 
 ghost use Rattle.std.specs.Prelude.{◌≡◌, ◌++◌, ℕ, List, OnOk, codes, length, option_map};
 ghost use Rattle.std.specs.Prelude.{string_bytes, flat_map};
-ghost use Rattle.goblin_pe.specs.PeHeader.{header_value};
-ghost use Rattle.goblin_pe.specs.BaseRelocations.{block_item, block_items, relocation_bytes};
-ghost use Rattle.goblin_pe.specs.Forwarders.{forwarder_value};
+ghost use Rattle.goblin_pe.specs.head.PeHeader.{header_value};
+ghost use Rattle.goblin_pe.specs.sect.BaseRelocations.{block_item, block_items, relocation_bytes};
+ghost use Rattle.goblin_pe.specs.export.Forwarders.{forwarder_value};
 ghost use Rattle.goblin_pe.specs.Whole.{items_part, part_map};
 ghost use Rattle.pe_listing.specs.Lines.{block_count, block_line, export_line, forward_field};
 ghost use Rattle.pe_listing.specs.Lines.{header_line, if_there, import_line, optional_fields};

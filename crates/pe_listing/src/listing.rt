@@ -1,7 +1,7 @@
 //! The listing of a file.
 
 ghost use Rattle.std.specs.Prelude.{string_bytes};
-ghost use Rattle.goblin_pe.specs.Reading.{ReadsOrMemory};
+ghost use Rattle.goblin_pe.specs.base.Reading.{ReadsOrMemory};
 ghost use Rattle.pe_listing.specs.Listing.{listing_of};
 
 use crate::lines::push_whole;

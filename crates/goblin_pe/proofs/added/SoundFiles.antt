@@ -19,8 +19,7 @@ use Rattle.goblin_pe_import.specs.declared.added.left_out.LeftOut.{LeftOut}
 use Rattle.goblin_pe.specs.declared.added.damage.Damage.{Damage}
 use Rattle.goblin_pe.specs.added.Damages.{AreDamaged, IsDamage, IsDamaged, IsReadByBoth, IsSound, TellsDamage, left_out_of}
 use Rattle.goblin_pe.specs.Modes.{in_mode}
-use Rattle.goblin_pe.specs.Whole.{by_layout, NumberedTables, TablePlaces, export_part, import_list, layout, lists_of, mapped_in, numbered_data_part, addressing_by, places_in, relocation_part, sections_after, table_parts, tables_with, whole_in, whole_of}
-use Rattle.goblin_pe.specs.Whole.{whole_with}
+use Rattle.goblin_pe.specs.Whole.{by_layout, NumberedTables, TablePlaces, export_part, import_list, layout, lists_of, mapped_in, numbered_data_part, addressing_by, places_in, relocation_part, sections_after, table_parts, tables_with, whole_in, whole_of, whole_with}
 use Rattle.goblin_pe.proofs.PermissiveReads.{repeats-table_parts, sections_repeat}
 use Rattle.goblin_pe.proofs.added.UnhiddenImports.{tables_same}
 use Rattle.goblin_pe.proofs.added.WalkedParts.{was-there}

@@ -2,7 +2,7 @@
 use Rattle.std.proofs.Common.{◌≡◌, List, [], ◌∷◌, ◌++◌, Option, Some, None, Result, Ok, Err, refl, subst, IsSome}
 use Rattle.goblin_base.specs.declared.error.ErrorOf.{ErrorOf}
 use Rattle.goblin_base.specs.Answers.{all_of}
-use Rattle.goblin_pe.specs.Walks.{GivesNext}
+use Rattle.readings.specs.Walks.{GivesNext}
 use Rattle.readings.proofs.Walked.{AtWalk, walk-all, walk-fault, walk-more, walk-start}
 
 module _ {S A : Type 0} (left : S → List (Option A)) (IsCause : S → ErrorOf → Type 0) (start : S) where

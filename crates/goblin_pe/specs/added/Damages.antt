@@ -1,6 +1,6 @@
 -- What strict mode would refuse in a file, part by part.
 use Rattle.std.specs.Prelude.{◌≡◌, ℕ, true, List, Option, None, Some, IsSome, IsSomeAnd, Result, Ok}
-use Rattle.std.specs.Prelude.{Err, if◌then◌else◌, min, ◌^◌, ◌-◌}
+use Rattle.std.specs.Prelude.{Err, IfErr, IfOk, if◌then◌else◌, min, ◌^◌, ◌-◌}
 use Rattle.goblin_base.specs.declared.error.ErrorOf.{ErrorOf}
 use Rattle.goblin_base.specs.declared.permissive.ParseMode.TheVariants.{Permissive, Strict}
 use Rattle.goblin_base.specs.Answers.{◌>>=◌, IsMemory}
@@ -9,9 +9,10 @@ use Rattle.goblin_base.specs.Tables.{Format}
 use Rattle.goblin_pe_sect.specs.declared.data_directories.DataDirectory.{DataDirectory}
 use Rattle.goblin_pe_sect.specs.declared.options.ParseOptions.{ParseOptions}
 use Rattle.goblin_pe_sect.specs.declared.options.View.{View}
+use Rattle.goblin_pe_sect.specs.Options.{is_strict}
 use Rattle.goblin_pe_sect.specs.SectionTable.{Section}
 use Rattle.goblin_pe_sect.specs.Addresses.{Addressing}
-use Rattle.goblin_pe_head.specs.HeaderReadings.{stub_at}
+use Rattle.goblin_pe_head.specs.HeaderReadings.{pe_header, stub_at}
 use Rattle.goblin_pe_head.specs.PeHeader.{PeHeader}
 use Rattle.goblin_pe_import.specs.declared.added.left_out.LeftOut.{LeftOut}
 use Rattle.goblin_pe_import.specs.ImportEntries.{EntryValue}
@@ -24,7 +25,8 @@ use Rattle.goblin_pe.specs.declared.added.damage.Damage.{Damage}
 use Rattle.goblin_pe.specs.Modes.{in_mode}
 use Rattle.goblin_pe.specs.Whole.{TablePlaces, directory_at, entry_format, export_part, import_list}
 use Rattle.goblin_pe.specs.Whole.{layout, mapped_in, addressing_by, places_in, relocation_part}
-use Rattle.goblin_pe.specs.Whole.{sections_after}
+use Rattle.goblin_pe.specs.Whole.{sections_after, whole_in}
+use Rattle.goblin_pe.specs.added.Layouts.{TakesIndex}
 
 -- There is a value and no damage, or there is no value and the cause is true.
 abbrev pub IsDamageOf : {A : Type 0} → Option A → (ErrorOf → Type 0) → Option ErrorOf → Type 0
@@ -109,3 +111,12 @@ abbrev pub IsReadByBoth : {A : Type 0} → (ParseOptions → Reading A) → Pars
 IsReadByBoth read opts bytes =
     IsSomeAnd ((read (in_mode Strict opts)).value bytes) (λ x.
     (read (in_mode Permissive opts)).value bytes ≡ Some x)
+
+-- What a call that reports damage says. Memory is refused only for an index of the sections.
+abbrev pub GivesDamage : View → ParseOptions → List ℕ → Result Damage ErrorOf → Type 0
+GivesDamage view opts bytes result = record {
+  tells : TellsDamage view opts bytes result;
+  sound : IfOk result (λ d. IsSound d → IsReadByBoth (whole_in view) opts bytes);
+  grown : IfErr result (λ e. IsMemory e
+      → IsSomeAnd ((pe_header (is_strict opts.parse_mode)).value bytes) TakesIndex);
+}

@@ -1,12 +1,17 @@
 -- What a reader of any table of a file needs, and the tables as walks.
-use Rattle.std.specs.Prelude.{◌≡◌, ℕ, List, Option, Some, Result, Ok, Err}
+use Rattle.std.specs.Prelude.{◌≡◌, ◌<◌, ◌/◌, ℕ, List, length, map, Option, Some, Result, Ok, Err}
+use Rattle.std.specs.Prelude.{IfErr, IfOk, IsErrAnd}
 use Rattle.goblin_base.specs.declared.error.ErrorOf.{ErrorOf}
-use Rattle.goblin_base.specs.Reading.{IsRefused, Reading}
+use Rattle.goblin_base.specs.Answers.{IsMemory}
+use Rattle.goblin_base.specs.Reading.{IsRefused, Reading, ReadsOrMemory}
+use Rattle.readings.specs.Reads.{mapped, slice_at}
 use Rattle.readings.specs.Walks.{IsWalkOf}
+use Rattle.goblin_pe_sect.specs.declared.data_directories.DataDirectory.{DataDirectory}
 use Rattle.goblin_pe_sect.specs.declared.options.ParseOptions.{ParseOptions}
 use Rattle.goblin_pe_sect.specs.declared.options.View.{View}
 use Rattle.goblin_pe_head.specs.declared.header.pe_header.Header.{Header}
-use Rattle.goblin_pe_sect.specs.Addresses.{MapOfAddresses, map_in, map_of, Addressing}
+use Rattle.goblin_pe_sect.specs.AddressReadings.{at_address}
+use Rattle.goblin_pe_sect.specs.Addresses.{Addressing, AreMany, MapOfAddresses, map_in, map_of}
 use Rattle.goblin_pe_export.specs.declared.added.exports.Exports.{Exports}
 use Rattle.goblin_pe_export.specs.added.ExportAddresses.{export_addresses}
 use Rattle.goblin_pe_export.specs.ExportRecords.{ExportTables, NumberedExport}
@@ -22,10 +27,11 @@ use Rattle.goblin_pe.specs.declared.added.file_imports.FileImports.{FileImports}
 use Rattle.goblin_pe.specs.declared.added.file_imports.FileImports.TheVariants.{Narrow, Wide}
 use Rattle.goblin_pe.specs.declared.added.layout.Layout.{Layout}
 use Rattle.goblin_pe_sect.specs.Options.{is_strict}
-use Rattle.goblin_pe_sect.specs.SectionTable.{Section, recorded_sections}
-use Rattle.goblin_pe_head.specs.PeHeader.{header_value}
-use Rattle.goblin_pe.specs.Whole.{TablePlaces, directory_at, mapped_in, part_at, places_in}
-use Rattle.goblin_pe.specs.Whole.{sections_after, table_places}
+use Rattle.goblin_pe_sect.specs.SectionTable.{Section, recorded_sections, unnamed}
+use Rattle.goblin_pe_head.specs.CoffHeader.{IsTooManySections}
+use Rattle.goblin_pe_head.specs.PeHeader.{PeHeader, header_value}
+use Rattle.goblin_pe.specs.Whole.{TablePlaces, TableReader, directory_at, mapped_in, part_at}
+use Rattle.goblin_pe.specs.Whole.{places_in, sections_after, table_places}
 
 -- ---- what a reader of any table needs
 
@@ -45,6 +51,20 @@ layout_places l = table_places l.places
 abbrev pub layout_map : Layout → MapOfAddresses
 layout_map l = map_of l.address_map
 
+-- a table of a layout
+abbrev pub layout_table : {A : Type 0} → TableReader A → Layout → Reading A
+layout_table read l = let m = layout_map l in read m.opts m.addressing (layout_places l)
+
+-- what `f` makes of a table that was read, and a default if it was not
+abbrev pub read_or : {A B : Type 0} → B → (A → B) → Part A → B
+read_or default f Absent = default
+read_or default f (part.Read table) = f table
+read_or default f Refused = default
+
+-- memory is taken for an index of the sections of a file with this header: there are many sections
+abbrev pub TakesIndex : PeHeader → Type 0
+TakesIndex h = AreMany h.coff_header.number_of_sections
+
 -- It is the layout of these bytes with this header, in a view. Its tables lie where the header
 -- says. Its addresses are mapped by the sections of the file, and in the loader's view also by the
 -- front of the file, with the header's file alignment and these options.
@@ -59,6 +79,33 @@ pub record IsLayoutOf (view : View) (opts : ParseOptions) (bytes : List ℕ) (he
       → layout_map l
       ≡ map_in opts (mapped_in view (header_value header) sections)
       (places_in header.optional_header).file_alignment
+
+-- A call gives the layout of these bytes with this header, in a view. It is refused as the sections
+-- are, or because memory is refused for an index.
+abbrev pub GivesLayout : View → ParseOptions → List ℕ → Header → Result Layout ErrorOf → Type 0
+GivesLayout view opts bytes header result =
+    let h = header_value header in
+    let count = h.coff_header.number_of_sections in
+    record {
+      value : ReadsOrMemory layout_sections result
+          (mapped (map unnamed) (sections_after (is_strict opts.parse_mode) h)) bytes;
+      over : IfOk result (IsLayoutOf view opts bytes header);
+      first : length bytes / 40 < count → IsErrAnd result (IsTooManySections count bytes);
+      grown : IfErr result (λ e. IsMemory e → TakesIndex h);
+    }
+
+-- ---- tables that are bytes
+
+-- the bytes of a directory
+abbrev pub directory_data : Addressing → DataDirectory → Reading (List ℕ)
+directory_data addressing d =
+    at_address addressing.offset d.virtual_address (λ o. slice_at o d.size)
+
+-- the bytes of the directory at an index
+unfoldable pub directory_part : ℕ → ParseOptions → Addressing → TablePlaces
+    → Reading (Part (List ℕ))
+directory_part index opts addressing places =
+    part_at (is_strict opts.parse_mode) (directory_data addressing) (directory_at places index)
 
 -- ---- tables as walks
 

@@ -1,18 +1,13 @@
 //! What is damaged in a file, part by part.
 
-ghost use Rattle.std.specs.Prelude.{true, IfErr, IfOk, IsSomeAnd};
-ghost use Rattle.goblin_base.specs.Answers.{IsMemory, all_of};
-ghost use Rattle.goblin_pe_sect.specs.Options.{is_strict};
-ghost use Rattle.goblin_pe_head.specs.HeaderReadings.{pe_header};
+ghost use Rattle.std.specs.Prelude.{true};
+ghost use Rattle.goblin_base.specs.Answers.{all_of};
 ghost use Rattle.goblin_pe_head.specs.PeHeader.{header_value};
 ghost use Rattle.goblin_pe_sect.specs.declared.options.View.TheVariants.{Sections};
-ghost use Rattle.goblin_pe.specs.added.LayoutTables.{layout_table};
-ghost use Rattle.goblin_pe.specs.added.Damages.{AreDamaged, IsDamage, IsDamageOf, IsReadByBoth};
-ghost use Rattle.goblin_pe.specs.added.Damages.{IsSound, TellsDamage};
+ghost use Rattle.goblin_pe.specs.added.Damages.{AreDamaged, GivesDamage, IsDamage, IsDamageOf};
 ghost use Rattle.goblin_pe.specs.added.Layouts.{IsFileImportsCause, file_imports_left, layout_map};
-ghost use Rattle.goblin_pe.specs.added.Layouts.{layout_bytes, layout_places};
-ghost use Rattle.goblin_pe.specs.added.TakenMemory.{TakesIndex};
-ghost use Rattle.goblin_pe.specs.Whole.{import_list, sections_after, whole_in};
+ghost use Rattle.goblin_pe.specs.added.Layouts.{layout_bytes, layout_places, layout_table};
+ghost use Rattle.goblin_pe.specs.Whole.{import_list, sections_after};
 
 use crate::added::layout::section_records_of;
 use crate::added::{FileImports, Layout, LeftOut};
@@ -104,13 +99,7 @@ impl Layout<'_> {
 // What strict mode refuses in a file whose header and sections these options read, in a view.
 #[tactic(auto, unfolding(crate::specs::Whole::layout))]
 fn damage_of(alloc: Global, bytes: &[u8], view: View, opts: &ParseOptions) -> Result<Damage>
-    ensures tells { TellsDamage view opts.now bytes.now result }
-    ensures sound { IfOk result
-        (λ d. IsSound d → IsReadByBoth (whole_in view) opts.now bytes.now) }
-    ensures grown { IfErr result
-        (λ e.
-        IsMemory e → IsSomeAnd ((pe_header (is_strict opts.now.parse_mode)).value bytes.now)
-        TakesIndex) }
+    ensures { GivesDamage view opts.now bytes.now result }
 {
     let header = Header::parse_with_opts(bytes, opts)?;
     let layout = Layout::in_view(alloc, bytes, &header, view, opts)?;
@@ -142,13 +131,7 @@ impl Whole<'_> {
     /// [`CoffHeader::sections_with_opts`](goblin_pe_head::CoffHeader::sections_with_opts).
     /// [`Error::Memory`] if memory is refused, and only if the file has more than 96 sections.
     pub fn damage(alloc: Global, bytes: &[u8], opts: &ParseOptions) -> Result<Damage>
-        ensures tells { TellsDamage Sections opts.now bytes.now result }
-        ensures sound { IfOk result
-            (λ d. IsSound d → IsReadByBoth (whole_in Sections) opts.now bytes.now) }
-        ensures grown { IfErr result
-            (λ e.
-            IsMemory e → IsSomeAnd ((pe_header (is_strict opts.now.parse_mode)).value bytes.now)
-            TakesIndex) }
+        ensures { GivesDamage Sections opts.now bytes.now result }
     {
         Self::damage_in(alloc, bytes, View::Sections, opts)
     }
@@ -159,13 +142,7 @@ impl Whole<'_> {
     /// # Errors
     /// As [`Whole::damage`].
     pub fn damage_in(alloc: Global, bytes: &[u8], view: View, opts: &ParseOptions) -> Result<Damage>
-        ensures tells { TellsDamage view opts.now bytes.now result }
-        ensures sound { IfOk result
-            (λ d. IsSound d → IsReadByBoth (whole_in view) opts.now bytes.now) }
-        ensures grown { IfErr result
-            (λ e.
-            IsMemory e → IsSomeAnd ((pe_header (is_strict opts.now.parse_mode)).value bytes.now)
-            TakesIndex) }
+        ensures { GivesDamage view opts.now bytes.now result }
     {
         damage_of(alloc, bytes, view, opts)
     }

@@ -40,31 +40,12 @@ fn add_after<'a, 'e>(
     }
 }
 
-// Marks the footprint of a whole file: of its header and, if it can be read, of what follows.
-#[tactic(auto, unfolding(crate::specs::Whole::whole_in), using(goblin_base::proofs::Marks::marking))]
-fn add_whole<'e>(
-    alloc: Global,
-    marks: &mut Marks,
-    bytes: &[u8],
-    view: View,
-    opts: &ParseOptions,
-) -> ResultOf<'e, ()>
-    ensures added { let reached = (whole_in view opts.now).reaches bytes.now in
-        OnOk result (marks.new ≡ marked marks.old reached) }
-    ensures refused { IfErr result IsMemory }
-{
-    add_header(marks, bytes);
-    let Ok(header) = Header::parse_with_opts(bytes, opts) else {
-        return Ok(());
-    };
-    add_after(alloc, marks, bytes, &header, view, opts)
-}
-
 /// The marks of the positions on which a read of the whole file depends, with addresses mapped as
 /// `view` says. For [`View::Sections`], [`footprint_whole`] lists these positions as ranges.
 ///
 /// # Errors
 /// [`Error::Memory`](goblin_base::Error::Memory) only.
+#[tactic(auto, unfolding(crate::specs::Whole::whole_in), using(goblin_base::proofs::Marks::marking))]
 pub fn mark_whole<'e>(
     alloc: Global,
     bytes: &[u8],
@@ -76,7 +57,11 @@ pub fn mark_whole<'e>(
     ensures refused { IfErr result IsMemory }
 {
     let mut marks = Marks::with_room_for(alloc, bytes.len())?;
-    add_whole(alloc, &mut marks, bytes, view, opts)?;
+    add_header(&mut marks, bytes);
+    let Ok(header) = Header::parse_with_opts(bytes, opts) else {
+        return Ok(marks);
+    };
+    add_after(alloc, &mut marks, bytes, &header, view, opts)?;
     Ok(marks)
 }
 

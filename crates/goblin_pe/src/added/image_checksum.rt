@@ -79,32 +79,19 @@ pub fn checksum(bytes: &[u8], field: usize) -> u32
     sum_of_words(bytes, field).wrapping_add(length)
 }
 
-// The distance of the checksum field from the PE signature, in bytes. The signature and the COFF
-// header come before the optional header, whose standard fields come before the Windows fields.
-const FIELD_OFFSET: usize = 88;
+// The offset of the checksum field in an optional header of either width, in bytes.
+const FIELD_OFFSET: usize = SIZEOF_STANDARD_FIELDS_32 + OFFSET_WINDOWS_FIELDS_32_CHECKSUM;
 
-const _: () = prove!(
-    FIELD_OFFSET
-        == SIZEOF_PE_MAGIC
-            + SIZEOF_COFF_HEADER
-            + SIZEOF_STANDARD_FIELDS_32
-            + OFFSET_WINDOWS_FIELDS_32_CHECKSUM
-        && FIELD_OFFSET
-            == SIZEOF_PE_MAGIC
-                + SIZEOF_COFF_HEADER
-                + SIZEOF_STANDARD_FIELDS_64
-                + OFFSET_WINDOWS_FIELDS_64_CHECKSUM
-);
+const _: () = prove!(FIELD_OFFSET == SIZEOF_STANDARD_FIELDS_64 + OFFSET_WINDOWS_FIELDS_64_CHECKSUM);
 
 /// The file offset of the checksum field of an image with this header, or `None` if the image has
 /// no optional header.
 pub fn checksum_field(header: &Header) -> Option<usize>
     ensures { result ≡ checksum_field (header_value header.now) }
 {
-    match &header.optional_header {
-        Some(_) => Some(header.dos_header.pe_pointer as usize + FIELD_OFFSET),
-        None => None,
-    }
+    header.optional_header.as_ref()?;
+    let begin = header.dos_header.pe_pointer as usize + SIZEOF_PE_MAGIC + SIZEOF_COFF_HEADER;
+    Some(begin + FIELD_OFFSET)
 }
 
 /// The checksum of the image `bytes`, as [`checksum`] computes it, with the field where the header

@@ -119,18 +119,7 @@ fn kept_range(alloc: Global, file: &[u8], begin: usize, end: usize) -> Result<Ke
     ensures value { IfOk result (λ range. range ≡ kept_range file.now (begin, end)) }
     ensures refused { IfErr result IsMemory }
 {
-    let bytes = copy_of(alloc, &file[begin..end])?;
+    let mut bytes = Vec::new(alloc);
+    bytes.extend_from_slice(&file[begin..end])?;
     Ok(KeptRange { begin, end, bytes })
-}
-
-// A copy of these bytes.
-fn copy_of(alloc: Global, bytes: &[u8]) -> Result<Vec<u8>>
-    ensures value { IfOk result (λ copy. copy.items ≡ bytes.now) }
-    ensures refused { IfErr result IsMemory }
-{
-    let mut copy = Vec::with_capacity(alloc, bytes.len())?;
-    'bytes: for byte in bytes {
-        copy.push(*byte)?;
-    }
-    Ok(copy)
 }

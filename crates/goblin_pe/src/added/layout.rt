@@ -1,11 +1,9 @@
 //! What a reader of any table of a file needs.
 
-ghost use Rattle.std.specs.Prelude.{◌/◌, ◌<◌, ◌≡◌, IfErr, IfOk, IsErrAnd, Ok, Some};
-ghost use Rattle.std.specs.Prelude.{Option, length, map};
+ghost use Rattle.std.specs.Prelude.{◌/◌, ◌<◌, ◌≡◌, IfOk, IsErrAnd, Option, length, map};
 ghost use Rattle.std.specs.List.{flat_map};
 ghost use Rattle.goblin_base.specs.declared.error.ErrorOf.{ErrorOf};
-ghost use Rattle.goblin_base.specs.Answers.{IsMemory};
-ghost use Rattle.goblin_base.specs.Reading.{Reads, ReadsOrMemory};
+ghost use Rattle.goblin_base.specs.Reading.{Reads};
 ghost use Rattle.readings.specs.Reads.{mapped};
 ghost use Rattle.readings.specs.Walks.{Walks};
 ghost use Rattle.goblin_pe_sect.specs.declared.options.ParseOptions.{ParseOptions};
@@ -19,18 +17,16 @@ ghost use Rattle.goblin_pe_head.specs.PeHeader.{header_value};
 ghost use Rattle.goblin_pe_import.specs.added.ImportCursors.{first_import};
 ghost use Rattle.goblin_pe_import.specs.ImportReadings.{numbered_data};
 ghost use Rattle.goblin_pe_import.specs.Imports.{numbered_imports};
-ghost use Rattle.goblin_pe.specs.added.LayoutTables.{layout_table};
 ghost use Rattle.goblin_pe.specs.added.Damages.{exports_left_out, left_out_of};
-ghost use Rattle.goblin_pe.specs.added.DirectoryParts.{directory_data, directory_part};
 ghost use Rattle.goblin_pe.specs.added.LayoutCursors.{GivesFirst, IsFileCursorCause};
 ghost use Rattle.goblin_pe.specs.added.LayoutCursors.{IsImportWalkAt, StartsAt};
 ghost use Rattle.goblin_pe.specs.added.LayoutCursors.{file_cursor_left, file_map, import_begin};
-ghost use Rattle.goblin_pe.specs.added.Layouts.{IsExportWalk, IsFileImportsCause, IsLayoutOf};
+ghost use Rattle.goblin_pe.specs.added.Layouts.{IsExportWalk, IsFileImportsCause};
 ghost use Rattle.goblin_pe.specs.added.Layouts.{PartWalks, file_imports_left, layout_bytes};
 ghost use Rattle.goblin_pe.specs.added.Layouts.{layout_map, layout_places, layout_sections};
-ghost use Rattle.goblin_pe.specs.added.Layouts.{address_part, walked_exports};
+ghost use Rattle.goblin_pe.specs.added.Layouts.{GivesLayout, address_part, directory_data, directory_part};
+ghost use Rattle.goblin_pe.specs.added.Layouts.{layout_table, walked_exports};
 ghost use Rattle.goblin_pe_export.specs.added.ExportWalks.{walked_tables};
-ghost use Rattle.goblin_pe.specs.added.TakenMemory.{TakesIndex};
 ghost use Rattle.goblin_pe.specs.Whole.{IfRead, directory_offset, entry_format, export_part};
 ghost use Rattle.goblin_pe.specs.Whole.{import_list};
 ghost use Rattle.goblin_pe.specs.Whole.{part_map, relocation_part, section_table_offset, places_in};
@@ -114,14 +110,7 @@ impl<'a> Layout<'a> {
         header: &Header,
         opts: &ParseOptions,
     ) -> Result<Layout<'a>>
-        ensures value { let strict = is_strict opts.now.parse_mode in
-            ReadsOrMemory layout_sections result
-            (mapped (map unnamed) (sections_after strict (header_value header.now))) bytes.now }
-        ensures over { IfOk result (IsLayoutOf Sections opts.now bytes.now header.now) }
-        ensures first { let count = header.now.coff_header.number_of_sections in
-            length bytes.now / 40 < count → IsErrAnd result (IsTooManySections count bytes.now) }
-        ensures grown { IfErr result
-            (λ e. IsMemory e → TakesIndex (header_value header.now)) }
+        ensures { GivesLayout Sections opts.now bytes.now header.now result }
     {
         Layout::in_view(alloc, bytes, header, View::Sections, opts)
     }
@@ -145,16 +134,9 @@ impl<'a> Layout<'a> {
         header: &Header,
         opts: &ParseOptions,
     ) -> Result<Layout<'a>>
-        ensures value { let strict = is_strict opts.now.parse_mode in
-            ReadsOrMemory layout_sections result
-            (mapped (map unnamed) (sections_after strict (header_value header.now))) bytes.now }
-        ensures over { let alignment = (places_in header.now.optional_header).file_alignment in
+        ensures { let alignment = (places_in header.now.optional_header).file_alignment in
             let loaded = record opts.now { raw_pointer_rule = rule_by_alignment alignment } in
-            IfOk result (IsLayoutOf Loader loaded bytes.now header.now) }
-        ensures first { let count = header.now.coff_header.number_of_sections in
-            length bytes.now / 40 < count → IsErrAnd result (IsTooManySections count bytes.now) }
-        ensures grown { IfErr result
-            (λ e. IsMemory e → TakesIndex (header_value header.now)) }
+            GivesLayout Loader loaded bytes.now header.now result }
     {
         let alignment = file_alignment(&header.optional_header);
         let rule = RawPointerRule::by_file_alignment(alignment);
@@ -179,14 +161,7 @@ impl<'a> Layout<'a> {
         view: View,
         opts: &ParseOptions,
     ) -> Result<Layout<'a>>
-        ensures value { let strict = is_strict opts.now.parse_mode in
-            ReadsOrMemory layout_sections result
-            (mapped (map unnamed) (sections_after strict (header_value header.now))) bytes.now }
-        ensures over { IfOk result (IsLayoutOf view opts.now bytes.now header.now) }
-        ensures first { let count = header.now.coff_header.number_of_sections in
-            length bytes.now / 40 < count → IsErrAnd result (IsTooManySections count bytes.now) }
-        ensures grown { IfErr result
-            (λ e. IsMemory e → TakesIndex (header_value header.now)) }
+        ensures { GivesLayout view opts.now bytes.now header.now result }
     {
         let records = section_records_of(bytes, header, opts)?;
         let front = view.front(size_of_headers(&header.optional_header));
@@ -430,7 +405,7 @@ impl<'a> Layout<'a> {
     /// In strict mode [`Error::Malformed`] with [`Cause::Unmapped`] if the address has no file
     /// offset, and [`Error::Read`] if the bytes begin at or past the end of the file, or run past
     /// it.
-    #[tactic(auto, unfolding(crate::specs::added::DirectoryParts::directory_part))]
+    #[tactic(auto, unfolding(crate::specs::added::Layouts::directory_part))]
     pub fn directory(&self, index: usize) -> Result<Part<&'a [u8]>>
         requires { index < 16 }
         ensures { Reads (part_map (λ b. b.now)) result

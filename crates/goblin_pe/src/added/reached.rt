@@ -2,10 +2,7 @@
 
 ghost use Rattle.std.specs.Prelude.{◌≡◌};
 ghost use Rattle.goblin_base.specs.Marks.{marked};
-ghost use Rattle.goblin_pe_sect.specs.Addresses.{reads_strictly};
-ghost use Rattle.goblin_pe_import.specs.ImportReadings.{numbered_data};
-ghost use Rattle.goblin_pe.specs.added.LayoutTables.{layout_table};
-ghost use Rattle.goblin_pe.specs.added.Layouts.{layout_bytes, layout_map, layout_places};
+ghost use Rattle.goblin_pe.specs.added.Layouts.{layout_bytes, layout_table};
 ghost use Rattle.goblin_pe.specs.Whole.{entry_format, export_part, numbered_data_part};
 ghost use Rattle.goblin_pe.specs.Whole.{relocation_part, table_parts};
 

@@ -166,24 +166,12 @@ pub fn unnamed_records(bytes: &[u8], offset: usize, count: u16) -> Result<Sectio
     section_records_at(bytes, offset, count)
 }
 
-// How many of the `count` section headers at `offset` the file has.
-fn whole_records(bytes: &[u8], offset: usize, count: u16) -> u16
-    ensures { result ≡ min count ((length bytes.now - offset) / 40) }
-{
-    let room = bytes.len().saturating_sub(offset) / SIZEOF_SECTION_TABLE;
-    if room < count as usize {
-        room as u16
-    } else {
-        count
-    }
-}
-
 // The `count` section headers at `offset`, or as many as the file has.
 fn section_records(bytes: &[u8], offset: usize, count: u16) -> Result<SectionRecords<'_>>
     ensures { Reads recorded_sections result (reading.whole_sections count offset) bytes.now }
 {
-    let count = whole_records(bytes, offset, count);
-    section_records_at(bytes, offset, count)
+    let room = bytes.len().saturating_sub(offset) / SIZEOF_SECTION_TABLE;
+    section_records_at(bytes, offset, room.min(count as usize) as u16)
 }
 
 impl<'a> HeaderParts<'a> {
@@ -226,37 +214,23 @@ impl<'a> HeaderParts<'a> {
     pub fn optional_header(&self) -> Option<OptionalHeader>
         ensures { result ≡ known_optional self.now }
     {
-        let standard_fields = given(&self.standard_fields)?;
-        let windows_fields = given(&self.windows_fields);
-        let data_directories = given(&self.data_directories);
+        let none = DataDirectories {
+            data_directories: [None; NUM_DATA_DIRECTORIES],
+        };
         Some(OptionalHeader {
-            standard_fields,
-            windows_fields: windows_or_zeros(windows_fields),
-            data_directories: directories_or_none(data_directories),
+            standard_fields: given(&self.standard_fields)?,
+            windows_fields: windows_or_zeros(given(&self.windows_fields)),
+            data_directories: given(&self.data_directories).unwrap_or(none),
         })
     }
 }
 
 // The Windows fields, or zeros if there are none.
+#[tactic(auto, unfolding(goblin_base::specs::Bytes::number))]
 fn windows_or_zeros(fields: Option<WindowsFields>) -> WindowsFields
     ensures { result ≡ unwrap_or fields no_windows_fields }
 {
-    match fields {
-        Some(fields) => fields,
-        None => WindowsFields::default(),
-    }
-}
-
-// The data directories, or sixteen that are `None`.
-fn directories_or_none(directories: Option<DataDirectories>) -> DataDirectories
-    ensures { result ≡ unwrap_or directories no_directories }
-{
-    match directories {
-        Some(directories) => directories,
-        None => DataDirectories {
-            data_directories: [None; NUM_DATA_DIRECTORIES],
-        },
-    }
+    fields.unwrap_or_default()
 }
 
 // The part of an optional header, if it could be read.

@@ -59,7 +59,7 @@ impl Default for Header<'_> {
     ghost is_default = { λ header. header_value header ≡ default_header };
 
     /// Zeros, the default stub, and neither a Rich header nor an optional header.
-    #[tactic(auto, unfolding(crate::specs::PeHeader::default_header))]
+    #[tactic(auto, unfolding(crate::specs::PeHeader::default_header, goblin_base::specs::Bytes::number))]
     fn default() -> Self {
         Header {
             dos_header: DosHeader::default(),
@@ -186,12 +186,13 @@ impl<'a> Header<'a> {
     /// # Errors
     /// [`Error::Malformed`] with [`Cause::NoPeSignature`] if there are no four bytes;
     /// [`Error::Read`] if the COFF header runs past the end; as the reader of [`OptionalHeader`].
-    #[tactic(auto, unfolding(crate::specs::HeaderReadings::header_without_dos))]
+    #[tactic(auto, unfolding(crate::specs::HeaderReadings::header_without_dos, crate::specs::PeHeader::default_header))]
     pub fn parse_without_dos(bytes: &'a [u8]) -> Result<Self>
         ensures { Reads header_value result reading.header_without_dos bytes.now }
     {
         let mut header = Header::default();
-        header.read_at(bytes, 0, DosHeader::default(), DosStub::default(), None)?;
+        let (dos_header, dos_stub) = (header.dos_header, header.dos_stub);
+        header.read_at(bytes, 0, dos_header, dos_stub, None)?;
         Ok(header)
     }
 

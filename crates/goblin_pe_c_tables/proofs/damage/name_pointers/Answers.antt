@@ -2,7 +2,7 @@ use Rattle.std.proofs.Common.{◌∙◌, Some, ap, arith}
 use Rattle.goblin_base.proofs.RecordItems.{length-records_in}
 use Rattle.goblin_pe_export.specs.ExportRecords.{name_pointers}
 use Rattle.goblin_pe_export.specs.declared.added.exports.Exports.{Exports}
-use Rattle.goblin_pe.specs.TableSums.{amount_of}
+use Rattle.goblin_pe_import.specs.TableSums.{amount_of}
 use Rattle.goblin_pe.specs.added.Layouts.{walked_exports}
 use Rattle.goblin_pe.specs.Whole.{part_map}
 use Rattle.goblin_pe.specs.declared.whole.Part.{Part}

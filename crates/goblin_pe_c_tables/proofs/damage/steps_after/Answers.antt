@@ -6,7 +6,7 @@ use Rattle.goblin_pe_import.specs.added.ImportCursors.{before_record}
 use Rattle.goblin_pe_import.specs.TableSums.{amount_of}
 use Rattle.goblin_pe.specs.added.LayoutCursors.{GivesFileWithin, file_ahead, file_cursor, file_cursor_ahead}
 use Rattle.goblin_pe.specs.added.Layouts.{layout_map, layout_places}
-use Rattle.goblin_pe.specs.added.StepsAhead.{AtSteps}
+use Rattle.goblin_pe_import.specs.added.StepsAhead.{AtSteps}
 use Rattle.goblin_pe.proofs.added.ImportStarts.{walk-ahead}
 use Rattle.goblin_pe_sect.specs.Addresses.{reads_strictly}
 use Rattle.goblin_pe_c_tables.specs.Batches.{is_over}

@@ -2,7 +2,7 @@
 use Rattle.std.proofs.Common.{Some}
 use Rattle.goblin_pe.specs.added.LayoutCursors.{IsImportWalk, file_ahead}
 use Rattle.goblin_pe.specs.added.Layouts.{file_imports_bound, layout_map, layout_places}
-use Rattle.goblin_pe.specs.Steps.{AreCounted}
+use Rattle.goblin_pe_import.specs.Steps.{AreCounted}
 use Rattle.goblin_pe_c_tables.specs.Damages.{all_imports}
 use Rattle.goblin_pe_c_tables.proofs.damage.steps_after.Given as goal
 

@@ -1,6 +1,6 @@
 use Rattle.std.proofs.Common.{◌≡◌, ◌+◌, ◌-◌, ◌<◌, ◌≤◌, ℕ, Some, arith, inl, inr, length, subst}
 use Rattle.goblin_pe.specs.added.Layouts.{layout_map, layout_places}
-use Rattle.goblin_pe.specs.added.StepsAhead.{AtSteps}
+use Rattle.goblin_pe_import.specs.added.StepsAhead.{AtSteps}
 use Rattle.goblin_pe_c_tables.specs.Damages.{all_imports, all_pointers}
 use Rattle.goblin_pe_c_tables.proofs.damage.steps_left.Goals as goal
 

@@ -2,7 +2,7 @@ use Rattle.std.proofs.Common.{◌∙◌, Result, Some, ap, subst}
 use Rattle.goblin_base.specs.declared.error.ErrorOf.{ErrorOf}
 use Rattle.goblin_pe_import.specs.declared.added.library_walk.WalkedLibrary.{WalkedLibrary}
 use Rattle.goblin_pe.specs.added.Layouts.{layout_map, layout_places}
-use Rattle.goblin_pe.specs.added.Libraries.{GivesNextLibrary, library_value}
+use Rattle.goblin_pe_import.specs.added.Libraries.{GivesNextLibrary, library_value}
 use Rattle.goblin_pe_sect.specs.Addresses.{MapOfAddresses, map_of}
 use Rattle.goblin_pe_c_tables.specs.Libraries.{library_for_c}
 use Rattle.goblin_pe_c_tables.specs.Batches.{cursor_for_c}

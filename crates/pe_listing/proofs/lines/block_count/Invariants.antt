@@ -1,6 +1,6 @@
 -- The blocks that are counted, and those that are left, are all blocks.
 use Rattle.std.proofs.Common.{◌≡◌, ◌+◌}
-use Rattle.goblin_pe.specs.BaseRelocations.{block_items, blocks_left, relocation_bytes}
+use Rattle.goblin_pe.specs.sect.BaseRelocations.{block_items, blocks_left, relocation_bytes}
 use Rattle.pe_listing.specs.Lines.{block_count}
 use Rattle.pe_listing.proofs.lines.block_count.Given as goal
 

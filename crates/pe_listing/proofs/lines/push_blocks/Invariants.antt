@@ -1,6 +1,6 @@
 -- What is printed so far, and what is printed of the blocks that are left, are all lines.
 use Rattle.std.proofs.Common.{◌≡◌, ◌++◌, string_bytes, flat_map}
-use Rattle.goblin_pe.specs.BaseRelocations.{block_items, blocks_left, relocation_bytes}
+use Rattle.goblin_pe.specs.sect.BaseRelocations.{block_items, blocks_left, relocation_bytes}
 use Rattle.pe_listing.specs.Lines.{block_line}
 use Rattle.pe_listing.proofs.lines.push_blocks.Given as goal
 

@@ -1,5 +1,5 @@
 use Rattle.std.proofs.Common.{◌++◌, ap, ◌∙◌, codes, ℕ, string_bytes, flat_map}
-use Rattle.goblin_pe.specs.BaseRelocations.{block_items, relocation_bytes}
+use Rattle.goblin_pe.specs.sect.BaseRelocations.{block_items, relocation_bytes}
 use Rattle.pe_listing.specs.Lines.{block_count, block_line, part_lines}
 use Rattle.pe_listing.specs.Text.{decimal_field}
 use Rattle.pe_listing.proofs.Pushed.{pushed, pushed_last}

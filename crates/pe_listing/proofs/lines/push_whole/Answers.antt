@@ -1,7 +1,7 @@
 use Rattle.std.proofs.Common.{◌++◌, ap, ◌∙◌, codes, List, string_bytes, length, flat_map}
-use Rattle.goblin_pe.specs.SectionTable.{Section}
-use Rattle.goblin_pe.specs.PeHeader.{header_value}
-use Rattle.goblin_pe.specs.BaseRelocations.{relocation_bytes}
+use Rattle.goblin_pe.specs.sect.SectionTable.{Section}
+use Rattle.goblin_pe.specs.head.PeHeader.{header_value}
+use Rattle.goblin_pe.specs.sect.BaseRelocations.{relocation_bytes}
 use Rattle.goblin_pe.specs.Whole.{items_part, part_map}
 use Rattle.pe_listing.specs.Lines.{export_line, header_line, import_line, part_lines, relocation_lines, section_line, whole_lines}
 use Rattle.pe_listing.proofs.Pushed.{pushed, pushed_last}

@@ -1,5 +1,5 @@
 use Rattle.goblin_pe.specs.added.Layouts.{layout_map, layout_places}
-use Rattle.goblin_pe.specs.added.Libraries.{IsCursorEndCause, IsLibrariesCause, cursor_libraries, libraries_left}
+use Rattle.goblin_pe_import.specs.added.Libraries.{IsCursorEndCause, IsLibrariesCause, cursor_libraries, libraries_left}
 use Rattle.goblin_pe.specs.Whole.{entry_format}
 use Rattle.goblin_pe_c_tables.specs.Batches.{import_cursor, batch_at}
 use Rattle.goblin_pe_c_tables.specs.Libraries.{GivesLibraries}

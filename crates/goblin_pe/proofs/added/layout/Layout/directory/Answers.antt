@@ -2,8 +2,7 @@ use Rattle.std.proofs.Common.{◌∙◌, subst, sym}
 use Rattle.goblin_pe_sect.specs.declared.options.ParseOptions.{ParseOptions}
 use Rattle.goblin_pe_sect.specs.Addresses.{reads_strictly}
 use Rattle.goblin_pe_sect.specs.Options.{is_strict}
-use Rattle.goblin_pe.specs.added.DirectoryParts.{directory_data, directory_part}
-use Rattle.goblin_pe.specs.added.Layouts.{layout_bytes, layout_map}
+use Rattle.goblin_pe.specs.added.Layouts.{directory_data, directory_part, layout_bytes, layout_map}
 use Rattle.goblin_pe.specs.Whole.{BecomesPart}
 use Rattle.goblin_pe.proofs.Parts.{becomes_read}
 use Rattle.goblin_pe.proofs.added.layout.Layout.directory.Goals as goal
