@@ -17,7 +17,7 @@ use Rattle.goblin_pe_head.specs.CoffHeader.{symbols_end}
 use Rattle.goblin_pe_head.specs.CoffReadings.{sections_at, strings_of, symbols_of}
 use Rattle.goblin_pe_head.specs.HeaderReadings.{header_without_dos}
 use Rattle.goblin_pe_head.specs.PeHeader.{header_value}
-use Rattle.goblin_pe_head.specs.TeReadings.{te_image}
+use Rattle.goblin_pe_head.specs.TeHeader.{te_image}
 use Rattle.goblin_pe.specs.declared.laws.parts.PartsOf.{PartsOf}
 
 -- what contracts see of a Terse Executable's header and its sections

@@ -7,8 +7,7 @@ use Rattle.goblin_base.specs.Answers.{all_at, all_of}
 use Rattle.goblin_base.proofs.Steps.{all_of-map, mapped, step}
 use Rattle.goblin_pe_sect.specs.SectionTable.{Section}
 use Rattle.goblin_pe_head.specs.declared.header.te.TeHeader.{TeHeader}
-use Rattle.goblin_pe_head.specs.TeHeader.{displacement, section_moved}
-use Rattle.goblin_pe_head.specs.TeReadings.{te_header, te_image, te_sections_at}
+use Rattle.goblin_pe_head.specs.TeHeader.{displacement, section_moved, te_header, te_image, te_sections_at}
 use Rattle.goblin_pe_c_headers.specs.Sections.{RowsHold, displacement_of}
 use Rattle.goblin_pe_c_headers.specs.TeImages.{TeRowsAreRead, te_file, te_record_of}
 use Rattle.goblin_pe_c_headers.proofs.Named.{read_sections, rows_hold}

@@ -13,8 +13,7 @@ use Rattle.goblin_base.proofs.Steps.{same_value, step}
 use Rattle.goblin_pe_head.specs.declared.header.dos.DosHeader.{DosHeader}
 use Rattle.goblin_pe_head.specs.DosHeader.{dos_record}
 use Rattle.goblin_pe_head.specs.HeaderReadings.{dos_header, rich_header}
-use Rattle.goblin_pe_head.specs.RichHeader.{Rich, leading_words, marker_place, other_place, word_at}
-use Rattle.goblin_pe_head.specs.RichReadings.{rich_at}
+use Rattle.goblin_pe_head.specs.RichHeader.{Rich, leading_words, marker_place, other_place, word_at, rich_at}
 use Rattle.goblin_pe_head.proofs.PeHeaderRoundTrip.{dos_of, parts_of}
 use Rattle.goblin_pe_head.proofs.RichPlaces.{before_marker, between, in_stretch, long_enough, stored, stored-high}
 use Rattle.goblin_pe_head.proofs.RichLaw.{words_below}

@@ -15,7 +15,7 @@ use goblin_pe_head::header::{CoffHeader, TeHeader};
 /// # Errors
 /// A file that is too short for the header or its section headers; a stripped size below 40.
 /// Nothing is then changed.
-#[tactic(auto, unfolding(crate::specs::TeImages::te_file, goblin_pe_head::specs::TeReadings::te_image), using(crate::proofs::NamedTe::te_rows))]
+#[tactic(auto, unfolding(crate::specs::TeImages::te_file, goblin_pe_head::specs::TeHeader::te_image), using(crate::proofs::NamedTe::te_rows))]
 pub fn read<'a>(
     bytes: &'a [u8],
     options: &PeOptions,

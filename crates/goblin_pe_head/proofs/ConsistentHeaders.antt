@@ -34,7 +34,7 @@ use Rattle.goblin_pe_head.specs.HeaderLaws.{FieldsReadBack, IsConsistent, IsCons
 use Rattle.goblin_pe_head.specs.HeaderReadings.{optional_at, optional_header, pe_header, standard_by, stub_in, windows_by}
 use Rattle.goblin_pe_head.specs.OptionalHeader.{bytes_32, bytes_64, fields_size, narrowed, optional_bytes, standard_32_fields, standard_32_record, standard_64_fields, standard_64_record, standard_from_32, standard_from_64, standard_to_32, standard_to_64, windows_32_fields, windows_32_record, windows_fields, windows_record, windows_from_32, windows_to_32}
 use Rattle.goblin_pe_head.specs.PeHeader.{PeHeader, header_parts, header_value, written_part}
-use Rattle.goblin_pe_head.specs.RichReadings.{rich_at, rich_in}
+use Rattle.goblin_pe_head.specs.RichHeader.{rich_at, rich_in}
 use Rattle.goblin_pe_head.proofs.OptionalHeaderRoundTrip.{four-bytes}
 use Rattle.goblin_pe_head.proofs.OptionalParts.{IsOptionalOf, magic_32, magic_64, of_optional, optional_of, pick, same_magic}
 use Rattle.goblin_pe_head.proofs.PeHeaderRoundTrip.{dos_of, of_dos, of_parts, parts_of, strict_stub}

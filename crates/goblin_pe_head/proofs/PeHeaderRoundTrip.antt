@@ -23,7 +23,7 @@ use Rattle.goblin_pe_head.specs.HeaderLaws.{DosWritesBack, HeaderWritesBack, end
 use Rattle.goblin_pe_head.specs.HeaderReadings.{SignedParts, coff_parts, dos_header, dos_signature, header_of, optional_at, optional_header, parts_at, pe_header, pe_signature, signed_record, standard_by, stub_in, that_is, windows_by}
 use Rattle.goblin_pe_head.specs.OptionalHeader.{standard_32_record, standard_64_record, standard_from_32, standard_from_64, windows_record}
 use Rattle.goblin_pe_head.specs.PeHeader.{PeHeader, header_bytes, header_parts, written_part}
-use Rattle.goblin_pe_head.specs.RichReadings.{rich_at, rich_in}
+use Rattle.goblin_pe_head.specs.RichHeader.{rich_at, rich_in}
 use Rattle.readings.proofs.Pairs.{both, strict_in_its_place}
 use Rattle.goblin_pe_head.proofs.CoffHeaderRoundTrip.{coff_back}
 use Rattle.goblin_pe_head.proofs.DosHeaderRoundTrip.{dos_back}

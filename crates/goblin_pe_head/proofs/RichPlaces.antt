@@ -11,8 +11,7 @@ use Rattle.goblin_base.proofs.Steps.{mapped, same_value, step}
 use Rattle.goblin_pe_head.specs.declared.header.dos.DosHeader.{DosHeader}
 use Rattle.goblin_pe_head.specs.HeaderLaws.{IsDansAt, IsLeast, IsMarked, IsMarkerAt, RichIsMarked, RichIsUnmarked}
 use Rattle.goblin_pe_head.specs.HeaderReadings.{dos_header, rich_header}
-use Rattle.goblin_pe_head.specs.RichHeader.{Rich, dans_place, is_rich, least_below, marker_place, rich_between, word_at}
-use Rattle.goblin_pe_head.specs.RichReadings.{rich_at, rich_before, rich_in}
+use Rattle.goblin_pe_head.specs.RichHeader.{Rich, dans_place, is_rich, least_below, marker_place, rich_between, word_at, rich_at, rich_before, rich_in}
 
 -- the least number that passes a test is the least place where P holds, if the test is that of P
 least_is : (P : ℕ → Type 0) (test : ℕ → Bool) (n i : ℕ) → ((k : ℕ) → k < n → test k ≡ true → P k) → ((k : ℕ) → P k → (k < n) × (test k ≡ true)) → least_below n test ≡ Some i → IsLeast P i

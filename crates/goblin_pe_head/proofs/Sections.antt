@@ -14,8 +14,7 @@ use Rattle.goblin_pe_sect.specs.SectionReadings.{named_section_at}
 use Rattle.goblin_pe_sect.specs.SectionTable.{Section, unnamed}
 use Rattle.goblin_pe_head.specs.declared.header.te.TeHeader.{TeHeader}
 use Rattle.goblin_pe_head.specs.CoffReadings.{sections_at, with_room}
-use Rattle.goblin_pe_head.specs.TeHeader.{displacement, section_adjusted, section_moved}
-use Rattle.goblin_pe_head.specs.TeReadings.{moved_section, moved_sections, te_sections_at}
+use Rattle.goblin_pe_head.specs.TeHeader.{displacement, section_adjusted, section_moved, moved_section, moved_sections, te_sections_at}
 
 -- ---- a section that is moved
 

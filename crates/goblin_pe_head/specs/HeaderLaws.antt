@@ -19,8 +19,7 @@ use Rattle.goblin_pe_head.specs.OptionalHeader.{standard_64_record, standard_to_
 use Rattle.goblin_pe_head.specs.OptionalHeader.{windows_32_fields, windows_32_record}
 use Rattle.goblin_pe_head.specs.OptionalHeader.{windows_fields, windows_record, windows_to_32}
 use Rattle.goblin_pe_head.specs.PeHeader.{PeHeader, header_bytes}
-use Rattle.goblin_pe_head.specs.RichHeader.{Rich, word_at}
-use Rattle.goblin_pe_head.specs.RichReadings.{rich_in}
+use Rattle.goblin_pe_head.specs.RichHeader.{Rich, word_at, rich_in}
 
 -- The DOS header of a file is written as the first 64 bytes of the file.
 unfoldable pub DosWritesBack : Type 0

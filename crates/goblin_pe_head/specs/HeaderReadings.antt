@@ -26,8 +26,7 @@ use Rattle.goblin_pe_head.specs.OptionalHeader.{IsBadMagic, windows_record}
 use Rattle.goblin_pe_head.specs.OptionalHeader.{fields_size, standard_32_record, standard_64_record}
 use Rattle.goblin_pe_head.specs.OptionalHeader.{standard_from_32, standard_from_64}
 use Rattle.goblin_pe_head.specs.PeHeader.{PeHeader, zero_dos_header}
-use Rattle.goblin_pe_head.specs.RichHeader.{Rich}
-use Rattle.goblin_pe_head.specs.RichReadings.{rich_at}
+use Rattle.goblin_pe_head.specs.RichHeader.{Rich, rich_at}
 
 -- Source: PE Format, "File Headers".
 

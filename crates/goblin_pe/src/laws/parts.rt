@@ -2,7 +2,7 @@
 
 ghost use Rattle.std.specs.Prelude.{ℕ, List};
 ghost use Rattle.goblin_base.specs.Reading.{ReadsOrMemory};
-ghost use Rattle.goblin_pe_head.specs.TeReadings.{te_image};
+ghost use Rattle.goblin_pe_head.specs.TeHeader.{te_image};
 ghost use Rattle.goblin_pe_sect.specs.Addresses.{map_by, reads_strictly};
 ghost use Rattle.goblin_pe.specs.TwinParts.{AreParts, AreTwinParts, asked_by, te_model};
 
@@ -40,7 +40,7 @@ pub struct PartsOf<'a, 'e, D> {
 pub type Parts<'a, D> = PartsOf<'a, 'static, D>;
 
 // The header of a Terse Executable at an offset, and the sections after it.
-#[tactic(auto, unfolding(goblin_pe_head::specs::TeReadings::te_image))]
+#[tactic(auto, unfolding(goblin_pe_head::specs::TeHeader::te_image))]
 fn read_te(alloc: Global, bytes: &[u8], offset: usize) -> Result<(TeHeader, Vec<SectionTable>)>
     ensures { ReadsOrMemory te_model result (te_image offset) bytes.now }
 {

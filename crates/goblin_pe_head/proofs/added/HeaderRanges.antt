@@ -16,8 +16,7 @@ use Rattle.goblin_pe_head.specs.declared.header.coff.CoffHeader.{CoffHeader}
 use Rattle.goblin_pe_head.specs.CoffHeader.{coff_header}
 use Rattle.goblin_pe_head.specs.DosHeader.{dos_record}
 use Rattle.goblin_pe_head.specs.HeaderReadings.{dos_header, fixed_fields, optional_at, optional_header, parts_at, standard_by, windows_by}
-use Rattle.goblin_pe_head.specs.RichHeader.{dans_place, marker_place, word_at}
-use Rattle.goblin_pe_head.specs.RichReadings.{rich_in}
+use Rattle.goblin_pe_head.specs.RichHeader.{dans_place, marker_place, word_at, rich_in}
 
 -- ---- the DOS header
 

@@ -8,7 +8,7 @@ ghost use Rattle.goblin_base.specs.Footprints.{slice_footprint};
 ghost use Rattle.goblin_base.specs.Parts.{moved_by, search_footprint};
 ghost use Rattle.readings.specs.Reads.{in_rest};
 ghost use Rattle.goblin_pe_head.specs.HeaderReadings as reading;
-ghost use Rattle.goblin_pe_head.specs.RichReadings as rich_reading;
+ghost use Rattle.goblin_pe_head.specs.RichHeader as rich_reading;
 
 use crate::header::{
     CoffHeader, DANS_MARKER_SIZE, DOS_STUB_OFFSET, DosHeader, RICH_MARKER_SIZE, SIZEOF_COFF_HEADER,
@@ -77,7 +77,7 @@ fn add_markers(marks: &mut Marks, stretch: &[u8])
 }
 
 // Marks the footprint of the Rich header before a PE signature.
-#[tactic(auto, unfolding(crate::specs::RichReadings::rich_at), using(goblin_base::proofs::Marks::marking))]
+#[tactic(auto, unfolding(crate::specs::RichHeader::rich_at), using(goblin_base::proofs::Marks::marking))]
 fn add_rich(marks: &mut Marks, bytes: &[u8], pe_pointer: u32)
     requires { pe_pointer ≤ length bytes.now }
     ensures { let reached = (rich_reading.rich_at pe_pointer).reaches bytes.now in

@@ -9,7 +9,7 @@ ghost use Rattle.goblin_pe_sect.specs.SectionTable.{recorded_sections, unnamed};
 ghost use Rattle.goblin_pe_head.specs.CoffHeader.{IsTooManySections, symbols_end};
 ghost use Rattle.goblin_pe_head.specs.CoffReadings as coff_reading;
 ghost use Rattle.goblin_pe_head.specs.TeHeader.{displacement, section_moved};
-ghost use Rattle.goblin_pe_head.specs.TeReadings as reading;
+ghost use Rattle.goblin_pe_head.specs.TeHeader as reading;
 
 use crate::header::{CoffHeader, TeHeader};
 use goblin_base::{Error, Result};
@@ -86,7 +86,7 @@ impl TeHeader {
     ///
     /// # Errors
     /// As [`TeHeader::sections`], but never [`Error::Memory`].
-    #[tactic(auto, unfolding(crate::specs::TeReadings::te_sections_at))]
+    #[tactic(auto, unfolding(crate::specs::TeHeader::te_sections_at))]
     pub fn section_records<'a>(
         &self,
         bytes: &'a [u8],

@@ -15,7 +15,7 @@ ghost use Rattle.goblin_pe_head.specs.RichHeader.{least_below, marker_place, oth
 ghost use Rattle.goblin_pe_head.specs.RichHeader.{rich_value, word_at};
 ghost use Rattle.goblin_pe_head.specs.RichMetadata.{AreEntriesOf, metadata_at, metadata_fields};
 ghost use Rattle.goblin_pe_head.specs.RichMetadata.{metadata_items, metadata_left, metadata_record};
-ghost use Rattle.goblin_pe_head.specs.RichReadings as rich_reading;
+ghost use Rattle.goblin_pe_head.specs.RichHeader as rich_reading;
 
 use crate::header::{DOS_STUB_OFFSET, DosHeader};
 use goblin_base::{
@@ -111,7 +111,7 @@ impl<'a> RichHeader<'a> {
 
     // Finds the Rich header before a PE signature.
     #[inline(always)]
-    #[tactic(auto, unfolding(crate::specs::RichReadings::rich_at))]
+    #[tactic(auto, unfolding(crate::specs::RichHeader::rich_at))]
     pub(super) fn parse_at(bytes: &'a [u8], pe_pointer: u32) -> Result<Option<Self>>
         requires { pe_pointer ≤ length bytes.now }
         ensures value { Reads (option_map rich_value) result (rich_reading.rich_at pe_pointer)
@@ -274,7 +274,7 @@ impl FusedIterator for RichMetadataIterator<'_> {}
 
 // The Rich header in the bytes between the DOS header and the PE signature.
 #[inline(always)]
-#[tactic(auto, unfolding(crate::specs::RichReadings::rich_in))]
+#[tactic(auto, unfolding(crate::specs::RichHeader::rich_in))]
 fn rich_in<'a>(stretch: &'a [u8]) -> Result<Option<RichHeader<'a>>>
     requires { length stretch.now + 64 < 2 ^ 32 }
     ensures value { Reads (option_map rich_value) result rich_reading.rich_in stretch.now }

@@ -3,7 +3,7 @@
 ghost use Rattle.std.specs.Prelude.{◌≡◌, ◌+◌, ◌*◌, OnErr, OnOk};
 ghost use Rattle.goblin_base.specs.Reading.{ReadsOrMemory};
 ghost use Rattle.goblin_pe_sect.specs.Options.{is_strict};
-ghost use Rattle.goblin_pe_head.specs.TeReadings as reading;
+ghost use Rattle.goblin_pe_head.specs.TeHeader as reading;
 
 use crate::header::te::adjust_section;
 use goblin_base::Result;

@@ -9,7 +9,7 @@ ghost use Rattle.goblin_pe_head.specs.declared.header.te.TeHeader.{TeHeader};
 ghost use Rattle.goblin_pe_head.specs.CoffHeader.{IsTooManySections};
 ghost use Rattle.goblin_pe_head.specs.TeHeader.{IsStrippedFault, displacement, moved_address};
 ghost use Rattle.goblin_pe_head.specs.TeHeader.{pointer_moved, section_moved, te_fields, te_record};
-ghost use Rattle.goblin_pe_head.specs.TeReadings as reading;
+ghost use Rattle.goblin_pe_head.specs.TeHeader as reading;
 
 use crate::header::sections::read_sections;
 use goblin_base::{
@@ -140,7 +140,7 @@ impl TeHeader {
     /// # Errors
     /// [`Error::Read`] if the 40 bytes run past the end of the file; [`Error::Malformed`] with
     /// [`Cause::StrippedSize`] if fewer than 40 bytes were stripped. `offset` is then unchanged.
-    #[tactic(auto, unfolding(crate::specs::TeReadings::te_header))]
+    #[tactic(auto, unfolding(crate::specs::TeHeader::te_header))]
     pub fn parse(bytes: &[u8], offset: &mut usize) -> Result<TeHeader>
         ensures value { Reads (λ h. h) result (reading.te_header offset.old) bytes.now }
         ensures ok { OnOk result (offset.new ≡ offset.old + 40) }
@@ -178,7 +178,7 @@ impl TeHeader {
     /// [`Cause::StrippedSize`] if fewer than 40 bytes were stripped; as [`SectionTable::parse`] if
     /// a section header runs past the end or its name is refused; [`Error::Memory`] if memory is
     /// refused. `offset` is then unchanged.
-    #[tactic(auto, unfolding(crate::specs::TeReadings::te_sections_at))]
+    #[tactic(auto, unfolding(crate::specs::TeHeader::te_sections_at))]
     pub fn sections(
         &self,
         alloc: Global,

@@ -4,7 +4,7 @@ use Rattle.goblin_base.proofs.Steps.{all_at-each, all_at-more, all_at-none, all_
 use Rattle.goblin_pe_sect.specs.Options.{is_strict}
 use Rattle.goblin_pe_sect.specs.SectionReadings.{named_section_at}
 use Rattle.goblin_pe_sect.specs.SectionTable.{Section}
-use Rattle.goblin_pe_head.specs.TeReadings.{moved_section}
+use Rattle.goblin_pe_head.specs.TeHeader.{moved_section}
 use Rattle.goblin_pe_head.proofs.Sections.{moved-cause, moved-none, moved-value}
 use Rattle.goblin_pe_head.proofs.header.sections.read_sections.Goals as goal
 

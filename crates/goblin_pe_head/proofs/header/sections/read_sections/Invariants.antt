@@ -1,7 +1,7 @@
 -- The sections so far are those in the file, and there is room for all.
 use Rattle.std.proofs.Common.{◌≡◌, ◌+◌, ◌*◌, Some, vec_capacity, vec_len}
 use Rattle.goblin_pe_sect.specs.Options.{is_strict}
-use Rattle.goblin_pe_head.specs.TeReadings.{moved_sections}
+use Rattle.goblin_pe_head.specs.TeHeader.{moved_sections}
 use Rattle.goblin_pe_head.proofs.header.sections.read_sections.Given as goal
 
 abbrev pub invariant-records : goal.invariant-records

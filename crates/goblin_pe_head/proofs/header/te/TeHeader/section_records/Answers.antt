@@ -6,8 +6,7 @@ use Rattle.goblin_pe_sect.specs.declared.options.ParseOptions.{ParseOptions}
 use Rattle.goblin_pe_sect.specs.Options.{is_strict}
 use Rattle.goblin_pe_sect.specs.SectionReadings.{named_section_at}
 use Rattle.goblin_pe_sect.specs.SectionTable.{recorded_sections, unnamed}
-use Rattle.goblin_pe_head.specs.TeHeader.{displacement, section_moved}
-use Rattle.goblin_pe_head.specs.TeReadings.{moved_sections, te_sections_at}
+use Rattle.goblin_pe_head.specs.TeHeader.{displacement, section_moved, moved_sections, te_sections_at}
 use Rattle.goblin_pe_head.proofs.Sections.{in_room_made, records_by_displacement, te_sections_at-too_short}
 use Rattle.goblin_pe_head.proofs.header.te.TeHeader.section_records.Goals as goal
 

@@ -4,8 +4,7 @@ use Rattle.goblin_base.specs.Reading.{ReadsOrMemory}
 use Rattle.readings.specs.Reads.{◌>>=◌, needs}
 use Rattle.goblin_pe_sect.specs.declared.options.ParseOptions.{ParseOptions}
 use Rattle.goblin_pe_sect.specs.Options.{is_strict}
-use Rattle.goblin_pe_head.specs.TeHeader.{displacement}
-use Rattle.goblin_pe_head.specs.TeReadings.{moved_sections, te_sections_at}
+use Rattle.goblin_pe_head.specs.TeHeader.{displacement, moved_sections, te_sections_at}
 use Rattle.goblin_pe_head.proofs.Sections.{by_displacement, in_room, te_sections_at-too_short}
 use Rattle.goblin_pe_head.proofs.header.te.TeHeader.sections.Goals as goal
 
