@@ -11,26 +11,13 @@ use goblin_base::Result;
 use goblin_base::read::pread_slice;
 use goblin_pe_head::header::{DOS_STUB_OFFSET, DosStub, Header, PE_MAGIC};
 use goblin_pe_head::optional_header::OptionalHeader;
-use goblin_pe_sect::data_directories::{DataDirectories, DataDirectory, NUM_DATA_DIRECTORIES};
+use goblin_pe_sect::data_directories::{DataDirectories, DataDirectory};
 
 // The entry of a directory. Where its record ends does not matter to who writes it.
 fn entry_from_c(directory: DataDirectory) -> Option<(usize, DataDirectory)>
     ensures { result ≡ entry_from_c directory }
 {
     Some((0, directory))
-}
-
-// The entries of these directories.
-fn entries_from_c(
-    directories: [DataDirectory; NUM_DATA_DIRECTORIES],
-) -> [Option<(usize, DataDirectory)>; NUM_DATA_DIRECTORIES]
-    ensures { result ≡ map entry_from_c directories }
-{
-    let mut entries = [None; NUM_DATA_DIRECTORIES];
-    'directories: for i in 0..NUM_DATA_DIRECTORIES {
-        entries[i] = entry_from_c(directories[i]);
-    }
-    entries
 }
 
 // The optional header, if there is one.
@@ -41,7 +28,7 @@ fn optional_from_c(image: &PeImage) -> Option<OptionalHeader>
         return None;
     }
     let data_directories = DataDirectories {
-        data_directories: entries_from_c(image.directories),
+        data_directories: image.directories.map(entry_from_c),
     };
     Some(OptionalHeader {
         standard_fields: image.optional_header.standard_fields,
