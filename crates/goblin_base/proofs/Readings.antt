@@ -4,8 +4,7 @@ use Rattle.std.proofs.lemmas.Bool.{ltb-true}
 use Rattle.std.specs.declared.alloc.AllocError.{AllocError}
 use Rattle.goblin_base.specs.{declared.endian.Endian.Endian, declared.error.CauseOf.CauseOf}
 use Rattle.goblin_base.specs.{declared.error.ErrorOf.ErrorOf, Values.value_at}
-use Rattle.goblin_base.specs.declared.error.ErrorOf.TheVariants.{BadMagic, BufferTooShort, Malformed, Memory, Read}
-use Rattle.goblin_base.specs.Answers.{◌>>=◌, FirstFault, IsMemory, IsSliceFault, IsNoText, IsOffsetFault, IsTextFault}
+use Rattle.goblin_base.specs.Answers.{BadMagic, BufferTooShort, Malformed, Memory, Read, ◌>>=◌, FirstFault, IsMemory, IsSliceFault, IsNoText, IsOffsetFault, IsTextFault}
 use Rattle.goblin_base.specs.Footprints.{Agree, led_to, rest_footprint, slot_footprint}
 use Rattle.goblin_base.specs.Reading.{IsRefused, Reading, Reads, ReadsOrMemory, Twins, TwinsOrMemory}
 use Rattle.goblin_base.specs.Tables.{IsTableFault, SlotFormat, kept_slots, slot_at, slot_place, slot_table, stop}

@@ -1,8 +1,7 @@
 -- The result of a read of a file, in one definition: its value, if there is one; the causes that
 -- are true if there is none; and the positions of the file that it reaches.
 use Rattle.std.specs.Prelude.{◌≡◌, ◌<◌, ◌≤◌, ℕ, List, Option, Some, None, Result, length, All}
-use Rattle.goblin_base.specs.declared.error.ErrorOf.{ErrorOf}
-use Rattle.goblin_base.specs.Answers.{Answers, AnswersOrMemory, IsMemory}
+use Rattle.goblin_base.specs.Answers.{ErrorOf, Answers, AnswersOrMemory, IsMemory}
 use Rattle.goblin_base.specs.Footprints.{Agree, Alike, AlikeOrMemory, Range}
 
 -- The range is not empty, and does not run past the end of the file.

@@ -10,7 +10,7 @@ use Rattle.goblin_pe_sect.specs.SectionTable.{Section, mapped_of, mapped_section
 use Rattle.goblin_pe_sect.specs.WindowIndex.{Pieces, located}
 use Rattle.goblin_pe_sect.specs.Options.{mapping_by, mapping_in}
 use Rattle.goblin_base.specs.declared.permissive.ParseMode.TheVariants.{Strict}
-use Rattle.goblin_pe_sect.specs.declared.address_map.Windows.TheVariants.{Indexed, IndexedWithFront, Walked}
+use Rattle.goblin_pe_sect.specs.Addresses.{Indexed, IndexedWithFront, Walked}
 use Rattle.goblin_pe_sect.specs.Addresses.{map_by, map_in, map_to, offset_by_windows, without_null}
 
 same_by : (resolves even : Bool) (rva : ℕ) → cond resolves None (Some rva) ≡ cond resolves (cond even None None) (Some rva)

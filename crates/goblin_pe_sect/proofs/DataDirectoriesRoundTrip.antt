@@ -8,8 +8,7 @@ use Rattle.goblin_base.specs.Bytes.{IsBytes, number_bytes, slice_at}
 use Rattle.goblin_base.specs.Record.{WritesBack, encoding, FieldsFit, ReadsBack}
 use Rattle.goblin_base.proofs.RecordRoundTrip.{front_more, writes_back, reads_back}
 use Rattle.goblin_base.proofs.{Numbers.slice_at-inside, Writing.encoding_append}
-use Rattle.goblin_pe_sect.specs.declared.data_directories.DataDirectory.{DataDirectory}
-use Rattle.goblin_pe_sect.specs.DataDirectories.{directory_fields, directory_or_zeros, directory_record, entries_fields, entry_ending, no_directory}
+use Rattle.goblin_pe_sect.specs.DataDirectories.{DataDirectory, directory_fields, directory_or_zeros, directory_record, entries_fields, entry_ending, no_directory}
 use Rattle.goblin_pe_sect.specs.DirectoryReadings.{EntriesWriteBack}
 use Rattle.goblin_pe_sect.proofs.DirectoryReadings.{directories_read}
 use Rattle.goblin_pe_sect.proofs.Entries.{directory_entry_at, directory_entry_at-below, directory_entry_at-past}

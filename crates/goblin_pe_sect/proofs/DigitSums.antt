@@ -4,9 +4,7 @@ use Rattle.std.specs.List.{list_all, position_or_len}
 use Rattle.std.proofs.lemmas.List.{length-append, map-append, take-set-le, drop-set, append-nil, take-append-drop}
 use Rattle.std.proofs.{lemmas.List.Folds.list_all_at, lemmas.List.Folds.list_all_more}
 use Rattle.std.proofs.{lemmas.Grind.pow_more, Math.Nat.pow-le-pow_right, Math.Nat.pow-zero}
-use Rattle.goblin_pe_sect.specs.declared.digits.Digits.{Digits}
-use Rattle.goblin_pe_sect.specs.declared.digits.Digits.TheVariants.{Decimal, Base64}
-use Rattle.goblin_pe_sect.specs.Digits.{alphabet, digits_sum, digit, numeral, radix, digit_byte, last_digits}
+use Rattle.goblin_pe_sect.specs.Digits.{Digits, Decimal, Base64, alphabet, digits_sum, digit, numeral, radix, digit_byte, last_digits}
 
 alone : (r d : ℕ) → d * r ^ 0 + 0 ≡ 0 * r + d
 alone r d =

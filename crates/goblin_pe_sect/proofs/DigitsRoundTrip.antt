@@ -4,9 +4,7 @@ use Rattle.std.specs.List.{list_all}
 use Rattle.std.proofs.lemmas.List.Folds.{list_all-append}
 use Rattle.std.proofs.lemmas.Bool.{and_parts, lt-ltb, ltb-true, eqb-true}
 use Rattle.std.proofs.Math.Nat.{pow-zero, pow-suc, mod-lt, div-lt_iff_lt-mul}
-use Rattle.goblin_pe_sect.specs.declared.digits.Digits.{Digits}
-use Rattle.goblin_pe_sect.specs.declared.digits.Digits.TheVariants.{Decimal, Base64}
-use Rattle.goblin_pe_sect.specs.Digits.{alphabet, digits_sum, last_digits, digit, digit_byte, radix, numeral}
+use Rattle.goblin_pe_sect.specs.Digits.{Digits, Decimal, Base64, alphabet, digits_sum, last_digits, digit, digit_byte, radix, numeral}
 use Rattle.goblin_pe_sect.proofs.DigitSums.{digits_sum-more, radix_range}
 
 -- the last k digits of a number below r ^ k write it

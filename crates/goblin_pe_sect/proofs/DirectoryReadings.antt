@@ -15,8 +15,7 @@ use Rattle.goblin_base.proofs.Footprints.{same-all_at, same_map}
 use Rattle.goblin_base.proofs.Numbers.{slice-of_slice, slice_at-inside, slice_at-past}
 use Rattle.goblin_base.proofs.Steps.{all_at-none, unmapped}
 use Rattle.readings.proofs.WalkValues.{all_of-made}
-use Rattle.goblin_pe_sect.specs.declared.data_directories.DataDirectory.{DataDirectory}
-use Rattle.goblin_pe_sect.specs.DataDirectories.{directory_record, entry_ending}
+use Rattle.goblin_pe_sect.specs.DataDirectories.{DataDirectory, directory_record, entry_ending}
 use Rattle.goblin_pe_sect.specs.DirectoryReadings.{directories_at, sixteen}
 use Rattle.goblin_pe_sect.proofs.Entries.{directory_entry_at, directory_entry_at-below, directory_entry_at-past, AreEntries, entries_in_room, entries_more, entries_read, entries_there, one_missing}
 

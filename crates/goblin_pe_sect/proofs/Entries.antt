@@ -17,10 +17,9 @@ use Rattle.goblin_base.specs.Record.{FieldValue, encoding, record_at, total_widt
 use Rattle.goblin_base.proofs.Numbers.{slice_at-inside, slice_at-past}
 use Rattle.goblin_base.proofs.Records.{record_at-some}
 use Rattle.goblin_base.proofs.Writing.{IsPutting, encoding_append, length-replaced, length_encoding, replaced_then}
-use Rattle.goblin_pe_sect.specs.declared.data_directories.DataDirectory.{DataDirectory}
+use Rattle.goblin_pe_sect.specs.DataDirectories.{DataDirectory, directory_fields, directory_or_zeros, directory_record, entries_fields, entry_ending, kinds, present_from, with_kind}
 use Rattle.goblin_pe_sect.specs.declared.data_directories.DataDirectoryType.{DataDirectoryType}
 use Rattle.goblin_pe_sect.specs.declared.data_directories.DataDirectoryType.TheVariants.{ExportTable}
-use Rattle.goblin_pe_sect.specs.DataDirectories.{directory_fields, directory_or_zeros, directory_record, entries_fields, entry_ending, kinds, present_from, with_kind}
 
 -- the entry at index i of `count` that lie one after the other from p on, with the offset just
 -- past it; one past the count is none

@@ -2,10 +2,8 @@
 use Rattle.std.proofs.Common.{refl, arith}
 use Rattle.goblin_base.specs.Record.{WritesBack, FieldsFit, ReadsBack}
 use Rattle.goblin_base.proofs.RecordRoundTrip.{writes_back, reads_back}
-use Rattle.goblin_pe_sect.specs.declared.relocation.Relocation.{Relocation}
-use Rattle.goblin_pe_sect.specs.declared.relocation.base.RelocationWord.{RelocationWord}
-use Rattle.goblin_pe_sect.specs.BaseRelocations.{word_fields, word_record}
-use Rattle.goblin_pe_sect.specs.Relocations.{relocation_fields, relocation_record}
+use Rattle.goblin_pe_sect.specs.Relocations.{Relocation, relocation_fields, relocation_record}
+use Rattle.goblin_pe_sect.specs.BaseRelocations.{RelocationWord, word_fields, word_record}
 
 pub relocation_back : WritesBack 10 relocation_record relocation_fields
 relocation_back = writes_back 10 relocation_record relocation_fields refl (λ endian own h. refl)

@@ -8,9 +8,8 @@ use Rattle.std.proofs.lemmas.List.{length-append, length-replicate, append-nil, 
 use Rattle.std.proofs.Math.Seq.{get_or-append_seam, take-append_seam}
 use Rattle.goblin_base.specs.Bytes.{before_nul, bounded_text_at, text_of}
 use Rattle.goblin_base.proofs.AsciiText.{ascii_text}
-use Rattle.goblin_pe_sect.specs.declared.digits.Digits.{Digits}
-use Rattle.goblin_pe_sect.specs.declared.digits.Digits.TheVariants.{Decimal, Base64}
-use Rattle.goblin_pe_sect.specs.Digits.{alphabet, last_digits, digit_byte, radix, numeral}
+use Rattle.goblin_pe_sect.specs.Digits.{Digits, Decimal, Base64, alphabet, last_digits, digit_byte}
+use Rattle.goblin_pe_sect.specs.Digits.{radix, numeral}
 use Rattle.goblin_pe_sect.specs.SectionName.{name_value, text_value, decimal_number, decimal_width, indirect_name}
 use Rattle.goblin_pe_sect.proofs.DigitsRoundTrip.{all_below, all_below-at, last_digits-below, numeral-written}
 

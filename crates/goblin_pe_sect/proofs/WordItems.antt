@@ -5,8 +5,7 @@ use Rattle.goblin_base.specs.declared.endian.Endian.TheVariants.{Little}
 use Rattle.goblin_base.specs.declared.error.ErrorOf.TheVariants.{Read}
 use Rattle.goblin_base.specs.declared.error.ReadFault.TheVariants.{TooBig}
 use Rattle.goblin_base.proofs.RecordItems.{length-record_items, record_items-more, record_items-none, record_items-rest, rest_item-none, rest_item-one}
-use Rattle.goblin_pe_sect.specs.declared.relocation.base.RelocationWord.{RelocationWord}
-use Rattle.goblin_pe_sect.specs.BaseRelocations.{word_items, word_record}
+use Rattle.goblin_pe_sect.specs.BaseRelocations.{RelocationWord, word_items, word_record}
 
 -- a pair of bytes comes first, then those after it
 pub words_more : (bytes : List ℕ) → 2 ≤ length bytes → word_items bytes ≡ Ok (word_record Little (take 2 bytes)) ∷ word_items (drop 2 bytes)

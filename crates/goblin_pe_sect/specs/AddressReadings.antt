@@ -6,8 +6,7 @@ use Rattle.goblin_base.specs.{declared.error.ErrorOf.ErrorOf, Reading.Reading}
 use Rattle.goblin_base.specs.declared.error.CauseOf.TheVariants.{NameRead, RelocRange, Unmapped}
 use Rattle.readings.specs.Reads.{◌>>=◌, because, mapped, needs, or_else, slice_at, text_at}
 use Rattle.readings.specs.Reads.{text_within, value_at}
-use Rattle.goblin_pe_sect.specs.Addresses.{Addressing}
-use Rattle.goblin_pe_sect.specs.declared.data_directories.DataDirectory.{DataDirectory}
+use Rattle.goblin_pe_sect.specs.{Addresses.Addressing, DataDirectories.DataDirectory}
 
 -- the file offset of an address
 abbrev pub offset_at : (ℕ → Option ℕ) → ℕ → Reading ℕ

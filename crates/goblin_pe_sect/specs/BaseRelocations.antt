@@ -15,7 +15,7 @@ use Rattle.goblin_base.specs.Record.FieldValue.{octets, uint}
 use Rattle.goblin_pe_sect.specs.declared.relocation.base.RelocationBlock.{RelocationBlock}
 use Rattle.goblin_pe_sect.specs.declared.relocation.base.RelocationBlockIterator.{RelocationBlockIterator}
 use Rattle.goblin_pe_sect.specs.declared.relocation.base.RelocationData.{RelocationData}
-use Rattle.goblin_pe_sect.specs.declared.relocation.base.RelocationWord.{RelocationWord}
+pub use Rattle.goblin_pe_sect.specs.declared.relocation.base.RelocationWord.{RelocationWord}
 use Rattle.goblin_pe_sect.specs.declared.relocation.base.RelocationWordIterator.{RelocationWordIterator}
 
 -- Source: PE Format, "The .reloc Section (Image Only)".

@@ -7,7 +7,7 @@ use Rattle.goblin_base.specs.{declared.endian.Endian.Endian, declared.error.Erro
 use Rattle.goblin_base.specs.{declared.error.ErrorOf.TheVariants.Malformed}
 use Rattle.goblin_base.specs.{declared.error.CauseOf.TheVariants.DirectoryIndex, Bytes.number}
 use Rattle.goblin_base.specs.Record.{FieldValue, uint}
-use Rattle.goblin_pe_sect.specs.declared.data_directories.DataDirectory.{DataDirectory}
+pub use Rattle.goblin_pe_sect.specs.declared.data_directories.DataDirectory.{DataDirectory}
 use Rattle.goblin_pe_sect.specs.declared.data_directories.DataDirectoryType.{DataDirectoryType}
 use Rattle.goblin_pe_sect.specs.declared.data_directories.Dirs.{Dirs}
 use Rattle.goblin_pe_sect.specs.declared.data_directories.DataDirectoryType.TheVariants as dir

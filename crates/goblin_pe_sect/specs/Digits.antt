@@ -2,8 +2,8 @@
 use Rattle.std.specs.Prelude.{if◌then◌else◌, slice_index, length, Option, nat_lt, codes, zero, ◌++◌}
 use Rattle.std.specs.Prelude.{◌==◌, List, Some, None, suc, ◌+◌, ◌*◌, ◌/◌, ◌%◌, ◌^◌, ◌∷◌, map, [], ℕ}
 use Rattle.std.specs.List.{list_all, position_or_len}
-use Rattle.goblin_pe_sect.specs.declared.digits.Digits.{Digits}
-use Rattle.goblin_pe_sect.specs.declared.digits.Digits.TheVariants.{Decimal, Base64}
+pub use Rattle.goblin_pe_sect.specs.declared.digits.Digits.{Digits}
+pub use Rattle.goblin_pe_sect.specs.declared.digits.Digits.TheVariants.{Decimal, Base64}
 
 -- the digits, in the order of their values
 unfoldable pub alphabet : Digits → List ℕ

@@ -6,7 +6,7 @@ use Rattle.goblin_base.specs.{declared.endian.Endian.TheVariants.Little}
 use Rattle.goblin_base.specs.{declared.error.CauseOf.TheVariants.DirectoryCount, Bytes.IsBytes}
 use Rattle.goblin_base.specs.{Reading.Reading, Record.encoding}
 use Rattle.readings.specs.Reads.{each, mapped, needs, pick, record_at}
-use Rattle.goblin_pe_sect.specs.declared.data_directories.DataDirectory.{DataDirectory}
+use Rattle.goblin_pe_sect.specs.DataDirectories.{DataDirectory}
 use Rattle.goblin_pe_sect.specs.DataDirectories.{directory_record, entries_fields, entry_ending}
 
 -- the sixteen entries of the directories from p on; each has the offset just past its directory,

@@ -9,7 +9,7 @@ use Rattle.goblin_base.specs.{Tables.records_in}
 use Rattle.goblin_base.specs.declared.error.ErrorOf.TheVariants.{Malformed, Read}
 use Rattle.goblin_base.proofs.Picks.{by_cases-not_memory}
 use Rattle.readings.specs.Reads.{because_by, mapped, slice_at}
-use Rattle.goblin_pe_sect.specs.declared.relocation.Relocation.{Relocation}
+pub use Rattle.goblin_pe_sect.specs.declared.relocation.Relocation.{Relocation}
 use Rattle.goblin_pe_sect.specs.declared.relocation.Relocations.{Relocations}
 
 -- Source: PE Format, "COFF Relocations (Object Only)".

@@ -7,8 +7,7 @@ use Rattle.goblin_base.specs.{declared.error.ErrorOf.ErrorOf}
 use Rattle.goblin_base.specs.{declared.error.ErrorOf.TheVariants.Malformed, Bytes.bounded_text_at}
 use Rattle.goblin_base.specs.declared.error.CauseOf.TheVariants.{NameText, NameBase64, NameDecimal}
 use Rattle.goblin_base.specs.declared.error.CauseOf.TheVariants.{NameOffset}
-use Rattle.goblin_pe_sect.specs.Digits.{digit_byte, last_digits, numeral}
-use Rattle.goblin_pe_sect.specs.declared.digits.Digits.TheVariants.{Decimal, Base64}
+use Rattle.goblin_pe_sect.specs.Digits.{digit_byte, last_digits, numeral, Decimal, Base64}
 
 -- Source: PE Format, "Section Table (Section Headers)", for the decimal form; linkers write the
 -- base 64 form for greater numbers.

@@ -8,7 +8,7 @@ ghost use Rattle.goblin_base.specs.{Reading.Reads, Bytes.overwritten};
 ghost use Rattle.goblin_base.specs.Answers.{Answers, Writes, IsSliceFault};
 ghost use Rattle.goblin_base.specs.Record.{WritesRecord, encoding};
 ghost use Rattle.readings.specs.Reads.{record_at};
-ghost use Rattle.goblin_pe_sect.specs.declared.data_directories.DataDirectory.{DataDirectory};
+ghost use Rattle.goblin_pe_sect.specs.DataDirectories.{DataDirectory};
 ghost use Rattle.goblin_pe_sect.specs.DataDirectories.{IsNoKind, dirs_left, directory_fields};
 ghost use Rattle.goblin_pe_sect.specs.DataDirectories.{directory_in, directory_or_zeros};
 ghost use Rattle.goblin_pe_sect.specs.DataDirectories.{directory_record, entries_fields};

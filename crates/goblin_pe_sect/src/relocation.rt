@@ -5,7 +5,7 @@ ghost use Rattle.std.specs.Prelude.{◌≡◌, ◌/◌, Some, length, IfSome};
 ghost use Rattle.std.specs.Iterator.{UpTo, YieldsFirst, at_most};
 ghost use Rattle.std.specs.Iterator.SizeHint.{IsWithinCount};
 ghost use Rattle.goblin_base.specs.{Reading.Reads, Record.WritesRecord};
-ghost use Rattle.goblin_pe_sect.specs.declared.relocation.Relocation.{Relocation};
+ghost use Rattle.goblin_pe_sect.specs.Relocations.{Relocation};
 ghost use Rattle.goblin_pe_sect.specs.Relocations.{relocation_fields, relocation_record};
 ghost use Rattle.goblin_pe_sect.specs.Relocations.{relocations_at, relocations_left};
 

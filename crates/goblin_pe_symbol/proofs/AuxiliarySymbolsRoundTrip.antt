@@ -2,11 +2,7 @@
 use Rattle.std.proofs.Common.{refl, ◌≡◌, length, arith}
 use Rattle.goblin_base.specs.Record.{WritesBack, FieldsFit, ReadsBack}
 use Rattle.goblin_base.proofs.RecordRoundTrip.{writes_back, reads_back}
-use Rattle.goblin_pe_symbol.specs.declared.symbol.auxiliary.AuxBeginAndEndFunction.{AuxBeginAndEndFunction}
-use Rattle.goblin_pe_symbol.specs.declared.symbol.auxiliary.AuxFunctionDefinition.{AuxFunctionDefinition}
-use Rattle.goblin_pe_symbol.specs.declared.symbol.auxiliary.AuxSectionDefinition.{AuxSectionDefinition}
-use Rattle.goblin_pe_symbol.specs.declared.symbol.auxiliary.AuxWeakExternal.{AuxWeakExternal}
-use Rattle.goblin_pe_symbol.specs.AuxiliarySymbols.{begin_and_end_function_fields, begin_and_end_function_record, function_definition_fields, function_definition_record, section_definition_fields, section_definition_record, weak_external_fields, weak_external_record}
+use Rattle.goblin_pe_symbol.specs.AuxiliarySymbols.{AuxBeginAndEndFunction, AuxFunctionDefinition, AuxSectionDefinition, AuxWeakExternal, begin_and_end_function_fields, begin_and_end_function_record, function_definition_fields, function_definition_record, section_definition_fields, section_definition_record, weak_external_fields, weak_external_record}
 
 pub function_definition_back : WritesBack 18 function_definition_record function_definition_fields
 function_definition_back = writes_back 18 function_definition_record function_definition_fields refl (λ endian own h. refl)

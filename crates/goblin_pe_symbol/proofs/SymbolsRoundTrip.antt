@@ -9,8 +9,7 @@ use Rattle.goblin_base.specs.Record.{WritesBack, encoding, FieldValue, FieldsFit
 use Rattle.goblin_base.specs.Record.FieldValue.{uint, octets}
 use Rattle.goblin_base.proofs.Steps.{mapped}
 use Rattle.goblin_base.proofs.RecordRoundTrip.{slots_in, fields_from, number-lt, writes_back, reads_back}
-use Rattle.goblin_pe_symbol.specs.declared.symbol.Symbol.{Symbol}
-use Rattle.goblin_pe_symbol.specs.Symbols.{name_offset_of, offset_name, stored_offset, symbol_fields, symbol_record}
+use Rattle.goblin_pe_symbol.specs.Symbols.{Symbol, name_offset_of, offset_name, stored_offset, symbol_fields, symbol_record}
 
 symbol_lies : (endian : Endian) (own : List ℕ) → IsBytes own → symbol_fields (symbol_record endian own) ≡ fields_from endian (slots_in 18 symbol_record symbol_fields) own 0
 symbol_lies endian own h =

@@ -15,7 +15,7 @@ use Rattle.goblin_base.specs.Answers.{IsBoundedTextFault, IsSliceFault, â—Œ>>=â—
 use Rattle.goblin_base.specs.Record.FieldValue.{octets, uint}
 use Rattle.goblin_base.proofs.Picks.{by_cases-not_memory}
 use Rattle.readings.specs.Reads.{because_by, record_at, slice_at}
-use Rattle.goblin_pe_symbol.specs.declared.symbol.Symbol.{Symbol}
+pub use Rattle.goblin_pe_symbol.specs.declared.symbol.Symbol.{Symbol}
 use Rattle.goblin_pe_symbol.specs.declared.symbol.SymbolIterator.{SymbolIterator}
 use Rattle.goblin_pe_symbol.specs.declared.symbol.SymbolTable.{SymbolTable}
 

@@ -7,7 +7,7 @@ ghost use Rattle.std.specs.Iterator.SizeHint.{IsWithinCount};
 ghost use Rattle.goblin_base.specs.Answers.{Answers, IsSliceFault, Writes};
 ghost use Rattle.goblin_base.specs.Bytes.{bounded_text_at, overwritten, slice_at};
 ghost use Rattle.goblin_base.specs.{Reading.Reads, Record.WritesRecord, Record.record_at};
-ghost use Rattle.goblin_pe_symbol.specs.declared.symbol.Symbol.{Symbol};
+ghost use Rattle.goblin_pe_symbol.specs.Symbols.{Symbol};
 ghost use Rattle.goblin_pe_symbol.specs.AuxiliarySymbols.{begin_and_end_function_record};
 ghost use Rattle.goblin_pe_symbol.specs.AuxiliarySymbols.{function_definition_record};
 ghost use Rattle.goblin_pe_symbol.specs.AuxiliarySymbols.{section_definition_record};

@@ -3,10 +3,9 @@
 
 ghost use Rattle.std.specs.Prelude.{◌≡◌, IfErr, IfOk, length};
 ghost use Rattle.goblin_base.specs.Answers.{GivesOrMemory};
-ghost use Rattle.goblin_pe_sect.specs.declared.address_map.Windows.TheVariants.{Walked};
+ghost use Rattle.goblin_pe_sect.specs.Addresses.{Walked, AreMany, WalksFew, map_in, map_of};
+ghost use Rattle.goblin_pe_sect.specs.Addresses.{map_with, strict_map, with_longest};
 ghost use Rattle.goblin_pe_sect.specs.Mapping.{file_offset};
-ghost use Rattle.goblin_pe_sect.specs.Addresses.{AreMany, WalksFew, map_in, map_of, map_with};
-ghost use Rattle.goblin_pe_sect.specs.Addresses.{strict_map, with_longest};
 ghost use Rattle.goblin_pe_sect.specs.SectionTable.{mapped_of, mapped_sections, recorded_sections};
 
 use crate::address_map::run::Run;

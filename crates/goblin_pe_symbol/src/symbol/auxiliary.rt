@@ -2,10 +2,9 @@
 
 ghost use Rattle.std.specs.Prelude.{length, ◌≡◌};
 ghost use Rattle.goblin_base.specs.Record.{WritesRecord};
-ghost use Rattle.goblin_pe_symbol.specs.declared.symbol.auxiliary.AuxBeginAndEndFunction.{AuxBeginAndEndFunction};
-ghost use Rattle.goblin_pe_symbol.specs.declared.symbol.auxiliary.AuxFunctionDefinition.{AuxFunctionDefinition};
-ghost use Rattle.goblin_pe_symbol.specs.declared.symbol.auxiliary.AuxSectionDefinition.{AuxSectionDefinition};
-ghost use Rattle.goblin_pe_symbol.specs.declared.symbol.auxiliary.AuxWeakExternal.{AuxWeakExternal};
+ghost use Rattle.goblin_pe_symbol.specs.AuxiliarySymbols.{AuxBeginAndEndFunction};
+ghost use Rattle.goblin_pe_symbol.specs.AuxiliarySymbols.{AuxFunctionDefinition};
+ghost use Rattle.goblin_pe_symbol.specs.AuxiliarySymbols.{AuxSectionDefinition, AuxWeakExternal};
 ghost use Rattle.goblin_pe_symbol.specs.AuxiliarySymbols.{begin_and_end_function_fields};
 ghost use Rattle.goblin_pe_symbol.specs.AuxiliarySymbols.{begin_and_end_function_record};
 ghost use Rattle.goblin_pe_symbol.specs.AuxiliarySymbols.{function_definition_fields};
