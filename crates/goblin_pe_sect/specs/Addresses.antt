@@ -11,7 +11,8 @@ use Rattle.goblin_pe_sect.specs.Options.{is_strict, mapping_by, mapping_in}
 use Rattle.goblin_pe_sect.specs.SectionTable.{MappedSections, Section, mapped_of, recorded_sections}
 use Rattle.goblin_pe_sect.specs.SectionTable.{with_front}
 use Rattle.goblin_pe_sect.specs.WindowIndex.{HasPieces, located}
-pub use Rattle.goblin_pe_sect.specs.declared.address_map.Windows.TheVariants.{Indexed, IndexedWithFront, Walked}
+pub use Rattle.goblin_pe_sect.specs.declared.address_map.Windows.TheVariants.{Indexed, Walked}
+pub use Rattle.goblin_pe_sect.specs.declared.address_map.Windows.TheVariants.{IndexedWithFront}
 
 -- How the addresses of a file are used: the file offset of an address, and the length above which a
 -- name at an address is cut, if there is a limit.
