@@ -8,7 +8,7 @@ use Rattle.goblin_base.specs.Footprints.{positions, stretch_footprint, Agree}
 use Rattle.goblin_base.specs.{Parts.moved_by, Parts.text_footprint, declared.error.ErrorOf.ErrorOf}
 use Rattle.goblin_base.proofs.{Numbers.rest_is_drop, Ranges.moved-positions, Texts.test_fails}
 use Rattle.goblin_base.proofs.{TextEnds.stretch_ends, Inside.AreInside, Inside.stretch-in}
-use Rattle.goblin_base.proofs.{Parts.agree-moved_slice, Parts.slice-moved-in}
+use Rattle.goblin_base.proofs.Parts.{agree-moved_slice, slice-moved-in}
 use Rattle.goblin_base.specs.Answers.{FirstFault, IsMemory, IsNoText, IsOffsetFault, IsTextFaultWithin}
 use Rattle.goblin_base.proofs.Footprints.{same-stretch_at, same-text_at, same_text}
 use Rattle.goblin_base.proofs.Readings.{no_text-not_memory, offset-not_memory, text-not_memory}

@@ -12,7 +12,7 @@ use Rattle.std.proofs.lemmas.List.{get_or-drop, get_or-take, get_or_past, length
 use Rattle.std.proofs.lemmas.List.Elements.{All-cons, All-head, All-nil, All-tail}
 use Rattle.goblin_base.specs.{declared.endian.Endian.Endian, declared.error.ErrorOf.ErrorOf}
 use Rattle.goblin_base.specs.{Answers.IsMemory, Bytes.number, Bytes.text_of, Reading.IsInFile}
-use Rattle.goblin_base.specs.{Strtab.IsStringTableFault, Strtab.string_table}
+use Rattle.goblin_base.specs.Strtab.{IsStringTableFault, string_table}
 use Rattle.goblin_base.specs.Footprints.{Agree, Covers, Range, led_to, positions, slice_footprint}
 use Rattle.goblin_base.specs.Parts.{between_footprint, bytes_between, front_through, least_place, moved_by, search_footprint}
 use Rattle.goblin_base.proofs.Footprints.{agree-led, agree-slice, same-byte, same-number, same-slice_range, same-within, same_if}

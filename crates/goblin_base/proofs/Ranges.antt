@@ -7,7 +7,7 @@ use Rattle.std.proofs.lemmas.List.{length-drop, map-append}
 use Rattle.goblin_base.specs.{Bytes.before_nul, Marks.marked, Parts.moved_by, Tables.concat_below}
 use Rattle.goblin_base.specs.Footprints.{Range, led_to, positions, slice_footprint, stretch_footprint}
 use Rattle.goblin_base.proofs.{Below.concat_below-next, Numbers.rest_is_drop, Marks.marked_append}
-use Rattle.goblin_base.proofs.{SlotFootprints.positions-none}
+use Rattle.goblin_base.proofs.SlotFootprints.{positions-none}
 
 -- the positions up to and with the byte after the text, where the file has one
 pub stretch-is : (bytes : List ℕ) (p end : ℕ) (text : List ℕ)

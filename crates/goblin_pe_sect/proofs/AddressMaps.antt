@@ -3,9 +3,9 @@ use Rattle.std.proofs.Common.{◌≡◌, ℕ, Bool, true, false, cond, List, [],
 use Rattle.std.proofs.Math.Path.{fun_ext}
 use Rattle.std.specs.Int.{is_power_of_two}
 use Rattle.goblin_pe_sect.specs.{Mapping.file_offset, declared.options.Mapping.Mapping}
-use Rattle.goblin_pe_sect.specs.{declared.options.ParseOptions.ParseOptions}
+use Rattle.goblin_pe_sect.specs.declared.options.ParseOptions.{ParseOptions}
 use Rattle.goblin_pe_sect.specs.{declared.options.View.View, declared.address_map.Windows.Windows}
-use Rattle.goblin_pe_sect.specs.{declared.address_map.records.MappedRecords.MappedRecords}
+use Rattle.goblin_pe_sect.specs.declared.address_map.records.MappedRecords.{MappedRecords}
 use Rattle.goblin_pe_sect.specs.SectionTable.{Section, mapped_of, mapped_sections}
 use Rattle.goblin_pe_sect.specs.WindowIndex.{Pieces, located}
 use Rattle.goblin_pe_sect.specs.Options.{mapping_by, mapping_in}

@@ -1,7 +1,7 @@
 -- The items of a base relocation directory, one after the other.
 use Rattle.std.proofs.Common.{◌≡◌, ℕ, zero, suc, ◌+◌, ◌-◌, ◌/◌, ◌<◌, ◌≤◌, Bool, true, false, cond, List, [], ◌∷◌, length, nat_lt, Option, Some, None, Result, Ok, Err, refl, ap, sym, ◌∙◌, inl, inr, arith, tests, rules, slice_range}
 use Rattle.std.proofs.lemmas.Bool.{cases_lt}
-use Rattle.goblin_base.specs.{declared.endian.Endian.TheVariants.Little}
+use Rattle.goblin_base.specs.declared.endian.Endian.TheVariants.{Little}
 use Rattle.goblin_base.specs.{declared.error.ErrorOf.ErrorOf, Bytes.number, Bytes.slice_at}
 use Rattle.goblin_base.proofs.Numbers.{number-of_slice, slice_at-some}
 use Rattle.goblin_pe_sect.specs.declared.relocation.base.RelocationBlock.{RelocationBlock}

@@ -1,7 +1,7 @@
 -- The items of a base relocation directory are the one longest list of blocks at its front.
 use Rattle.std.proofs.Common.{◌≡◌, ℕ, zero, suc, ◌+◌, ◌-◌, ◌<◌, ◌≤◌, false, List, [], ◌∷◌, ◌++◌, length, map, min, nat_lt, Some, Result, Ok, Err, refl, ap, sym, subst, ◌∙◌, inl, inr, arith, tests, rules, flat_map, slice_range}
 use Rattle.std.proofs.lemmas.Bool.{cases_lt}
-use Rattle.goblin_base.specs.{declared.endian.Endian.TheVariants.Little}
+use Rattle.goblin_base.specs.declared.endian.Endian.TheVariants.{Little}
 use Rattle.goblin_base.specs.{declared.error.ErrorOf.ErrorOf, Record.encoding}
 use Rattle.goblin_base.specs.Bytes.{IsBytes, number, slice_at}
 use Rattle.goblin_base.proofs.RecordRoundTrip.{Slot, encoding-fields_from, fields_from, slots_width, slice_then}

@@ -2,7 +2,7 @@
 use Rattle.std.proofs.Common.{suc, ◌-◌, ◌/◌, ◌%◌, ◌≡◌, ℕ, ◌+◌, ◌*◌, ◌^◌, ◌<◌, ◌≤◌, List, [], ◌∷◌, ◌++◌, Bool, true, false, ◌&&◌, refl, take, drop, map, length, ap, sym, ◌∙◌, arith, append_assoc, if◌then◌else◌, nat_lt, position, slice_index, slice_set, IfSome, None, Some, le-ltb, take-suc}
 use Rattle.std.specs.List.{list_all, position_or_len}
 use Rattle.std.proofs.lemmas.List.{length-append, map-append, take-set-le, drop-set, append-nil, take-append-drop}
-use Rattle.std.proofs.{lemmas.List.Folds.list_all_at, lemmas.List.Folds.list_all_more}
+use Rattle.std.proofs.lemmas.List.Folds.{list_all_at, list_all_more}
 use Rattle.std.proofs.{lemmas.Grind.pow_more, Math.Nat.pow-le-pow_right, Math.Nat.pow-zero}
 use Rattle.goblin_pe_sect.specs.Digits.{Digits, Decimal, Base64, alphabet, digits_sum, digit, numeral, radix, digit_byte, last_digits}
 

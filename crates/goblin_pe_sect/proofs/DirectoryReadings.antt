@@ -4,10 +4,10 @@ use Rattle.std.specs.List.{range_with_len, slice_get}
 use Rattle.std.proofs.lemmas.Bool.{cases_eq, cases_lt, eqb-false, eqb-true, le-leb, leb-false, leb-true, lt-leb, or_cases, or_parts}
 use Rattle.std.proofs.lemmas.List.FromFn.{get_or-map-range_with_len, length-map-range_with_len}
 use Rattle.std.proofs.lemmas.Option.{slice_get_past, slice_get_read}
-use Rattle.goblin_base.specs.{declared.endian.Endian.TheVariants.Little}
-use Rattle.goblin_base.specs.{declared.error.CauseOf.TheVariants.DirectoryCount}
+use Rattle.goblin_base.specs.declared.endian.Endian.TheVariants.{Little}
+use Rattle.goblin_base.specs.declared.error.CauseOf.TheVariants.{DirectoryCount}
 use Rattle.goblin_base.specs.{declared.error.ErrorOf.ErrorOf, Bytes.slice_at, Reading.IsRefused}
-use Rattle.goblin_base.specs.{Record.record_at}
+use Rattle.goblin_base.specs.Record.{record_at}
 use Rattle.goblin_base.specs.declared.error.ErrorOf.TheVariants.{Malformed, Read}
 use Rattle.goblin_base.specs.declared.error.ReadFault.TheVariants.{BadOffset, TooBig}
 use Rattle.goblin_base.specs.Answers.{IsFirstMissing, IsSliceFault, all_at}

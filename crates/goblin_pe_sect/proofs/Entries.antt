@@ -3,7 +3,7 @@ use Rattle.std.proofs.Common.{◌≡◌, ◌≢◌, ℕ, zero, suc, ◌+◌, ◌
 use Rattle.std.specs.List.{cons_option, range_with_len}
 use Rattle.std.proofs.lemmas.Bool.{and_parts, eqb-true, leb-true, or_cases, le-leb, lt-leb, lt-ltb, le-ltb, ne_eqb, eq-eqb, cases_eq, cases_lt}
 use Rattle.std.proofs.{lemmas.Option.cond_some, lemmas.Slice.Zip.length-zip}
-use Rattle.std.proofs.{lemmas.List.Concat.flat_map-cons}
+use Rattle.std.proofs.lemmas.List.Concat.{flat_map-cons}
 use Rattle.std.proofs.lemmas.List.{append-nil, at_drop_more, drop_all, length-drop, take_all, get_or-set_same, get_or-set_other, length-set}
 use Rattle.std.proofs.lemmas.List.FromFn.{fill_by_all, get_or-map-range_with_len, length-map-range_with_len}
 use Rattle.goblin_base.specs.declared.endian.Endian.{Endian}

@@ -2,7 +2,7 @@
 use Rattle.std.proofs.Common.{◌≡◌, ◌+◌, ◌-◌, ◌*◌, ◌<◌, ◌≤◌, ℕ, Bool, true, false, cond, nat_le, List, length, Option, Some, None, ap, refl, inl, inr, arith, IfSome, option_map}
 use Rattle.std.proofs.lemmas.Bool.{cases_lt}
 use Rattle.goblin_base.specs.{declared.endian.Endian.TheVariants.Little, Answers.all_at}
-use Rattle.goblin_base.specs.{Record.record_at}
+use Rattle.goblin_base.specs.Record.{record_at}
 use Rattle.goblin_base.proofs.{Numbers.slice_at-past, Steps.all_at-each}
 use Rattle.goblin_pe_sect.specs.DataDirectories.{DataDirectory, directory_record}
 use Rattle.goblin_pe_sect.specs.DirectoryReadings.{directories_at, sixteen}

@@ -9,8 +9,8 @@ use Rattle.goblin_pe_sect.specs.Mapping.{read_size, window_end}
 use Rattle.goblin_pe_sect.specs.WindowIndex.{AreNear, IsCut, first_owner}
 use Rattle.goblin_pe_sect.specs.WindowStretches.{window_holds, owner_among, section_window_at, section_windows}
 use Rattle.goblin_pe_sect.specs.{declared.options.Mapping.Mapping, SectionTable.Section}
-use Rattle.goblin_pe_sect.specs.{declared.windows.owners.Owner.Owner}
-use Rattle.goblin_pe_sect.specs.{declared.windows.owners.Window.Window}
+use Rattle.goblin_pe_sect.specs.declared.windows.owners.Owner.{Owner}
+use Rattle.goblin_pe_sect.specs.declared.windows.owners.Window.{Window}
 use Rattle.goblin_pe_sect.proofs.Cuts.{HasCuts, cuts_empty, cuts_more, cuts_touching, all_borders, near_from}
 use Rattle.goblin_pe_sect.proofs.Halving.{rising_at}
 use Rattle.goblin_pe_sect.proofs.Stretches.{map_same, next_window, owners-sections}

@@ -3,11 +3,11 @@ use Rattle.std.proofs.Common.{◌≡◌, ℕ, zero, suc, ◌+◌, ◌-◌, ◌<�
 use Rattle.std.specs.List.{filter, position, position_or_len, enumerate_from}
 use Rattle.std.proofs.lemmas.List.{map-append, take-append-drop}
 use Rattle.std.proofs.{lemmas.List.Quantifiers.position-Some, lemmas.Option.slice_get_past}
-use Rattle.std.proofs.{lemmas.Bool.Decides.nat_tests}
+use Rattle.std.proofs.lemmas.Bool.Decides.{nat_tests}
 use Rattle.goblin_pe_sect.specs.{Mapping.is_in_window, declared.options.Mapping.Mapping}
 use Rattle.goblin_pe_sect.specs.{SectionTable.Section, declared.windows.bounds.Piece.Piece}
-use Rattle.goblin_pe_sect.specs.{declared.windows.owners.Owner.Owner}
-use Rattle.goblin_pe_sect.specs.{declared.windows.owners.Window.Window}
+use Rattle.goblin_pe_sect.specs.declared.windows.owners.Owner.{Owner}
+use Rattle.goblin_pe_sect.specs.declared.windows.owners.Window.{Window}
 use Rattle.goblin_pe_sect.specs.WindowIndex.{begins_of, first_owner, owner_of_section, owners_of}
 use Rattle.goblin_pe_sect.specs.WindowStretches.{window_holds, window_covers, window_meets, owner_among, piece_among, section_window_at, section_windows, FindTheSame, IsRising}
 

@@ -1,7 +1,7 @@
 -- Readings at an address, over a map from addresses to file offsets.
 use Rattle.std.specs.Prelude.{ℕ, Bool, List, Option, None, Some}
-use Rattle.goblin_base.specs.{declared.endian.Endian.Endian}
-use Rattle.goblin_base.specs.{declared.endian.Endian.TheVariants.Little}
+use Rattle.goblin_base.specs.declared.endian.Endian.{Endian}
+use Rattle.goblin_base.specs.declared.endian.Endian.TheVariants.{Little}
 use Rattle.goblin_base.specs.{declared.error.ErrorOf.ErrorOf, Reading.Reading}
 use Rattle.goblin_base.specs.declared.error.CauseOf.TheVariants.{NameRead, RelocRange, Unmapped}
 use Rattle.readings.specs.Reads.{◌>>=◌, because, mapped, needs, or_else, slice_at, text_at}

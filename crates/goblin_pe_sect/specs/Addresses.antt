@@ -3,10 +3,10 @@ use Rattle.std.specs.Prelude.{⊤, ℕ, ◌==◌, ◌≡◌, ◌<◌, Bool, fals
 use Rattle.std.specs.Prelude.{None, length}
 use Rattle.std.specs.Option.{is_some}
 use Rattle.goblin_base.specs.declared.permissive.ParseMode.TheVariants.{Strict}
-use Rattle.goblin_pe_sect.specs.{declared.options.Mapping.Mapping}
+use Rattle.goblin_pe_sect.specs.declared.options.Mapping.{Mapping}
 use Rattle.goblin_pe_sect.specs.{declared.options.ParseOptions.ParseOptions, Mapping.file_offset}
-use Rattle.goblin_pe_sect.specs.{declared.address_map.AddressMap.AddressMap}
-use Rattle.goblin_pe_sect.specs.{declared.address_map.Windows.Windows}
+use Rattle.goblin_pe_sect.specs.declared.address_map.AddressMap.{AddressMap}
+use Rattle.goblin_pe_sect.specs.declared.address_map.Windows.{Windows}
 use Rattle.goblin_pe_sect.specs.Options.{is_strict, mapping_by, mapping_in}
 use Rattle.goblin_pe_sect.specs.SectionTable.{MappedSections, Section, mapped_of, recorded_sections}
 use Rattle.goblin_pe_sect.specs.SectionTable.{with_front}

@@ -3,20 +3,19 @@
 use Rattle.std.specs.Prelude.{◌≡◌, ◌≤◌, ◌<◌, ℕ, zero, suc, ◌+◌, ◌-◌, min, nat_lt, if◌then◌else◌}
 use Rattle.std.specs.Prelude.{List, [], ◌∷◌, ◌++◌, length, map, flat_map, slice_range, Option, Some}
 use Rattle.std.specs.Prelude.{None, Result, Ok, Err}
-use Rattle.goblin_base.specs.{declared.endian.Endian.Endian}
-use Rattle.goblin_base.specs.{declared.endian.Endian.TheVariants.Little}
-use Rattle.goblin_base.specs.{declared.error.ErrorOf.ErrorOf}
+use Rattle.goblin_base.specs.declared.endian.Endian.{Endian}
+use Rattle.goblin_base.specs.declared.endian.Endian.TheVariants.{Little}
+use Rattle.goblin_base.specs.declared.error.ErrorOf.{ErrorOf}
 use Rattle.goblin_base.specs.{declared.error.ReadFault.TheVariants.TooBig, Tables.record_items}
 use Rattle.goblin_base.specs.declared.error.CauseOf.TheVariants.{BlockRange, BlockSize}
 use Rattle.goblin_base.specs.declared.error.ErrorOf.TheVariants.{Malformed, Read}
 use Rattle.goblin_base.specs.Bytes.{IsBytes, number, slice_at}
 use Rattle.goblin_base.specs.Record.{FieldValue, encoding}
 use Rattle.goblin_base.specs.Record.FieldValue.{octets, uint}
-use Rattle.goblin_pe_sect.specs.declared.relocation.base.RelocationBlock.{RelocationBlock}
-use Rattle.goblin_pe_sect.specs.declared.relocation.base.RelocationBlockIterator.{RelocationBlockIterator}
-use Rattle.goblin_pe_sect.specs.declared.relocation.base.RelocationData.{RelocationData}
-pub use Rattle.goblin_pe_sect.specs.declared.relocation.base.RelocationWord.{RelocationWord}
-use Rattle.goblin_pe_sect.specs.declared.relocation.base.RelocationWordIterator.{RelocationWordIterator}
+use Rattle.goblin_pe_sect.specs.declared.relocation.base as base
+use base.{RelocationBlock.RelocationBlock, RelocationBlockIterator.RelocationBlockIterator}
+use base.{RelocationData.RelocationData, RelocationWordIterator.RelocationWordIterator}
+pub use base.RelocationWord.{RelocationWord}
 
 -- Source: PE Format, "The .reloc Section (Image Only)".
 

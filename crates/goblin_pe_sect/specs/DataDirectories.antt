@@ -4,7 +4,7 @@ use Rattle.std.specs.Prelude.{◌≡◌, ℕ, ◌==◌, ◌&&◌, if◌then◌el
 use Rattle.std.specs.Prelude.{slice_get, Option, Some, None, option_map}
 use Rattle.std.specs.Prelude.{option_and_then, zip, filter_map, flat_map}
 use Rattle.goblin_base.specs.{declared.endian.Endian.Endian, declared.error.ErrorOf.ErrorOf}
-use Rattle.goblin_base.specs.{declared.error.ErrorOf.TheVariants.Malformed}
+use Rattle.goblin_base.specs.declared.error.ErrorOf.TheVariants.{Malformed}
 use Rattle.goblin_base.specs.{declared.error.CauseOf.TheVariants.DirectoryIndex, Bytes.number}
 use Rattle.goblin_base.specs.Record.{FieldValue, uint}
 pub use Rattle.goblin_pe_sect.specs.declared.data_directories.DataDirectory.{DataDirectory}

@@ -2,7 +2,7 @@
 use Rattle.std.specs.Prelude.{◌≡◌, ℕ, ◌+◌, ◌-◌, ◌*◌, nat_le, List, ◌++◌, map, replicate, Option}
 use Rattle.std.specs.Prelude.{None, Some, option_and_then, slice_get, slice_range}
 use Rattle.std.specs.List.{range_with_len}
-use Rattle.goblin_base.specs.{declared.endian.Endian.TheVariants.Little}
+use Rattle.goblin_base.specs.declared.endian.Endian.TheVariants.{Little}
 use Rattle.goblin_base.specs.{declared.error.CauseOf.TheVariants.DirectoryCount, Bytes.IsBytes}
 use Rattle.goblin_base.specs.{Reading.Reading, Record.encoding}
 use Rattle.readings.specs.Reads.{each, mapped, needs, pick, record_at}

@@ -1,11 +1,11 @@
 -- The relocations of a section of an object.
 use Rattle.std.specs.Prelude.{◌<◌, ◌≤◌, ℕ, ◌*◌, ◌^◌, List, [], ◌∷◌}
-use Rattle.goblin_base.specs.{declared.endian.Endian.Endian}
-use Rattle.goblin_base.specs.{declared.endian.Endian.TheVariants.Little}
-use Rattle.goblin_base.specs.{declared.error.CauseOf.TheVariants.Overflow}
+use Rattle.goblin_base.specs.declared.endian.Endian.{Endian}
+use Rattle.goblin_base.specs.declared.endian.Endian.TheVariants.{Little}
+use Rattle.goblin_base.specs.declared.error.CauseOf.TheVariants.{Overflow}
 use Rattle.goblin_base.specs.{declared.error.ErrorOf.ErrorOf, Bytes.number, Answers.IsSliceFault}
 use Rattle.goblin_base.specs.{Reading.Reading, Record.FieldValue, Record.FieldValue.uint}
-use Rattle.goblin_base.specs.{Tables.records_in}
+use Rattle.goblin_base.specs.Tables.{records_in}
 use Rattle.goblin_base.specs.declared.error.ErrorOf.TheVariants.{Malformed, Read}
 use Rattle.goblin_base.proofs.Picks.{by_cases-not_memory}
 use Rattle.readings.specs.Reads.{because_by, mapped, slice_at}

@@ -3,7 +3,7 @@
 use Rattle.std.specs.Prelude.{IsTrue, IsSomeAnd, ◌≢◌, ◌≡◌, ◌≤◌, ℕ, ◌-◌, ◌^◌, ◌++◌, ◌==◌}
 use Rattle.std.specs.Prelude.{if◌then◌else◌, Bool, List, ◌∷◌, length, drop, map, slice_index}
 use Rattle.std.specs.Prelude.{replicate, Option, Some, None, option_map, nat_lt, nat_le}
-use Rattle.goblin_base.specs.{declared.error.ErrorOf.ErrorOf}
+use Rattle.goblin_base.specs.declared.error.ErrorOf.{ErrorOf}
 use Rattle.goblin_base.specs.{declared.error.ErrorOf.TheVariants.Malformed, Bytes.bounded_text_at}
 use Rattle.goblin_base.specs.declared.error.CauseOf.TheVariants.{NameText, NameBase64, NameDecimal}
 use Rattle.goblin_base.specs.declared.error.CauseOf.TheVariants.{NameOffset}

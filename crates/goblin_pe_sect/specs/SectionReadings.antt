@@ -1,6 +1,6 @@
 -- A section: its section header, its name from the string table, and its data.
 use Rattle.std.specs.Prelude.{◌≡◌, ℕ, ◌+◌, ◌-◌, Bool, List, ◌++◌, Option, Some, replicate}
-use Rattle.goblin_base.specs.{declared.endian.Endian.TheVariants.Little}
+use Rattle.goblin_base.specs.declared.endian.Endian.TheVariants.{Little}
 use Rattle.goblin_base.specs.{declared.error.ErrorOf.ErrorOf, Answers.IsMemory}
 use Rattle.goblin_base.specs.{Answers.IsSliceFault, Bytes.IsBytes, Reading.Reading, Record.encoding}
 use Rattle.goblin_base.specs.Bytes as bytes_of

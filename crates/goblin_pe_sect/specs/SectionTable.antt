@@ -2,13 +2,13 @@
 use Rattle.std.specs.Prelude.{◌≡◌, ℕ, ◌+◌, ◌<◌, Bool, List, [], ◌∷◌, Option, None, Some, nat_eq}
 use Rattle.std.specs.Prelude.{◌++◌, replicate, slice_range}
 use Rattle.std.specs.{Option.option_eq, Ordering.eq_of_both, Ordering.on}
-use Rattle.std.specs.{Cmp.Lexicographic.options_equiv, Cmp.Lexicographic.pointwise}
+use Rattle.std.specs.Cmp.Lexicographic.{options_equiv, pointwise}
 use Rattle.std.specs.Cmp.{IsPartialEquivalence, and_per, on_per, partial_equiv_from_equiv}
 use Rattle.std.proofs.lemmas.Cmp.{nat_list_eq_equiv}
 use Rattle.goblin_base.specs.{declared.endian.Endian.Endian, declared.error.ErrorOf.ErrorOf}
 use Rattle.goblin_base.specs.{Bytes.bounded_text_at, Bytes.number, Answers.IsBoundedTextFault}
 use Rattle.goblin_base.specs.{Record.FieldValue.octets, Record.FieldValue.uint, Tables.records_in}
-use Rattle.goblin_base.specs.{declared.endian.Endian.TheVariants.Little}
+use Rattle.goblin_base.specs.declared.endian.Endian.TheVariants.{Little}
 use Rattle.goblin_base.specs.Record.{FieldValue, encoding, record_at}
 use Rattle.goblin_pe_sect.specs.declared.options.View.{View}
 use Rattle.goblin_pe_sect.specs.declared.address_map.records.MappedRecords.{MappedRecords}

@@ -1,6 +1,6 @@
 -- The pieces of the address space with their owners, as made from the windows of sections.
 use Rattle.std.specs.Prelude.{ℕ, ◌≡◌, List, map}
-use Rattle.goblin_pe_sect.specs.{declared.options.Mapping.Mapping}
+use Rattle.goblin_pe_sect.specs.declared.options.Mapping.{Mapping}
 use Rattle.goblin_pe_sect.specs.{declared.windows.bounds.Piece.Piece, SectionTable.Section}
 use Rattle.goblin_pe_sect.specs.WindowIndex.{AreNear, IsCut, begins_of, first_owner, owners_of}
 

@@ -5,8 +5,8 @@ use Rattle.std.specs.Prelude.{false, nat_le, nat_lt, if◌then◌else◌, List, 
 use Rattle.std.specs.Prelude.{length, map, slice_index, slice_index_or, slice_get, Contains}
 use Rattle.std.specs.Prelude.{position, IsTrue, option_map, option_and_then}
 use Rattle.std.specs.{List.prefix_len, List.Sorted.IsStrictlyIncreasing, Int.is_power_of_two}
-use Rattle.goblin_pe_sect.specs.{declared.options.Mapping.Mapping}
-use Rattle.goblin_pe_sect.specs.{declared.windows.bounds.Piece.Piece}
+use Rattle.goblin_pe_sect.specs.declared.options.Mapping.{Mapping}
+use Rattle.goblin_pe_sect.specs.declared.windows.bounds.Piece.{Piece}
 use Rattle.goblin_pe_sect.specs.{declared.windows.owners.Owner.Owner, SectionTable.Section}
 use Rattle.goblin_pe_sect.specs.Mapping.{read_size, window_end, is_in_window, raw_begin}
 

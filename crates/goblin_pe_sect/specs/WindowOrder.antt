@@ -2,7 +2,7 @@
 use Rattle.std.specs.Prelude.{IsTrue, ℕ, List, AllPairs, IsPermutation}
 use Rattle.std.specs.Int.{is_power_of_two}
 use Rattle.goblin_pe_sect.specs.{declared.options.Mapping.Mapping, SectionTable.Section}
-use Rattle.goblin_pe_sect.specs.{Mapping.InWindow}
+use Rattle.goblin_pe_sect.specs.Mapping.{InWindow}
 
 -- no address lies in the windows of both sections
 abbrev pub HaveDisjointWindows : Mapping → ℕ → Section → Section → Type 0

@@ -2,9 +2,9 @@
 use Rattle.std.specs.Prelude.{ℕ, ◌≡◌, ◌≤◌, ◌<◌, Bool, ◌&&◌, nat_le, nat_lt, List, Option, find}
 use Rattle.std.specs.Prelude.{length, map, slice_index, option_map}
 use Rattle.std.specs.List.{enumerate_from}
-use Rattle.goblin_pe_sect.specs.{declared.options.Mapping.Mapping}
-use Rattle.goblin_pe_sect.specs.{declared.windows.bounds.Piece.Piece}
-use Rattle.goblin_pe_sect.specs.{declared.windows.owners.Owner.Owner}
+use Rattle.goblin_pe_sect.specs.declared.options.Mapping.{Mapping}
+use Rattle.goblin_pe_sect.specs.declared.windows.bounds.Piece.{Piece}
+use Rattle.goblin_pe_sect.specs.declared.windows.owners.Owner.{Owner}
 use Rattle.goblin_pe_sect.specs.{declared.windows.owners.Window.Window, Mapping.window_end}
 use Rattle.goblin_pe_sect.specs.{SectionTable.Section, WindowIndex.owner_of_section}
 

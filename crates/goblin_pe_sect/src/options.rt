@@ -24,8 +24,8 @@ pub enum RawPointerRule {
 impl RawPointerRule {
     /// The rule that is right for an image with this file alignment: rounded if the alignment is
     /// 512 or more, else as stored. It is the right rule for every lawful image, because there the
-    /// file alignment is below 512 only if it equals a `section_alignment` below 4,096. It says where
-    /// raw data begins, and not how long a window is: that is up to the [`View`].
+    /// file alignment is below 512 only if it equals a `section_alignment` below 4,096. The rule
+    /// says where raw data begins, and not how long a window is: that is up to the [`View`].
     pub fn by_file_alignment(file_alignment: u32) -> RawPointerRule
         ensures { result ≡ rule_by_alignment file_alignment }
     {

@@ -10,7 +10,7 @@ ghost use Rattle.std.specs.Prelude.{length, map, []};
 ghost use Rattle.std.specs.{Int.is_power_of_two, List.Sorted.IsStrictlyIncreasing};
 ghost use Rattle.goblin_base.specs.Answers.{IsMemory};
 ghost use Rattle.goblin_pe_sect.specs.{Mapping.file_offset, Options.mapping_by};
-ghost use Rattle.goblin_pe_sect.specs.{WindowIndexFields.KeepsPiecesAlone};
+ghost use Rattle.goblin_pe_sect.specs.WindowIndexFields.{KeepsPiecesAlone};
 ghost use Rattle.goblin_pe_sect.specs.WindowIndex.{IsCut, begins_of, first_owner, located};
 ghost use Rattle.goblin_pe_sect.specs.WindowIndex.{reached, halvings, HasPieces};
 

@@ -2,10 +2,11 @@
 use Rattle.std.specs.Prelude.{ℕ, List, [], ◌∷◌, slice_range}
 use Rattle.goblin_base.specs.{declared.endian.Endian.Endian, Bytes.number, Record.FieldValue}
 use Rattle.goblin_base.specs.Record.FieldValue.{octets, uint}
-pub use Rattle.goblin_pe_symbol.specs.declared.symbol.auxiliary.AuxBeginAndEndFunction.{AuxBeginAndEndFunction}
-pub use Rattle.goblin_pe_symbol.specs.declared.symbol.auxiliary.AuxFunctionDefinition.{AuxFunctionDefinition}
-pub use Rattle.goblin_pe_symbol.specs.declared.symbol.auxiliary.AuxSectionDefinition.{AuxSectionDefinition}
-pub use Rattle.goblin_pe_symbol.specs.declared.symbol.auxiliary.AuxWeakExternal.{AuxWeakExternal}
+use Rattle.goblin_pe_symbol.specs.declared.symbol.auxiliary as auxiliary
+pub use auxiliary.AuxBeginAndEndFunction.{AuxBeginAndEndFunction}
+pub use auxiliary.AuxFunctionDefinition.{AuxFunctionDefinition}
+pub use auxiliary.AuxSectionDefinition.{AuxSectionDefinition}
+pub use auxiliary.AuxWeakExternal.{AuxWeakExternal}
 
 -- Source: PE Format, "Auxiliary Symbol Records".
 

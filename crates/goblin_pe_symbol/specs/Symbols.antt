@@ -3,11 +3,11 @@ use Rattle.std.specs.Prelude.{◌≡◌, ◌≢◌, ◌⊎◌, ◌<◌, ◌≤�
 use Rattle.std.specs.Prelude.{nat_le, if◌then◌else◌, List, [], ◌∷◌, ◌++◌, length, replicate}
 use Rattle.std.specs.Prelude.{slice_index, slice_range, Option, Some, None, option_map}
 use Rattle.std.specs.{Borrow.Bor, Int.cast_signed, Int.cast_unsigned, Int.w16, List.All}
-use Rattle.std.specs.{List.AllPairs, List.Contains}
-use Rattle.goblin_base.specs.{declared.endian.Endian.Endian}
-use Rattle.goblin_base.specs.{declared.endian.Endian.TheVariants.Little}
+use Rattle.std.specs.List.{AllPairs, Contains}
+use Rattle.goblin_base.specs.declared.endian.Endian.{Endian}
+use Rattle.goblin_base.specs.declared.endian.Endian.TheVariants.{Little}
 use Rattle.goblin_base.specs.{declared.error.ErrorOf.ErrorOf, Reading.Reading, Record.FieldValue}
-use Rattle.goblin_base.specs.{Strtab.rest_at}
+use Rattle.goblin_base.specs.Strtab.{rest_at}
 use Rattle.goblin_base.specs.declared.error.CauseOf.TheVariants.{Overflow, SymbolName}
 use Rattle.goblin_base.specs.declared.error.ErrorOf.TheVariants.{Malformed, Read}
 use Rattle.goblin_base.specs.Bytes.{bounded_text_at, number, number_bytes}

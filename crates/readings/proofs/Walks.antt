@@ -2,7 +2,7 @@
 use Rattle.std.proofs.Common.{◌≡◌, ◌<◌, ◌≤◌, ◌+◌, ◌*◌, ℕ, zero, suc, Bool, true, false, List, [], ◌∷◌, ◌++◌, map, length, Option, Some, None, refl, sym, ap, subst, ◌∙◌, append-nil, append_assoc, arith, if◌then◌else◌, inl, inr, not, ◌&&◌, IsSomeAnd, is_some}
 use Rattle.std.proofs.lemmas.Bool.{cases_Bool}
 use Rattle.goblin_base.specs.{declared.error.ErrorOf.ErrorOf, Answers.FirstFault, Answers.◌>>=◌}
-use Rattle.goblin_base.specs.{Reading.IsRefused, Reading.Reading}
+use Rattle.goblin_base.specs.Reading.{IsRefused, Reading}
 use Rattle.goblin_base.specs.Tables.{AreMade, IsTableFault, SlotFormat, concat_below, ends_table, slot_at, slot_place, stop}
 use Rattle.goblin_base.proofs.Below.{concat_below-agree, least-before}
 use Rattle.goblin_base.proofs.SlotTables.{ends, reads, stop-after, stop-is}

@@ -4,7 +4,7 @@ use Rattle.std.specs.Prelude.{◌≡◌, ℕ, Bool, true, false, List, [], ◌++
 use Rattle.std.specs.Prelude.{option_map, option_to_list, refl, ◌+◌, drop, slice_range}
 use Rattle.std.proofs.Common.{ap, ◌∙◌, cond}
 use Rattle.goblin_base.specs.{declared.endian.Endian.Endian, declared.error.CauseOf.CauseOf}
-use Rattle.goblin_base.specs.{declared.error.ErrorOf.ErrorOf}
+use Rattle.goblin_base.specs.declared.error.ErrorOf.{ErrorOf}
 use Rattle.goblin_base.specs.{declared.error.ErrorOf.TheVariants.Malformed, Reading.Reading}
 use Rattle.goblin_base.specs.{Strtab.IsStringTableFault, Values.IsValueFault}
 use Rattle.goblin_base.specs.Answers as answers

@@ -4,8 +4,8 @@ use Rattle.std.proofs.{Math.Path.fun_ext, lemmas.List.map-append}
 use Rattle.std.specs.{Option.is_some, Int.is_power_of_two}
 use Rattle.goblin_pe_sect.specs.Mapping.{file_offset, is_in_window, offset_in, read_size}
 use Rattle.goblin_pe_sect.specs.SectionTable.{Section, front_section, unnamed, with_front}
-use Rattle.goblin_pe_sect.specs.{declared.options.Mapping.Mapping}
-use Rattle.goblin_pe_sect.specs.{declared.options.ParseOptions.ParseOptions}
+use Rattle.goblin_pe_sect.specs.declared.options.Mapping.{Mapping}
+use Rattle.goblin_pe_sect.specs.declared.options.ParseOptions.{ParseOptions}
 use Rattle.goblin_pe_sect.specs.{declared.options.View.View, Options.mapping_in}
 use Rattle.goblin_pe_sect.specs.Addresses.{map_in, map_to, without_null}
 

@@ -3,8 +3,8 @@
 ghost use Rattle.std.specs.Prelude.{◌≡◌, ◌^◌, ◌<◌, IfSome, IsTrue, Some, true};
 ghost use Rattle.std.specs.Int.{is_power_of_two};
 ghost use Rattle.goblin_pe_sect.specs.{Mapping.file_offset, Runs.IsRun, Runs.offset_in_run};
-ghost use Rattle.goblin_pe_sect.specs.{Addresses.table_offset, Addresses.without_null};
-ghost use Rattle.goblin_pe_sect.specs.{SectionTable.mapped_of, SectionTable.mapped_sections};
+ghost use Rattle.goblin_pe_sect.specs.Addresses.{table_offset, without_null};
+ghost use Rattle.goblin_pe_sect.specs.SectionTable.{mapped_of, mapped_sections};
 
 use super::records::MappedRecords;
 use super::run::Run;

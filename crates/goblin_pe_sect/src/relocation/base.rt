@@ -5,7 +5,7 @@ ghost use Rattle.std.specs.Prelude.{Err, IfSome};
 ghost use Rattle.std.specs.Iterator.{UpTo, YieldsFirst, YieldsFirstBy, at_most};
 ghost use Rattle.std.specs.Iterator.SizeHint.{IsWithinCount};
 ghost use Rattle.goblin_base.specs.{Reading.Reads, Record.WritesRecord};
-ghost use Rattle.goblin_pe_sect.specs.{declared.relocation.base.RelocationWord.RelocationWord};
+ghost use Rattle.goblin_pe_sect.specs.declared.relocation.base.RelocationWord.{RelocationWord};
 ghost use Rattle.goblin_pe_sect.specs.{AddressReadings.relocation_data, Mapping.file_offset};
 ghost use Rattle.goblin_pe_sect.specs.BaseRelocations.{AreBlocksOf, FindsItem, block_at};
 ghost use Rattle.goblin_pe_sect.specs.BaseRelocations.{block_item, block_items, blocks_left};

@@ -1,6 +1,6 @@
 use Rattle.std.proofs.Common.{◌≡◌, ap, ◌∙◌, List, length, min, ◌+◌, ℕ}
 use Rattle.goblin_base.specs.{Bytes.before_nul, Footprints.stretch_footprint, Marks.marked}
-use Rattle.goblin_base.specs.{Parts.moved_by}
+use Rattle.goblin_base.specs.Parts.{moved_by}
 use Rattle.goblin_base.proofs.CutTexts.{moved_stretch}
 use Rattle.goblin_base.proofs.footprint.add_cut_stretch.Goals as goal
 
