@@ -1,5 +1,5 @@
 -- A loop that fills records with what comes next of a table.
-use Rattle.std.proofs.Common.{◌≡◌, ◌≢◌, ◌⊎◌, ◌==◌, ◌&&◌, not, ℕ, ◌+◌, ◌<◌, ◌≤◌, List, [], ◌∷◌, ◌++◌, length, map, take, drop, set, ap, subst, sym, refl, arith, ◌∙◌, inl, inr, Option, None, Some, IsSomeAnd, MatchResult, Result, Ok, Err, append-nil, Bool, true, false}
+use Rattle.std.proofs.Common.{◌≡◌, ◌≢◌, ◌⊎◌, ◌==◌, ◌&&◌, not, ℕ, ◌+◌, ◌<◌, ◌≤◌, List, [], ◌∷◌, ◌++◌, length, map, min, take, drop, set, ap, subst, sym, refl, arith, ◌∙◌, inl, inr, Option, None, Some, IsSomeAnd, MatchResult, Result, Ok, Err, append-nil, Bool, true, false}
 use Rattle.std.proofs.lemmas.Bool.Decides.{nat_tests}
 use Rattle.std.proofs.Math.Seq.{drop-append_seam, take-append_seam}
 use Rattle.std.proofs.lemmas.List.{append_assoc, drop-set-lt, length-append, length-map, length-set, map-append, take_all, take_more_set}
@@ -7,7 +7,7 @@ use Rattle.std.proofs.lemmas.Grind.{drop_more_same}
 use Rattle.goblin_base.specs.declared.error.ErrorOf.{ErrorOf}
 use Rattle.goblin_base.specs.Reading.{Reading}
 use Rattle.goblin_pe_c_headers.specs.Filled.{Filled}
-use Rattle.goblin_pe_c_headers.specs.Onward.{AtBatch, Batch, FillsFrom, FillsNext, GivesFrom, IsBatch, IsNextFault, IsRefusedNext, Table, TellsEnd, unrefused, values_before}
+use Rattle.goblin_pe_c_headers.specs.Onward.{AtBatch, Batch, FillsFrom, FillsNext, IsNextFault, IsRefusedNext, Table, TellsEnd, unrefused, values_before}
 
 -- ---- the values before a refusal
 
@@ -53,19 +53,14 @@ module _ {R A B : Type 0} (view : R → B) (value_of : A → B) (old : List R) w
 
   -- there is no more room, or nothing more to come
   batch-end : (values more next : List A) (records : List R) (count : ℕ) → AtBatch view value_of old values records count → next ≡ values ++ more
-      → (length old ≤ count) ⊎ (more ≡ []) → IsBatch view value_of next old records count
+      → (length old ≤ count) ⊎ (more ≡ []) → count ≡ min (length old) (length next)
   batch-end values more next records count h is end =
       let all : length next ≡ count + length more =
       ap (λ (xs : List A). length xs) is ∙ length-append values more ∙ ap (λ (n : ℕ). n + length more) h.counted in
-      let front : take count next ≡ values =
-      ap (λ (xs : List A). take count xs) is ∙ ap (λ (n : ℕ). take n (values ++ more)) (sym h.counted) ∙ take-append_seam values more in
-      record {
-        counted = elim end [
-          | inl full ↦ omega (arith, all, full, h.fits)
-          | inr none ↦ (let few = all ∙ ap (λ (xs : List A). count + length xs) none in omega (arith, few, h.fits))
-        ];
-        filled = subst (λ (made : List A). Filled view (map value_of made) old records) (sym front) h.filled;
-      }
+      elim end [
+        | inl full ↦ omega (arith, all, full, h.fits)
+        | inr none ↦ (let few = all ∙ ap (λ (xs : List A). count + length xs) none in omega (arith, few, h.fits))
+      ]
 
 -- ---- the end
 
@@ -144,7 +139,8 @@ module _ {P R A B S : Type 0} {table : Table P R A B} {left : S → List (Option
   -- it was cut
   pub items-cut : {IsCut : Type 0} (q : P) → IsCut → table.from q ≡ Some (left now) → (length old ≡ 0 → q ≡ at) → Given IsCut q
   items-cut q cut goes stays = record {
-    batch = batch-end table.view table.value_of old h.values [] (take count (values_before (left start))) records count h.held (items-taken ∙ sym (append-nil h.values)) (inr refl);
+    counted = batch-end table.view table.value_of old h.values [] (take count (values_before (left start))) records count h.held (items-taken ∙ sym (append-nil h.values)) (inr refl);
+    filled = subst (λ (made : List A). Filled table.view (map table.value_of made) old records) (sym items-taken) h.held.filled;
     later = goes ∙ ap (λ (items : List (Option A)). Some items) (sym items-left);
     whole = inl cut;
     stays = stays;
@@ -156,11 +152,12 @@ module _ {P R A B S : Type 0} {table : Table P R A B} {left : S → List (Option
   whole q why begun goes stays =
       let fills = items-cut {IsCut = q ≡ q} q refl goes stays in
       let all = ap (λ (items : List (Option A)). values_before items) h.yielded ∙ before-all h.values (left now) in
-      let batch = batch-end table.view table.value_of old h.values (values_before (left now)) (values_before (left start)) records count h.held all why in
+      let counted = batch-end table.view table.value_of old h.values (values_before (left now)) (values_before (left start)) records count h.held all why in
       record {
-        batch = fills.batch;
+        counted = fills.counted;
+        filled = fills.filled;
         later = fills.later;
-        whole = inr (batch.counted, refused h.values refl h.yielded);
+        whole = inr (counted, refused h.values refl h.yielded);
         stays = stays;
       }
     where
@@ -238,7 +235,7 @@ module _ {P R A B S : Type 0} {table : Table P R A B} {left : S → List (Option
 
   -- what a batch has given of its table
   pub items-gives : {IsCut : Type 0} (Holds : List (Option A) → Type 0) (q : P) → Given IsCut q → Holds (left start)
-      → GivesFrom table IsCut Holds (record { position = at; records = old }) (record { position = q; records = records }) count
+      → IsSomeAnd (table.from at) (λ left. FillsFrom table IsCut left (record { position = at; records = old }) (record { position = q; records = records }) count × Holds left)
   items-gives {IsCut} Holds q fills holds =
       subst
       (λ (from : Option (List (Option A))). IsSomeAnd from (λ left. FillsFrom table IsCut left (record { position = at; records = old }) (record { position = q; records = records }) count × Holds left))
@@ -276,7 +273,8 @@ fills-by {P} {Q} {R} {A} {B} view value_of from own IsCut IsCutBy left right s t
     FillsFrom (record { view = view; value_of = value_of; from = own }) IsCutBy items (record { position = p; records = old }) (record { position = q; records = new }) count)
     is
     (record {
-      batch = fills.batch;
+      counted = fills.counted;
+      filled = fills.filled;
       later = there ∙ fills.later;
       whole = elim fills.whole [ inl why ↦ inl (cut why) | inr all ↦ inr all ];
       stays = λ none. stays (fills.stays none);

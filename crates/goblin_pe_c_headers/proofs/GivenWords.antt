@@ -36,7 +36,7 @@ pub given-few : {W : Type 0} (items : List W) (old new : List W) (n : ℕ) (batc
 unfolding values_before
 given-few {W} items old new n batch onward =
     let all = ap (λ (xs : List (Option W)). length (values_before xs)) (sym (append-nil (unrefused items))) ∙ ap (λ (xs : List W). length xs) (before-all items [] ∙ append-nil items) in
-    let counted = onward.0.batch.counted in
+    let counted = onward.0.counted in
     let front = length-take batch.count (values_before (unrefused items)) in
     omega (arith, all, counted, front, onward.1.1)
 

@@ -23,7 +23,7 @@ fault status cause first second = record {
   second = second;
 }
 
--- what a file is too short for, by its number
+-- the number of what a file is too short for
 abbrev pub word_number : List ℕ → ℕ
 word_number what =
     if bytes_eq what (codes "sections") then 1
@@ -116,7 +116,6 @@ cause_of fault =
     then None
     else slice_get (causes fault.first fault.second) (fault.cause - 2)
 
--- what a file is too short for, by its number
 abbrev pub word_of : ℕ → Option (List ℕ)
 word_of number =
     if number == 0 then Some (codes "entries")

@@ -142,7 +142,6 @@ holder m rva =
     option_or (find (λ s. is_among (window_size m s) rva s) m.sections)
     (find (λ s. is_among (memory_length m s) rva s) m.sections)
 
--- its index
 abbrev pub holder_index : MappedImage → ℕ → Option ℕ
 holder_index m rva =
     option_or (position (λ s. is_among (window_size m s) rva s) m.sections)

@@ -26,7 +26,6 @@ object_file strict =
     mapped (λ sections. record { header = h; sections = sections })
     (sections_at strict (symbols_end h) h.number_of_sections (20 + h.size_of_optional_header))
 
--- the record of an object with this header
 abbrev pub object_image : PeOptions → CoffHeader → PeImage → PeImage
 object_image o h image = record (zero_image o 2 image) {
   section_table = 20 + h.size_of_optional_header;

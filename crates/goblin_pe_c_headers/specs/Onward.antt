@@ -34,17 +34,10 @@ values_before [] = []
 values_before (Some x ∷ items) = x ∷ values_before items
 values_before (None ∷ items) = []
 
--- the very next is a refusal
 abbrev pub IsRefusedNext : {A : Type 0} → List (Option A) → Type 0
 IsRefusedNext [] = ⊥
 IsRefusedNext (Some x ∷ items) = ⊥
 IsRefusedNext (None ∷ items) = ⊤
-
--- The records hold what comes next, as far as there is room, and the others are the caller's own.
-pub record IsBatch {R A B : Type 0} (view : R → B) (value_of : A → B) (next : List A)
-    (old new : List R) (count : ℕ) : Type 0 where
-  pub counted : count ≡ min (length old) (length next)
-  pub filled : Filled view (map value_of (take count next)) old new
 
 -- The records hold these values so far.
 pub record AtBatch {R A B : Type 0} (view : R → B) (value_of : A → B) (old : List R)
@@ -55,25 +48,19 @@ pub record AtBatch {R A B : Type 0} (view : R → B) (value_of : A → B) (old :
   pub same : length records ≡ length old
   pub fits : count ≤ length old
 
--- Of these that are left the records hold those that come first, and from the new position on come
--- the others; without room the position stays. The batch was cut; or there is room for nothing more,
--- or all is given up to a refusal, and the very next is no refusal, if there is room for any.
+-- Of these that are left the records hold those that come first, as far as there is room, and the
+-- other records are the caller's own. From the new position on come the other items; without room
+-- the position stays. The batch was cut; or there is room for nothing more, or all is given up to a
+-- refusal, and the very next is no refusal, if there is room for any.
 pub record FillsFrom {P R A B : Type 0} (table : Table P R A B) (IsCut : Type 0)
     (left : List (Option A)) (old new : Batch P R) (count : ℕ) : Type 0 where
-  pub batch : IsBatch table.view table.value_of (take count (values_before left)) old.records
-      new.records count
+  pub counted : count ≡ min (length old.records) (length (take count (values_before left)))
+  pub filled : Filled table.view (map table.value_of (take count (values_before left)))
+      old.records new.records
   pub later : table.from new.position ≡ Some (drop count left)
   pub whole : IsCut ⊎ ((count ≡ min (length old.records) (length (values_before left)))
       × (IsRefusedNext left → length old.records ≡ 0))
   pub stays : length old.records ≡ 0 → new.position ≡ old.position
-
--- What every batch gives: what comes from the old position on, as above; and what holds of its
--- table besides, as how the position moves.
-abbrev pub GivesFrom : {P R A B : Type 0} → Table P R A B → Type 0
-    → (List (Option A) → Type 0) → Batch P R → Batch P R → ℕ → Type 0
-GivesFrom table IsCut Holds old new count =
-    IsSomeAnd (table.from old.position)
-    (λ left. FillsFrom table IsCut left old new count × Holds left)
 
 -- `is_done` is true only if nothing is left, and there is room. If it is false, there is no more
 -- room, or the batch was cut, or what comes next is a refusal.
@@ -83,13 +70,14 @@ pub record TellsEnd {A : Type 0} (IsCut : Type 0) (rest : List (Option A)) (room
   pub without_room : room ≡ 0 → is_done ≡ false
   pub goes_on : is_done ≡ false → (room ≤ count) ⊎ IsCut ⊎ IsRefusedNext rest
 
--- What every batch gives, and what it says.
+-- What every batch gives: what comes from the old position on, as above; what it says; and what
+-- holds of its table besides, as how the position moves.
 abbrev pub FillsNext : {P R A B : Type 0} → Table P R A B → Type 0
     → (List (Option A) → Type 0) → Batch P R → Batch P R → PeBatch → Type 0
 FillsNext table IsCut Holds old new batch =
-    GivesFrom table IsCut
-    (λ left. TellsEnd IsCut (drop batch.count left) (length old.records) batch.count batch.is_done
-    × Holds left) old new batch.count
+    IsSomeAnd (table.from old.position) (λ left. FillsFrom table IsCut left old new batch.count
+    × (TellsEnd IsCut (drop batch.count left) (length old.records) batch.count batch.is_done
+    × Holds left))
 
 -- What a refused call says: no record, and to stop.
 abbrev pub no_batch : PeBatch

@@ -27,6 +27,5 @@ image_places i = record {
 abbrev pub headers_there : ℕ → ℕ → Reading (List ℕ)
 headers_there count p = pick (count == 0) (given []) (slice_at p (40 * count))
 
--- the sections of the section headers at these places
 abbrev pub placed_sections : PePlaces → Reading (List Section)
 placed_sections p = sections_there p.number_of_sections p.section_table

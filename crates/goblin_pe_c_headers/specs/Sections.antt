@@ -83,7 +83,6 @@ row_of image i header =
       relocations = relocations_begin s;
     }
 
--- the rows of the section headers in these bytes
 abbrev pub section_rows : PeImage → List ℕ → List SectionRow
 section_rows image headers =
     map (λ i. row_of image i (slice_range headers (40 * i) (40 * i + 40)))

@@ -24,7 +24,6 @@ use Rattle.goblin_pe_c_headers.specs.Sections.{section_model}
 abbrev pub entry_from_c : DataDirectory → Option (ℕ × DataDirectory)
 entry_from_c d = Some (0, d)
 
--- the optional header, if there is one
 abbrev pub optional_from_c : PeImage → Option OptionalHeader
 optional_from_c image =
     if image.has_optional_header

@@ -55,7 +55,6 @@ pub(crate) fn mapped_by<'a>(
     })
 }
 
-// The file offset of an RVA.
 fn mapped_offset(mapped: &Mapped, rva: usize) -> Option<usize>
     ensures { result ≡ mapped_offset (mapped_model mapped.now) rva }
 {
@@ -78,14 +77,9 @@ fn first_address(mapped: &Mapped, offset: usize) -> Option<usize>
     if !mapped.mapping.resolve_rva {
         return Some(offset);
     }
-    let alignment = mapped.file_alignment;
-    let (_, section) = mapped.records.find(|section| rva_in(
-        offset,
-        section,
-        alignment,
-        mapped.mapping,
-    ).is_some())?;
-    rva_in(offset, &section, alignment, mapped.mapping)
+    let (records, alignment, mapping) = (mapped.records, mapped.file_alignment, mapped.mapping);
+    let (_, section) = records.find(|it| rva_in(offset, it, alignment, mapping).is_some())?;
+    rva_in(offset, &section, alignment, mapping)
 }
 
 /// The RVA of a file offset: that in the first section whose raw data holds the offset, or else in

@@ -104,7 +104,6 @@ fn kind_of(symbol: &Symbol, records: &[u8]) -> AuxiliaryKind
     kind_with(symbol)
 }
 
-// No auxiliary record.
 fn zero_auxiliary(bytes: &[u8]) -> PeAuxiliary<'_>
     ensures file { result.file.now ≡ [] }
     ensures zeros { result ≡ zero_auxiliary result }

@@ -18,7 +18,6 @@ use goblin_base::{Cause, Error, ReadFault, Result};
 use std::alloc::AllocError;
 use std::fmt::InlineText;
 
-// The item of a table at this index.
 fn item_at<T: Copy>(table: &[T], index: u32) -> Option<T>
     ensures { result ≡ slice_get table.now index }
 {
@@ -166,7 +165,6 @@ pub struct PeFault {
     pub second: u64,
 }
 
-// A fault of this status.
 fn fault(status: u32, cause: u32, first: u64, second: u64) -> PeFault
     ensures { result ≡ fault status cause first second }
 {
@@ -178,7 +176,6 @@ fn fault(status: u32, cause: u32, first: u64, second: u64) -> PeFault
     }
 }
 
-// A fault with this cause.
 fn malformed(cause: u32, first: usize, second: usize) -> PeFault
     ensures { result ≡ fault 1 cause first second }
 {
@@ -198,7 +195,6 @@ fn word_number(what: &str) -> u32
     counted as u32
 }
 
-// The number of a refusal of a read.
 fn read_number(refused: &ReadFault) -> u32
     ensures { fault_of (Read refused.now) ≡ fault 4 result 0 0 }
 {
@@ -257,7 +253,6 @@ pub fn out_of_steps() -> PeFault
     fault(Status::Steps as u32, 0, 0, 0)
 }
 
-// The numbers of a cause.
 fn cause_for_c(cause: &Cause) -> PeFault
     ensures value { result ≡ fault_of (Malformed cause.now) }
     ensures text { IsNumbered (Malformed cause.now)
@@ -375,7 +370,6 @@ fn causes(first: u64, second: u64) -> [Cause; 33]
     ]
 }
 
-// The cause with these numbers.
 fn cause_of(fault: &PeFault) -> Option<Cause>
     ensures { result ≡ cause_of fault.now }
 {
@@ -383,7 +377,6 @@ fn cause_of(fault: &PeFault) -> Option<Cause>
     item_at(&causes(fault.first, fault.second), index)
 }
 
-// What a file is too short for, by its number.
 fn word_of(number: u32) -> Option<&'static str>
     ensures { option_map (λ s. s.now) result ≡ word_of number }
 {
@@ -396,7 +389,6 @@ fn word_of(number: u32) -> Option<&'static str>
     }
 }
 
-// Why a read was refused, by its number.
 fn read_fault_of(number: u32) -> Option<ReadFault>
     ensures { result ≡ read_fault_of number }
 {
@@ -420,7 +412,6 @@ fn call_text(status: u32) -> Option<&'static str>
     }
 }
 
-// The refusal with these numbers.
 fn error_of(fault: &PeFault) -> Option<Error>
     ensures { option_map error_text result ≡ file_text fault.now }
 {

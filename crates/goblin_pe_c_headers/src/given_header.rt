@@ -20,7 +20,6 @@ fn entry_from_c(directory: DataDirectory) -> Option<(usize, DataDirectory)>
     Some((0, directory))
 }
 
-// The optional header, if there is one.
 fn optional_from_c(image: &PeImage) -> Option<OptionalHeader>
     ensures { result ≡ optional_from_c image.now }
 {

@@ -54,7 +54,6 @@ pub struct PeMemory<'a> {
     pub reserved: u32,
 }
 
-// The record of bytes and zeros that are known.
 fn known<'a>(
     found: (&'a [u8], usize),
     missing: usize,
@@ -74,7 +73,6 @@ fn known<'a>(
     }
 }
 
-// The record where all bytes are missing.
 fn unknown(bytes: &[u8], missing: usize, section_index: usize) -> PeMemory<'_>
     ensures { memory_model result ≡ unknown missing section_index }
 {
@@ -162,7 +160,6 @@ pub fn section_data<'a>(
     known(found, stored - found.0.len(), index, region)
 }
 
-// How many bytes the window of a section has.
 #[tactic(auto, using(goblin_pe_sect::proofs::Mapped::read_size_le))]
 fn window_size(mapped: &Mapped, section: &SectionTable) -> usize
     ensures value { result ≡ window_size (mapped_model mapped.now) section.now }
@@ -178,7 +175,6 @@ fn window_size(mapped: &Mapped, section: &SectionTable) -> usize
     }
 }
 
-// How many bytes the memory of a section has.
 fn memory_length(mapped: &Mapped, section: &SectionTable) -> usize
     ensures value { result ≡ memory_length (mapped_model mapped.now) section.now }
     ensures small { result < 2 ^ 33 }

@@ -41,7 +41,6 @@ fn all_records<'a>(bytes: &'a [u8], cursor: &PeCoffRelocationCursor) -> Result<&
     Ok(pread_slice(bytes, cursor.offset as usize, COFF_RELOCATION_SIZE * count)?)
 }
 
-// The relocation at an index, if there is one.
 #[tactic(auto, using(crate::proofs::GivenOnward::record_inside, crate::proofs::GivenOnward::record_outside))]
 fn relocation_at(table: &[u8], index: usize) -> Option<Relocation>
     ensures { result ≡ slice_get (relocations_in table.now) index }

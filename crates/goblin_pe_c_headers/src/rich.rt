@@ -48,7 +48,6 @@ fn entry_of(bytes: &[u8], key: u32) -> RichMetadata
     }
 }
 
-// The entry at an index, if there is one.
 #[tactic(auto, using(crate::proofs::GivenOnward::record_inside, crate::proofs::GivenOnward::record_outside))]
 fn entry_at(key: u32, stretch: &[u8], index: usize) -> Option<RichMetadata>
     ensures { result ≡ slice_get (records_in 8 (λ e. metadata_at key e 0) stretch.now) index }

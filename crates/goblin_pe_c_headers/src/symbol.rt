@@ -114,7 +114,6 @@ fn name_in<'a>(inline_name: Option<&'a str>, symbol: &Symbol, tables: Tables<'a>
     }
 }
 
-// The bytes of the auxiliary records of the symbol at an index.
 #[tactic(auto, using(crate::proofs::Symbols::all_left))]
 fn auxiliary_of<'a>(table: &'a [u8], index: usize, symbol: &Symbol) -> &'a [u8]
     requires { index < length table.now / 18 }
