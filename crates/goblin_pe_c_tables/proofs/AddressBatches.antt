@@ -15,7 +15,6 @@ use Rattle.goblin_pe.specs.added.Layouts.{address_part}
 use Rattle.goblin_pe.specs.Whole.{TablePlaces, part_map}
 use Rattle.goblin_pe.specs.declared.whole.Part.{Part}
 use Rattle.goblin_pe.specs.declared.whole.Part.TheVariants.{Absent, Refused}
-use Rattle.goblin_pe.specs.declared.whole.Part.TheVariants as part
 use Rattle.goblin_pe_c_headers.specs.Onward.{GivesOnward, row_table, unrefused, Batch}
 use Rattle.goblin_pe_c_headers.specs.declared.batch.PeBatch.{PeBatch}
 use Rattle.goblin_pe_c_headers.proofs.Batches.{none-given}
@@ -75,11 +74,6 @@ module _ (m : MapOfAddresses) (places : TablePlaces) (bytes : List ℕ) (found :
   given p is batch new gives =
       subst (λ (v : Option (Part ExportTables)). IsSomeAnd v (λ p. GivesOnward (part_or [] (addresses_for_c m.addressing) p) old new batch))
       (sym (read ∙ ap (λ (p : Part ExportTables). Some p) is)) gives
-
-  -- where the directory was read
-  pub addresses-given : (walk : Exports) → found ≡ part.Read walk → (batch : PeBatch) (new : Batch ℕ PeExportAddress)
-      → GivesOnward (addresses_for_c m.addressing (walked_tables walk)) old new batch → GivesAddresses m places bytes old new batch
-  addresses-given walk is batch new gives = given (part.Read (walked_tables walk)) (ap (part_map walked_tables) is) batch new gives
 
   -- where there are none
   pub addresses-none : (found ≡ Absent) ⊎ (found ≡ Refused) → GivesAddresses m places bytes old old (at_room (length old.records) 0 true)

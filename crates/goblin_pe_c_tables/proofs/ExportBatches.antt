@@ -18,10 +18,10 @@ use Rattle.goblin_pe.specs.declared.whole.Part.{Part}
 use Rattle.goblin_pe.specs.declared.whole.Part.TheVariants.{Absent, Refused}
 use Rattle.goblin_pe.specs.declared.whole.Part.TheVariants as part
 use Rattle.goblin_pe_c_tables.specs.declared.export.PeExport.{PeExport}
-use Rattle.goblin_pe_c_tables.specs.Batches.{GivesExports, LooksAtPointers, at_room, export_table, export_walk}
+use Rattle.goblin_pe_c_tables.specs.Batches.{GivesExports, LooksAtPointers, at_room, exports_in, exports_table}
 use Rattle.goblin_pe_c_tables.specs.Exports.{export_for_c, export_model}
 use Rattle.goblin_pe_c_headers.specs.Onward.{FillsFrom, IsRefusedNext, unrefused}
-use Rattle.goblin_pe_c_headers.proofs.Batches.{AtItems, fills-by, items-cut, items-end, items-more, items-start, done-at_room, none-given}
+use Rattle.goblin_pe_c_headers.proofs.Batches.{AtItems, fills-by, items-cut, items-end, items-more, done-at_room, none-given}
 
 -- nothing comes once no name pointer is left
 none-left : (s : Exports) → pointer_count s ≤ exports_position s → exports_left s ≡ []
@@ -41,18 +41,10 @@ to_come walk = unrefused (exports_left walk)
 
 -- the records hold what has come so far, and the walk goes on
 pub record AtExports (start : Exports) (old : List PeExport) (end : ℕ) (now : Exports) (records : List PeExport) (count : ℕ) : Type 0 where
-  pub at : AtItems export_walk to_come start start old now now records count
+  pub at : AtItems (exports_table exports_left) to_come start start old now now records count
   pub over : KeepsOver start now
   pub further : exports_position start ≤ exports_position now
   pub within : exports_position now ≤ max (exports_position start) end
-
-pub exports-start : (start : Exports) (old : List PeExport) (end : ℕ) → AtExports start old end start old 0
-exports-start start old end = record {
-  at = items-start export_walk to_come start start old refl;
-  over = ((refl, refl), refl);
-  further = omega arith;
-  within = omega arith;
-}
 
 over-next : (start now next : Exports) → KeepsOver start now → KeepsOver now next → KeepsOver start next
 over-next start now next h k = ((k.0.0 ∙ h.0.0, k.0.1 ∙ h.0.1), k.1 ∙ h.1)
@@ -73,7 +65,7 @@ module _ {start : Exports} {old : List PeExport} {end : ℕ} {now : Exports} {re
   -- what a batch has given that ends here
   abbrev pub AreGiven : Exports → Type 0
   AreGiven next =
-      FillsFrom export_walk ((end < pointer_count start) × (end ≤ exports_position next)) (to_come start)
+      FillsFrom (exports_table exports_left) ((end < pointer_count start) × (end ≤ exports_position next)) (to_come start)
       (record { position = start; records = old }) (record { position = next; records = records }) count
 
   -- nothing more comes before the end
@@ -122,7 +114,7 @@ module _ (m : MapOfAddresses) (places : TablePlaces) (bytes : List ℕ) (found :
     pub exports-given : (steps : ℕ) (now next : Exports) (end count left : ℕ) (is_done : Bool) (new : List PeExport)
         → exports_left now ≡ exports_at walk x → KeepsOver walk now → exports_position now ≡ x
         → end ≤ x + steps → end ≤ pointer_count now → (end ≡ pointer_count now) ⊎ (end ≡ x + steps)
-        → FillsFrom export_walk ((end < pointer_count now) × (end ≤ exports_position next)) (to_come now)
+        → FillsFrom (exports_table exports_left) ((end < pointer_count now) × (end ≤ exports_position next)) (to_come now)
         (record { position = now; records = old }) (record { position = next; records = new }) count
         → KeepsOver now next → exports_position now ≤ exports_position next → exports_position next ≤ max (exports_position now) end
         → (length old ≤ count) ⊎ (min end (pointer_count now) ≤ exports_position next)
@@ -141,7 +133,7 @@ module _ (m : MapOfAddresses) (places : TablePlaces) (bytes : List ℕ) (found :
           | inl all ↦ absurd (omega (arith, cut.0, all))
           | inr run ↦ omega (arith, run, cut.1, is)
         ] in
-        let given = fills-by export_model export_for_c (export_walk).from (export_table m bytes (part.Read (walked_exports walk))).from
+        let given = fills-by export_model export_for_c (exports_table exports_left).from (exports_table (exports_in m bytes (part.Read (walked_exports walk)))).from
         ((end < pointer_count now) × (end ≤ exports_position next)) (left ≡ 0)
         (to_come now) (unrefused (numbered_from m.addressing bytes (walked_tables walk) x)) now next x (exports_position next) old new count fills
         (ap unrefused left_is) (ap (λ (items : List NumberedExport). Some (unrefused items)) rest) out (λ same. ap exports_position same ∙ at) in
@@ -172,6 +164,6 @@ module _ (m : MapOfAddresses) (places : TablePlaces) (bytes : List ℕ) (found :
   exports-none steps none =
       let looks : LooksAtPointers steps steps 0 x x = record { further = omega arith; within = omega arith; looked = refl } in
       elim none [
-        | inl is ↦ rw (read ∙ ap (λ (p : Part Exports). Some (part_map walked_exports p)) is) (none-given (export_table m bytes Absent) (steps ≡ 0) (λ left. LooksAtPointers steps steps 0 x x) x old refl looks)
-        | inr is ↦ rw (read ∙ ap (λ (p : Part Exports). Some (part_map walked_exports p)) is) (none-given (export_table m bytes Refused) (steps ≡ 0) (λ left. LooksAtPointers steps steps 0 x x) x old refl looks)
+        | inl is ↦ rw (read ∙ ap (λ (p : Part Exports). Some (part_map walked_exports p)) is) (none-given (exports_table (exports_in m bytes Absent)) (steps ≡ 0) (λ left. LooksAtPointers steps steps 0 x x) x old refl looks)
+        | inr is ↦ rw (read ∙ ap (λ (p : Part Exports). Some (part_map walked_exports p)) is) (none-given (exports_table (exports_in m bytes Refused)) (steps ≡ 0) (λ left. LooksAtPointers steps steps 0 x x) x old refl looks)
       ]

@@ -1,30 +1,29 @@
 -- A loop that fills records with the imports of a file from a position on.
-use Rattle.std.proofs.Common.{◌≡◌, ◌≢◌, append-nil, ℕ, ◌+◌, ◌<◌, ◌≤◌, List, [], ◌∷◌, ◌++◌, length, drop, set, ap, subst, sym, refl, arith, ◌∙◌, inl, inr, is_none, is_some, Bool, true, false, ◌&&◌, Option, None, Some, Ok, Err, option_map, unwrap_or}
+use Rattle.std.proofs.Common.{◌≡◌, ◌≢◌, append-nil, ℕ, ◌+◌, ◌<◌, ◌≤◌, List, [], ◌∷◌, ◌++◌, length, drop, set, ap, subst, sym, refl, arith, ◌∙◌, inl, inr, is_none, is_some, Bool, true, false, ◌&&◌, Option, None, Some, Ok, Err, unwrap_or}
 use Rattle.std.specs.Bool.{then_some}
 use Rattle.std.proofs.lemmas.Bool.{and_parts}
 use Rattle.std.proofs.lemmas.List.{append_assoc, length-append}
 use Rattle.goblin_base.specs.declared.error.ErrorOf.{ErrorOf}
 use Rattle.goblin_pe_import.specs.declared.added.imports.ImportCursor.{ImportCursor}
 use Rattle.goblin_pe_import.specs.declared.added.imports.WalkedImport.{WalkedImport}
-use Rattle.goblin_pe_sect.specs.Addresses.{MapOfAddresses}
-use Rattle.goblin_pe_import.specs.Imports.{NumberedImport}
-use Rattle.goblin_pe_import.specs.KeptEntries.{entries_from}
-use Rattle.goblin_pe_import.specs.added.ImportWalks.{imports_next, walked_value}
-use Rattle.goblin_pe.specs.added.LayoutCursors.{GivesFileWithin, IsImportWalk, IsImportWalkAt, file_ahead, file_bytes, file_cursor, file_cursor_ahead, file_cursor_left}
-use Rattle.goblin_pe_import.specs.TableSums.{amount_of}
-use Rattle.goblin_pe_import.specs.Steps.{AreCounted}
-use Rattle.goblin_pe_import.specs.added.StepsAhead.{AtSteps, HaveRunOut}
+use Rattle.goblin_pe.specs.Addresses.{MapOfAddresses}
+use Rattle.goblin_pe.specs.Imports.{NumberedImport}
+use Rattle.goblin_pe.specs.KeptEntries.{entries_from}
+use Rattle.goblin_pe.specs.added.ImportWalks.{imports_next, walked_value}
+use Rattle.goblin_pe.specs.added.LayoutCursors.{GivesFileWithin, IsImportWalk, file_ahead, file_bytes, file_cursor, file_cursor_ahead, file_cursor_left}
+use Rattle.goblin_pe.specs.Steps.{AreCounted}
+use Rattle.goblin_pe.specs.added.StepsAhead.{AtSteps, HaveRunOut}
 use Rattle.goblin_pe.proofs.added.ImportStarts.{walk-ahead, walk-left}
-use Rattle.goblin_pe.specs.added.Layouts.{IsFileImportsCause, file_imports_left}
+use Rattle.goblin_pe.specs.added.Layouts.{file_imports_left}
 use Rattle.goblin_pe.specs.Whole.{TablePlaces}
 use Rattle.goblin_pe.specs.declared.added.file_imports.FileImports.{FileImports}
 use Rattle.goblin_pe.specs.declared.added.file_imports.FileImports.TheVariants.{Narrow, Wide}
 use Rattle.goblin_pe_c_tables.specs.declared.import.PeImport.{PeImport}
 use Rattle.goblin_pe_c_tables.specs.declared.next.PeImportCursor.{PeImportCursor}
-use Rattle.goblin_pe_c_tables.specs.Batches.{Fills, GivesImports, GivesInFile, GoesOn, cursor_for_c, cursor_from_c, import_cursor, import_table, is_over, position_ahead, batch_at}
+use Rattle.goblin_pe_c_tables.specs.Batches.{Fills, GivesImports, GivesInFile, GoesOn, cursor_for_c, cursor_from_c, import_table, is_over, position_ahead}
 use Rattle.goblin_pe_c_tables.specs.Imports.{import_for_c, import_model}
-use Rattle.goblin_pe_c_headers.specs.Onward.{AtBatch, IsRefusedNext, TellsEnd, unrefused}
-use Rattle.goblin_pe_c_headers.proofs.Batches.{AtItems, batch-more, items-cut, items-end, items-fault, items-full, items-gives, items-refused, items-start, items-then, done-cut, done-end, done-full, done-refused}
+use Rattle.goblin_pe_c_headers.specs.Onward.{AtBatch, TellsEnd, unrefused}
+use Rattle.goblin_pe_c_headers.proofs.Batches.{AtItems, batch-more, items-cut, items-end, items-full, items-gives, items-refused, items-then, done-cut, done-end, done-full, done-refused}
 
 -- ---- the numbers of a cursor
 
@@ -67,16 +66,6 @@ module _ (m : MapOfAddresses) (places : TablePlaces) (bytes : List ℕ) where
   over-left : (c : ImportCursor) → is_over c ≡ true → file_cursor_left m places.magic bytes c ≡ []
   unfolding entries_from imports_next
   over-left c over = let none = over-is c over in rw (none.0, none.1, none.2) refl
-
-  -- where a batch begins
-  pub goes-start : (p : PeImportCursor) (c : ImportCursor) (imports : FileImports) → (import_cursor m places p).value bytes ≡ Some c
-      → IsImportWalkAt m places.magic bytes c imports → file_imports_left imports ≡ file_cursor_left m places.magic bytes c
-      → GoesOn m places bytes p imports
-  goes-start p c imports at walk left = record {
-    walk = walk.0;
-    ahead = ap (amount_of (file_cursor_ahead m places.magic bytes)) at ∙ sym (walk-ahead m places.magic bytes c imports walk);
-    left = ap (option_map (file_cursor_left m places.magic bytes)) at ∙ ap (λ (items : List (Option NumberedImport)). Some items) (sym left);
-  }
 
 -- ---- the imports of a library
 
@@ -162,14 +151,6 @@ pub record AtImports (m : MapOfAddresses) (places : TablePlaces) (bytes : List �
   pub goes : GoesOn m places bytes p now
   pub counted : position_ahead m places bytes from + left ≡ file_ahead now + steps
 
-pub imports-start : (m : MapOfAddresses) (places : TablePlaces) (bytes : List ℕ) (steps : ℕ) (start : FileImports) (from : PeImportCursor) (old : List PeImport)
-    → GoesOn m places bytes from start → AtImports m places bytes steps start from old start from steps old 0
-imports-start m places bytes steps start from old goes = record {
-  at = items-start (import_table m places bytes) file_imports_left start from old goes.left;
-  goes = goes;
-  counted = ap (λ (n : ℕ). n + steps) goes.ahead;
-}
-
 module _ {m : MapOfAddresses} {places : TablePlaces} {bytes : List ℕ} {steps : ℕ} {start : FileImports} {from : PeImportCursor} {old : List PeImport}
     {now : FileImports} {p : PeImportCursor} {left : ℕ} {records : List PeImport} {count : ℕ}
     (h : AtImports m places bytes steps start from old now p left records count) where
@@ -248,11 +229,3 @@ module _ {m : MapOfAddresses} {places : TablePlaces} {bytes : List ℕ} {steps :
     -- a refusal comes after something
     pub imports-refused : count ≢ 0 → AreGiven p left false
     imports-refused some = items-gives h.at (Says p left false) p (items-refused h.at given.steps.0 some) (done-refused h.at given.steps.0, kept)
-
-    -- or at once
-    pub imports-fault : count ≡ 0 → count < length records
-        → IsRefusedNext (file_imports_left start) × IsFileImportsCause start e × (0 < length old)
-        × (batch_at p records ≡ batch_at from old)
-    imports-fault none within =
-        let fault = items-fault h.at given.steps.0 none within in
-        (fault.0, subst (λ (w : FileImports). IsFileImportsCause w e) fault.2 given.steps.2, fault.1, rw (fault.3, fault.4) refl)

@@ -1,21 +1,21 @@
 -- A loop that fills records with the libraries of a file from a position on.
-use Rattle.std.proofs.Common.{◌≡◌, ◌≢◌, if◌then◌else◌, ℕ, ◌+◌, List, [], ◌∷◌, ◌++◌, ap, arith, sym, subst, refl, ◌∙◌, ◌<◌, ◌≤◌, length, drop, take, set, Bool, true, false, Option, None, Some, Ok, Err, option_map}
+use Rattle.std.proofs.Common.{◌≡◌, ◌≢◌, if◌then◌else◌, ℕ, ◌+◌, List, [], ◌∷◌, ◌++◌, ap, arith, sym, refl, ◌∙◌, ◌<◌, ◌≤◌, length, drop, take, set, Bool, true, false, Option, None, Some, Ok, Err}
 use Rattle.goblin_pe_import.specs.declared.added.imports.ImportCursor.{ImportCursor}
 use Rattle.goblin_pe_import.specs.declared.added.library_walk.Libraries.{Libraries}
 use Rattle.goblin_pe_import.specs.ImportEntries.{EntryValue}
 use Rattle.goblin_base.specs.Tables.{Format}
 use Rattle.goblin_base.specs.declared.error.ErrorOf.{ErrorOf}
-use Rattle.goblin_pe_sect.specs.Addresses.{MapOfAddresses}
-use Rattle.goblin_pe_import.specs.added.ImportWalks.{no_imports}
-use Rattle.goblin_pe_import.specs.added.Libraries.{AreLibrariesOver, GivesNextLibrary, IsCursorEndCause, IsLibrariesCause, LibraryValue, after_library, cursor_libraries, libraries_bytes, libraries_cursor, libraries_format, libraries_left, libraries_map, libraries_next, library_value}
+use Rattle.goblin_pe.specs.Addresses.{MapOfAddresses}
+use Rattle.goblin_pe.specs.added.ImportWalks.{no_imports}
+use Rattle.goblin_pe.specs.added.Libraries.{AreLibrariesOver, GivesNextLibrary, LibraryValue, after_library, cursor_libraries, libraries_bytes, libraries_cursor, libraries_format, libraries_left, libraries_map, libraries_next, library_value}
 use Rattle.goblin_pe.specs.Whole.{TablePlaces, entry_format}
 use Rattle.goblin_pe_c_tables.specs.declared.next.PeImportCursor.{PeImportCursor}
-use Rattle.goblin_pe_c_tables.specs.Batches.{cursor_for_c, import_cursor, batch_at}
+use Rattle.goblin_pe_c_tables.specs.Batches.{cursor_for_c}
 use Rattle.goblin_pe_c_tables.specs.Libraries.{GivesLibraries, library_for_c, library_table, library_model, position_after}
-use Rattle.goblin_pe_c_headers.specs.Onward.{IsRefusedNext, TellsEnd, values_before}
+use Rattle.goblin_pe_c_headers.specs.Onward.{TellsEnd, values_before}
 use Rattle.goblin_pe_import.specs.declared.added.library_walk.WalkedLibrary.{WalkedLibrary}
 use Rattle.goblin_pe_c_tables.specs.declared.library.PeLibrary.{PeLibrary}
-use Rattle.goblin_pe_c_headers.proofs.Batches.{AtItems, items-end, items-fault, items-full, items-gives, items-more, items-refused, items-start, items-taken, items-then, done-end, done-full, done-refused}
+use Rattle.goblin_pe_c_headers.proofs.Batches.{AtItems, items-end, items-full, items-gives, items-more, items-refused, items-start, items-taken, items-then, done-end, done-full, done-refused}
 use Rattle.goblin_pe_c_tables.proofs.ImportBatches.{cursor-from_for}
 
 module _ (m : MapOfAddresses) (places : TablePlaces) (bytes : List ℕ) where
@@ -48,13 +48,6 @@ module _ (m : MapOfAddresses) (places : TablePlaces) (bytes : List ℕ) where
   pub none-at_end : (p : PeImportCursor) → p ≡ cursor_for_c no_imports → (library_table m places bytes).from p ≡ Some []
   unfolding libraries_next
   none-at_end p numbers = at-numbers p no_imports numbers
-
-  -- where a batch begins
-  pub begins-at : (p : PeImportCursor) (c : ImportCursor) (it : Libraries) → (import_cursor m places p).value bytes ≡ Some c
-      → AreLibrariesOver m (entry_format places.magic) bytes it → libraries_cursor it ≡ c
-      → (library_table m places bytes).from p ≡ Some (libraries_left it)
-  begins-at p c it is over at =
-      ap (option_map comes) is ∙ ap (λ (items : List (Option LibraryValue)). Some items) (sym (left-at it c over at))
 
 -- ---- the loop
 
@@ -130,18 +123,3 @@ module _ {m : MapOfAddresses} {places : TablePlaces} {bytes : List ℕ} {start :
     pub libraries-refused : count ≢ 0 → Given p false
     libraries-refused some =
         items-gives h.at (Says p false) p (items-refused h.at given.0.0 some) (done-refused h.at given.0.0, moves)
-
-    pub libraries-fault : count ≡ 0 → count < length records
-        → IsRefusedNext (libraries_left start) × IsLibrariesCause start e × (0 < length old)
-        × (batch_at p records ≡ batch_at from old)
-    libraries-fault none within =
-        let fault = items-fault h.at given.0.0 none within in
-        (fault.0, subst (λ (w : Libraries). IsLibrariesCause w e) fault.2 given.0.2, fault.1, rw (fault.3, fault.4) refl)
-
--- a cause of the walk is one of what comes at its cursor
-pub end-cause : (m : MapOfAddresses) (format : Format EntryValue) (bytes : List ℕ) (start : Libraries) (c : ImportCursor) → AreLibrariesOver m format bytes start
-    → libraries_cursor start ≡ c → (e : ErrorOf) → IsLibrariesCause start e → IsCursorEndCause m bytes c e
-end-cause m format bytes start c over there e fault =
-    subst (λ (k : MapOfAddresses). IsCursorEndCause k bytes c e) over.map_is
-    (subst (λ (b : List ℕ). IsCursorEndCause (libraries_map start) b c e) over.bytes_are
-    (subst (λ (c : ImportCursor). IsCursorEndCause (libraries_map start) (libraries_bytes start) c e) there fault))

@@ -27,7 +27,7 @@ use Rattle.goblin_pe_c_headers.specs.declared.image.PeImage.{PeImage}
 use Rattle.goblin_pe_c_headers.specs.declared.places.PePlaces.{PePlaces}
 use Rattle.goblin_pe_c_headers.specs.Headers.{optional_record}
 use Rattle.goblin_pe_c_headers.specs.Places.{number_if}
-use Rattle.goblin_pe_c_tables.specs.Places.{LeadsBack, places_for_c}
+use Rattle.goblin_pe_c_tables.specs.Places.{LeadsBack}
 use Rattle.goblin_pe_c_tables.specs.ReadImages.{ImageLeadsBack}
 use Rattle.goblin_pe_c_headers.specs.ImageRecords.{zero_coff_header}
 use Rattle.goblin_pe_c_tables.specs.PartialImages.{AreOfLayout, given_count, given_or, given_sections, sections_of}
@@ -112,7 +112,7 @@ numbers_of table count o = record {
   magic = number_if (is_some o) (optional_record o).standard_fields.magic;
 }
 
-numbered : (table count : ℕ) (o : Option OptionalHeader) → numbers_of table count o ≡ places_for_c table (size_of_headers o) count (places_in o)
+numbered : (table count : ℕ) (o : Option OptionalHeader) → numbers_of table count o ≡ record { section_table = table; directories = (places_in o).directories; file_alignment = (places_in o).file_alignment; size_of_headers = size_of_headers o; number_of_sections = count; magic = (places_in o).magic }
 unfolding places_in
 numbered table count None = refl
 numbered table count (Some h) = refl

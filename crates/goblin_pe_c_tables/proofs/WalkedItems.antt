@@ -44,7 +44,7 @@ use Rattle.goblin_pe_c_tables.specs.Batches.{exports_in, import_table}
 use Rattle.goblin_pe_c_tables.specs.Places.{file_map_of, map_at, places_record, places_from_c}
 use Rattle.goblin_pe_c_headers.specs.Places.{placed_sections}
 use Rattle.goblin_pe_c_headers.proofs.Named.{some-weaker}
-use Rattle.goblin_pe_c_tables.specs.Walked.{AreItems, AreWalked, WalksGive, items_in, walked_of, walked_tables}
+use Rattle.goblin_pe_c_tables.specs.Walked.{AreItems, AreWalked, WalksGive, items_in, walked_of}
 use Rattle.goblin_pe_c_tables.specs.declared.next.PeImportCursor.{PeImportCursor}
 use Rattle.goblin_pe_c_tables.proofs.Placed.{leads_back}
 
@@ -133,7 +133,7 @@ module _ (m : MapOfAddresses) (magic : ℕ) (bytes : List ℕ) (octets : IsBytes
 module _ (m : MapOfAddresses) (bytes : List ℕ) where
   abbrev AreExports : Option DataDirectory → Part (ExportTables × List NumberedExport) → Type 0
   AreExports directory p =
-      (exports_in m bytes 0 p ≡ items_in (part_map (λ read. read.1) p))
+      (exports_in m bytes p 0 ≡ items_in (part_map (λ read. read.1) p))
       × IfRead (λ read. (part_at (reads_strictly m) (export_addresses m.addressing) directory).value bytes ≡ Some (part.Read (without_names read.0))) p
 
   of-tables : (d : DataDirectory) (tables : ExportTables) → (export_data m.addressing d).value bytes ≡ Some tables → (read : ExportTables × List NumberedExport)
@@ -189,7 +189,7 @@ module _ (m : MapOfAddresses) (places : TablePlaces) (bytes : List ℕ) (octets 
       rw first (some-left _ (cursor_left m (entry_format places.magic) bytes) _ begin)
 
   exports-given : (export_part m.opts m.addressing places).value bytes ≡ Some t.exports
-      → (exports_in m bytes 0 t.exports ≡ items_in (part_map (λ read. read.1) t.exports))
+      → (exports_in m bytes t.exports 0 ≡ items_in (part_map (λ read. read.1) t.exports))
       × IfRead (λ read. (address_part m.opts m.addressing places).value bytes ≡ Some (part.Read (without_names read.0))) t.exports
   unfolding export_part address_part
   exports-given e = are-exports m bytes (directory_at places 0) t.exports e
@@ -232,9 +232,9 @@ module _ (o : PeOptions) (bytes : List ℕ) (octets : IsBytes bytes) (short : le
   unfolding alignment_in
   alignment-is = rw header (alignment-same h.optional_header)
 
-  are-items : AreItems (walked_tables h t) (with_longest (longest_of o) (file_map_of o h s)) places bytes
+  are-items : AreItems ((walked_of h s t).tables) (with_longest (longest_of o) (file_map_of o h s)) places bytes
   are-items =
-      subst (λ (longest : Option ℕ). AreItems (walked_tables h t) (with_longest longest (file_map_of o h s)) places bytes) (sym whole)
+      subst (λ (longest : Option ℕ). AreItems ((walked_of h s t).tables) (with_longest longest (file_map_of o h s)) places bytes) (sym whole)
       (items-given (with_longest None (file_map_of o h s)) places bytes octets short t (subst TablesBy alignment-is tables))
 
   are-walked : AreWalked o bytes (walked_of h s t)
@@ -244,8 +244,8 @@ module _ (o : PeOptions) (bytes : List ℕ) (octets : IsBytes bytes) (short : le
     items =
         some-weaker ((placed_sections (places_record h)).value bytes)
         (λ found. map_at o (places_record h) found ≡ with_longest (longest_of o) (file_map_of o h s))
-        (λ found. AreItems (walked_tables h t) (map_at o (places_record h) found) (places_from_c (places_record h)) bytes)
-        (λ found is. subst (λ (m : MapOfAddresses). AreItems (walked_tables h t) m places bytes) (sym is) are-items)
+        (λ found. AreItems ((walked_of h s t).tables) (map_at o (places_record h) found) (places_from_c (places_record h)) bytes)
+        (λ found is. subst (λ (m : MapOfAddresses). AreItems ((walked_of h s t).tables) m places bytes) (sym is) are-items)
         ((leads_back h).sections (is_strict (header_options o).parse_mode) bytes s sections o);
   }
 

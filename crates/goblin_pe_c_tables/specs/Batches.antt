@@ -9,17 +9,16 @@ use Rattle.goblin_base.specs.Reading.{IsRefused, Reading}
 use Rattle.goblin_pe_sect.specs.BaseRelocations.{Block, block_at, block_items}
 use Rattle.goblin_pe_import.specs.ImportLookup.{entries_32, entries_64}
 use Rattle.goblin_pe_import.specs.declared.added.imports.ImportCursor.{ImportCursor}
-use Rattle.goblin_pe_sect.specs.Addresses.{MapOfAddresses}
-use Rattle.goblin_pe_export.specs.ExportRecords.{ExportTables}
-use Rattle.goblin_pe_export.specs.added.ExportWalks.{NumberedExport, exports_left, numbered_from}
-use Rattle.goblin_pe_export.specs.declared.added.exports.Exports.{Exports}
-use Rattle.goblin_pe_import.specs.Imports.{NumberedImport}
+use Rattle.goblin_pe.specs.Addresses.{MapOfAddresses}
+use Rattle.goblin_pe.specs.ExportRecords.{ExportTables}
+use Rattle.goblin_pe.specs.added.ExportWalks.{NumberedExport, numbered_from}
+use Rattle.goblin_pe.specs.Imports.{NumberedImport}
 use Rattle.goblin_pe.specs.added.LayoutCursors.{IsFileCursorCause, IsImportWalk, file_cursor_left}
 use Rattle.goblin_pe.specs.added.LayoutCursors.{file_ahead, file_cursor_ahead, import_begin}
-use Rattle.goblin_pe_import.specs.TableSums.{amount_of}
-use Rattle.readings.specs.Reads.{given, pick}
+use Rattle.goblin_pe.specs.TableSums.{amount_of}
+use Rattle.goblin_pe.specs.Reads.{given, pick}
 use Rattle.goblin_pe.specs.added.Layouts.{address_part, file_imports_left}
-use Rattle.goblin_pe_import.specs.added.StepsAhead.{AtSteps}
+use Rattle.goblin_pe.specs.added.StepsAhead.{AtSteps}
 use Rattle.goblin_pe.specs.Whole.{TablePlaces, directory_offset, export_part, relocation_part}
 use Rattle.goblin_pe_sect.specs.Addresses.{Addressing}
 use Rattle.goblin_pe.specs.declared.whole.Part.{Part}
@@ -163,22 +162,19 @@ pub record GoesOn (m : MapOfAddresses) (places : TablePlaces) (bytes : List ℕ)
 -- ---- exports
 
 -- the exports of tables from a name pointer on
-abbrev pub exports_in : MapOfAddresses → List ℕ → ℕ → Part (ExportTables × List NumberedExport)
+abbrev pub exports_in : MapOfAddresses → List ℕ → Part (ExportTables × List NumberedExport) → ℕ
     → List NumberedExport
-exports_in m bytes x p = part_or [] (λ read. numbered_from m.addressing bytes read.0 x) p
+exports_in m bytes p x = part_or [] (λ read. numbered_from m.addressing bytes read.0 x) p
 
 -- how many name pointers tables have
 abbrev pub pointers_in : Part (ExportTables × List NumberedExport) → ℕ
 pointers_in p = part_or 0 (λ read. length read.0.export_name_pointer_table) p
 
--- the exports of tables
-abbrev pub export_table : MapOfAddresses → List ℕ → Part (ExportTables × List NumberedExport)
-    → Table ℕ PeExport NumberedExport ExportModel
-export_table m bytes p = record {
-  view = export_model;
-  value_of = export_for_c;
-  from = λ x. Some (unrefused (exports_in m bytes x p));
-}
+-- exports, of which these are left from a position on
+abbrev pub exports_table : {P : Type 0} → (P → List NumberedExport)
+    → Table P PeExport NumberedExport ExportModel
+exports_table left =
+    record { view = export_model; value_of = export_for_c; from = λ p. Some (unrefused (left p)) }
 
 -- A step looks at one of the name pointers from the old position up to the new one.
 pub record LooksAtPointers (steps left pointers old new : ℕ) : Type 0 where
@@ -189,16 +185,8 @@ pub record LooksAtPointers (steps left pointers old new : ℕ) : Type 0 where
 abbrev pub GivesExports : ℕ → ℕ → SaysBatch ℕ PeExport
 GivesExports before after m places bytes old new batch =
     IsSomeAnd ((export_part m.opts m.addressing places).value bytes) (λ p.
-    FillsNext (export_table m bytes p) (after ≡ 0)
+    FillsNext (exports_table (exports_in m bytes p)) (after ≡ 0)
     (λ left. LooksAtPointers before after (pointers_in p) old.position new.position) old new batch)
-
--- the exports that a walk gives; the walk is the position
-abbrev pub export_walk : Table Exports PeExport NumberedExport ExportModel
-export_walk = record {
-  view = export_model;
-  value_of = export_for_c;
-  from = λ walk. Some (unrefused (exports_left walk));
-}
 
 -- a batch of exports is refused, wherever it begins, if the export directory is
 abbrev pub IsExportBatchFault : {R : Type 0} → SaysRefused ℕ R
@@ -216,10 +204,6 @@ SaysDirectory m places bytes directory =
 -- it is refused, for another reason than the number of its name pointers
 abbrev pub IsAddressesFault : MapOfAddresses → TablePlaces → List ℕ → ErrorOf → Type 0
 IsAddressesFault m places bytes e = IsRefused (address_part m.opts m.addressing places) bytes e
-
--- why a batch of entries is refused, wherever it begins
-abbrev pub IsAddressBatchFault : {R : Type 0} → SaysRefused ℕ R
-IsAddressBatchFault m places bytes old e = IsAddressesFault m places bytes e
 
 -- ---- entries of the export address table
 

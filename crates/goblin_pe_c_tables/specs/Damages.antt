@@ -33,12 +33,6 @@ abbrev pub part_fault : Option ErrorOf → PeFault
 part_fault None = no_fault
 part_fault (Some e) = fault_of e
 
--- the first fault of all parts
-abbrev pub first_fault : Damage → PeFault
-first_fault d =
-    or_fault (part_fault d.dos_stub) (or_fault (part_fault d.section_names)
-    (or_fault (part_fault d.imports) (or_fault (part_fault d.exports) (part_fault d.relocations))))
-
 -- whether nothing is damaged, and no library is left out
 abbrev pub is_sound : Damage → Bool
 is_sound d =
@@ -50,7 +44,9 @@ is_sound d =
 -- the record of a damage
 abbrev pub damage_record : Damage → PeDamage
 damage_record d = record {
-  first_fault = first_fault d;
+  first_fault = or_fault (part_fault d.dos_stub) (or_fault (part_fault d.section_names)
+      (or_fault (part_fault d.imports)
+      (or_fault (part_fault d.exports) (part_fault d.relocations))));
   dos_stub = part_fault d.dos_stub;
   section_names = part_fault d.section_names;
   imports = part_fault d.imports;

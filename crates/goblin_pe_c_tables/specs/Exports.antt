@@ -55,10 +55,6 @@ export_with x forwarder = record {
 abbrev pub export_for_c : NumberedExport → ExportModel
 export_for_c x = export_with x (forwarder_for_c x.row.reexport)
 
--- the same as if it were no forwarder
-abbrev pub export_without_forwarder : NumberedExport → ExportModel
-export_without_forwarder x = export_with x (forwarder_for_c None)
-
 -- what the records hold
 abbrev pub forwarder_model : PeForwarder → ForwarderModel
 forwarder_model f = record {

@@ -1,8 +1,8 @@
 -- The record of an image as far as its header goes.
-use Rattle.std.specs.Prelude.{◌≡◌, ◌&&◌, ℕ, Bool, false, true, if◌then◌else◌, List, [], length, map}
+use Rattle.std.specs.Prelude.{◌≡◌, ◌&&◌, ℕ, Bool, if◌then◌else◌, List, [], length, map}
 use Rattle.std.specs.Prelude.{min, option_map, Option, Some, None, Result, Ok, Err, IsSome}
 use Rattle.std.specs.Prelude.{MatchResult, is_err, is_ok}
-use Rattle.std.specs.Option.{unwrap_or}
+use Rattle.std.specs.Option.{is_some, unwrap_or}
 use Rattle.goblin_base.specs.declared.error.ErrorOf.{ErrorOf}
 use Rattle.goblin_base.specs.Reading.{IsRefused, Reading, Reads}
 use Rattle.readings.specs.Reads.{◌>>=◌}
@@ -54,15 +54,10 @@ given_count parts =
     min (given_or zero_coff_header parts.coff_header).number_of_sections
     (length (given_sections parts))
 
--- a part is given, and there
-abbrev pub is_given : {A : Type 0} → Result (Option A) ErrorOf → Bool
-is_given (Ok (Some part)) = true
-is_given (Ok None) = false
-is_given (Err e) = false
-
 -- all fields of the optional header before its directories are given
 abbrev pub has_fields : HeaderParts → Bool
-has_fields parts = is_given parts.standard_fields && is_given parts.windows_fields
+has_fields parts =
+    is_some (given_or None parts.standard_fields) && is_some (given_or None parts.windows_fields)
 
 -- the DOS stub of a file
 abbrev pub file_stub : Reading (List ℕ)

@@ -13,22 +13,17 @@ use Rattle.goblin_pe_c_headers.specs.Places.{placed_sections}
 
 -- ---- the record of a header
 
--- where the tables lie, as numbers, with the offset of the section table, the size of the headers
--- and the number of the table's records
-abbrev pub places_for_c : ℕ → ℕ → ℕ → TablePlaces → PePlaces
-places_for_c section_table headers number_of_sections t = record {
-  section_table = section_table;
-  directories = t.directories;
-  file_alignment = t.file_alignment;
-  size_of_headers = headers;
-  number_of_sections = number_of_sections;
-  magic = t.magic;
-}
-
 abbrev pub places_record : PeHeader → PePlaces
 places_record h =
-    places_for_c (section_table_offset h) (size_of_headers h.optional_header)
-    h.coff_header.number_of_sections (places_in h.optional_header)
+    let tables = places_in h.optional_header in
+    record {
+      section_table = section_table_offset h;
+      directories = tables.directories;
+      file_alignment = tables.file_alignment;
+      size_of_headers = size_of_headers h.optional_header;
+      number_of_sections = h.coff_header.number_of_sections;
+      magic = tables.magic;
+    }
 
 -- ---- what a record says
 

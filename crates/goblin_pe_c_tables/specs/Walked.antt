@@ -51,13 +51,12 @@ pub record WalkedFile : Type 0 where
   pub sections : List Section
   pub tables : WalkedTables
 
-abbrev pub walked_tables : PeHeader → NumberedTables → WalkedTables
-walked_tables h tables =
-    collected_tables (imports_in (places_in h.optional_header).magic) (λ e. e) tables
-
 abbrev pub walked_of : PeHeader → List Section → NumberedTables → WalkedFile
-walked_of h sections tables =
-    record { header = h; sections = sections; tables = walked_tables h tables }
+walked_of h sections tables = record {
+  header = h;
+  sections = sections;
+  tables = collected_tables (imports_in (places_in h.optional_header).magic) (λ e. e) tables;
+}
 
 abbrev pub walked_file : View → ParseOptions → Reading WalkedFile
 walked_file view opts = by_layout opts (λ h s. mapped (walked_of h s) (tables_with view opts h s))
@@ -101,7 +100,7 @@ pub record AreItems (tables : WalkedTables) (m : MapOfAddresses) (places : Table
   pub imports : (p : PeImportCursor) → p.is_begun ≡ false
       → (import_table m places bytes).from p ≡ Some (unrefused (items_in tables.imports))
   pub exports : (export_part m.opts m.addressing places).value bytes ≡ Some tables.exports
-  pub listed : exports_in m bytes 0 tables.exports
+  pub listed : exports_in m bytes tables.exports 0
       ≡ items_in (part_map (λ read. read.1) tables.exports)
   pub addresses : IfRead
       (λ read. (address_part m.opts m.addressing places).value bytes

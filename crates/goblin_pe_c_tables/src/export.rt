@@ -1,14 +1,12 @@
 //! The records of exports.
 
-ghost use Rattle.std.specs.Prelude.{◌≡◌, None, Some};
+ghost use Rattle.std.specs.Prelude.{◌≡◌};
 ghost use Rattle.goblin_pe_export.specs.added.ExportWalks.{walked_export};
-ghost use Rattle.goblin_pe_export.specs.Forwarders.{forwarder_value};
-ghost use Rattle.goblin_pe_c_tables.specs.Exports.{export_for_c, export_model};
-ghost use Rattle.goblin_pe_c_tables.specs.Exports.{export_without_forwarder};
+ghost use Rattle.goblin_pe_c_tables.specs.Exports.{export_for_c, export_model, export_with};
+ghost use Rattle.goblin_pe_c_tables.specs.Exports.{forwarder_model};
 
 use crate::forwarder::{PeForwarder, forwarder_record, no_forwarder};
 use goblin_pe::added::WalkedExport;
-use goblin_pe::export::Reexport;
 
 /// An export that has a name pointer.
 #[repr(C)]
@@ -36,12 +34,15 @@ pub struct PeExport<'a> {
     pub reserved: [u8; 6],
 }
 
-// The record of an export that is no forwarder.
+// The record of an export that is forwarded there.
 #[inline(always)]
-pub(crate) fn unforwarded_record<'a>(bytes: &'a [u8], walked: &WalkedExport<'a>) -> PeExport<'a>
-    ensures value { export_model result ≡ export_without_forwarder (walked_export walked.now) }
-    ensures unforwarded { (walked_export walked.now).row.reexport ≡ None
-        → export_model result ≡ export_for_c (walked_export walked.now) }
+pub(crate) fn export_record<'a>(
+    bytes: &'a [u8],
+    walked: &WalkedExport<'a>,
+    forwarder: PeForwarder<'a>,
+) -> PeExport<'a>
+    ensures { export_model result
+        ≡ export_with (walked_export walked.now) (forwarder_model forwarder.entry) }
 {
     let export = &walked.export;
     PeExport {
@@ -49,7 +50,7 @@ pub(crate) fn unforwarded_record<'a>(bytes: &'a [u8], walked: &WalkedExport<'a>)
             Some(name) => name.as_bytes(),
             None => &bytes[..0],
         },
-        forwarder: no_forwarder(bytes),
+        forwarder,
         ordinal: walked.ordinal,
         hint: walked.hint,
         rva: export.rva,
@@ -61,22 +62,6 @@ pub(crate) fn unforwarded_record<'a>(bytes: &'a [u8], walked: &WalkedExport<'a>)
     }
 }
 
-// The record of an export that is this forwarder.
-#[inline(always)]
-fn forwarded_record<'a>(
-    bytes: &'a [u8],
-    walked: &WalkedExport<'a>,
-    reexport: &Reexport<'a>,
-) -> PeExport<'a>
-    requires { (walked_export walked.now).row.reexport ≡ Some (forwarder_value reexport.now) }
-    ensures { export_model result ≡ export_for_c (walked_export walked.now) }
-{
-    PeExport {
-        forwarder: forwarder_record(bytes, reexport),
-        ..unforwarded_record(bytes, walked)
-    }
-}
-
 /// Puts the record of an export of these bytes into its place. (A record that is made for both
 /// kinds at once would be cleared first for every export.)
 #[inline(always)]
@@ -84,7 +69,9 @@ pub fn put_export<'a>(place: &mut PeExport<'a>, bytes: &'a [u8], walked: &Walked
     ensures { export_model place.new ≡ export_for_c (walked_export walked.now) }
 {
     match &walked.export.reexport {
-        None => *place = unforwarded_record(bytes, walked),
-        Some(reexport) => *place = forwarded_record(bytes, walked, reexport),
+        None => *place = export_record(bytes, walked, no_forwarder(bytes)),
+        Some(reexport) => {
+            *place = export_record(bytes, walked, forwarder_record(bytes, reexport));
+        }
     }
 }

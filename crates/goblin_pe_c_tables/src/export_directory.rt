@@ -4,8 +4,7 @@ ghost use Rattle.std.specs.Prelude.{◌≡◌, slice_get};
 ghost use Rattle.goblin_pe_sect.specs.Addresses.{map_of};
 ghost use Rattle.goblin_pe_export.specs.added.ExportWalks.{walked_tables};
 ghost use Rattle.goblin_pe_c_tables.specs.Batches.{GivesAddresses, GivesBatch, SaysDirectory};
-ghost use Rattle.goblin_pe_c_tables.specs.Batches.{IsAddressBatchFault, IsAddressesFault, batch_at};
-ghost use Rattle.goblin_pe_c_tables.specs.Batches.{part_or};
+ghost use Rattle.goblin_pe_c_tables.specs.Batches.{IsAddressesFault, batch_at, part_or};
 ghost use Rattle.goblin_pe.specs.Whole.{part_map};
 ghost use Rattle.goblin_pe_c_headers.specs.Onward.{GivesOnward};
 ghost use Rattle.goblin_pe_c_tables.specs.ExportDirectories.{address_for_c, addresses_for_c};
@@ -169,7 +168,7 @@ impl<'a> Batched<'a> for PeExportAddress {
 
     ghost gives = { λ before after. GivesAddresses };
 
-    ghost is_fault = { IsAddressBatchFault };
+    ghost is_fault = { λ m places bytes old. IsAddressesFault m places bytes };
 
     fn next<'e>(
         layout: &Layout<'a>,

@@ -11,12 +11,13 @@ ghost use Rattle.goblin_pe.specs.added.Layouts.{layout_bytes, layout_places};
 ghost use Rattle.goblin_pe_c_tables.specs.Batches.{Fills, GivesExports, GivesImports, GivesInFile};
 ghost use Rattle.goblin_pe_c_tables.specs.Batches.{GoesOn, IsExportBatchFault, IsImportsFault};
 ghost use Rattle.goblin_pe_c_tables.specs.Batches.{batch_at, cursor_for_c, cursor_from_c, is_over};
-ghost use Rattle.goblin_pe_c_tables.specs.Batches.{export_walk, import_cursor};
+ghost use Rattle.goblin_pe_c_tables.specs.Batches.{exports_table, import_cursor};
 ghost use Rattle.goblin_pe_c_tables.specs.Imports.{GivesHere};
 ghost use Rattle.goblin_pe_c_headers.specs.Onward.{FillsFrom, IsRefusedNext, unrefused};
 
 use crate::batch::{Batched, at_room};
-use crate::export::{PeExport, put_export, unforwarded_record};
+use crate::export::{PeExport, export_record, put_export};
+use crate::forwarder::no_forwarder;
 use crate::import::{PeImport, import_record};
 use goblin_pe::added::{Exports, FileImports, ImportCursor, Imports, Layout};
 use goblin_pe::import::Bitfield;
@@ -259,7 +260,7 @@ fn fill_exports<'a, 'm>(
 ) -> usize
     ensures filled { let old = batch_at exports.old records.old in
         let new = batch_at exports.new records.new in
-        FillsFrom export_walk
+        FillsFrom (exports_table exports_left)
         ((end < pointer_count exports.old) × (end ≤ exports_position exports.new))
         (unrefused (exports_left exports.old)) old new result }
     ensures over { KeepsOver exports.old exports.new }
@@ -281,7 +282,7 @@ fn fill_exports<'a, 'm>(
             let Some(export) = exports.next_ascii() else {
                 break;
             };
-            records[count] = unforwarded_record(bytes, &export);
+            records[count] = export_record(bytes, &export, no_forwarder(bytes));
             count += 1;
         }
     }

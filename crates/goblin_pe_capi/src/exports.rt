@@ -4,8 +4,7 @@
 ghost use Rattle.std.specs.Prelude.{◌≡◌, ◌≢◌, ◌-◌, Some, length};
 ghost use Rattle.goblin_pe_c_headers.specs.Calls.{ReadsWithout, ReportedAfter};
 ghost use Rattle.goblin_pe_c_headers.specs.Faults.{options_fault};
-ghost use Rattle.goblin_pe_c_tables.specs.Batches.{GivesAddresses};
-ghost use Rattle.goblin_pe_c_tables.specs.Batches.{GivesBatch, GivesExports, IsAddressBatchFault};
+ghost use Rattle.goblin_pe_c_tables.specs.Batches.{GivesAddresses, GivesBatch, GivesExports};
 ghost use Rattle.goblin_pe_c_tables.specs.Batches.{IsAddressesFault, IsExportBatchFault};
 ghost use Rattle.goblin_pe_c_tables.specs.Batches.{SaysDirectory, WalksOver, batch_at};
 ghost use Rattle.goblin_pe_c_tables.specs.ExportDirectories.{directory_model};
@@ -98,7 +97,7 @@ pub extern "C" fn goblin_pe_raw_next_export_addresses<'a>(
     ensures { let old = batch_at cursor.old.index addresses.old in
         let new = batch_at cursor.new.index addresses.new in
         WalksOver (options_fault image.now.options) result image.now GivesAddresses
-        IsAddressBatchFault old new batch.new }
+        (λ m places bytes _. IsAddressesFault m places bytes) old new batch.new }
 {
     let refusal = refused_call(&image.options);
     let position = &mut cursor.index;

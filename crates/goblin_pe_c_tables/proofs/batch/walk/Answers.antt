@@ -1,13 +1,8 @@
 use Rattle.std.proofs.Common.{◌∙◌, ◌-◌, ℕ, Ok, Err, ap, refl, sym}
 use Rattle.goblin_pe_c_headers.specs.Places.{image_places}
-use Rattle.goblin_pe_c_headers.specs.declared.fault.PeFault.{PeFault}
 use Rattle.goblin_pe_c_tables.specs.Batches.{batch_at}
 use Rattle.goblin_pe_c_tables.proofs.InPlaces.{IsAt, fault-at, given-at, nothing-at}
 use Rattle.goblin_pe_c_tables.proofs.batch.walk.Goals as goal
-
-pub returns-then-refusal-ne0-clause-given : goal.returns-then-refusal-ne0-clause-given
-returns-then-refusal-ne0-clause-given g c =
-    (λ none. absurd (c.if-refusal-ne0.true none), λ _. (refl, (refl, c.ended.ensures)))
 
 pub returns-in-Err-clause-given : goal.returns-in-Err-clause-given
 returns-in-Err-clause-given g c =
@@ -20,9 +15,6 @@ returns-in-Err-clause-given g c =
       ),
       λ refused. absurd (refused c.if-refusal-ne0.false),
     )
-
-pub returns-in-Ok-next-clause-kept : goal.returns-in-Ok-next-clause-kept
-returns-in-Ok-next-clause-kept g c = λ some. absurd (some (ap (λ (f : PeFault). f.status) c.no_fault.ensures))
 
 pub returns-in-Ok-next-clause-given : goal.returns-in-Ok-next-clause-given
 returns-in-Ok-next-clause-given g c =

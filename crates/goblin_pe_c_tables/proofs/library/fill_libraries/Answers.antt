@@ -6,7 +6,7 @@ use Rattle.goblin_pe_import.specs.added.Libraries.{GivesNextLibrary, library_val
 use Rattle.goblin_pe_sect.specs.Addresses.{MapOfAddresses, map_of}
 use Rattle.goblin_pe_c_tables.specs.Libraries.{library_for_c}
 use Rattle.goblin_pe_c_tables.specs.Batches.{cursor_for_c}
-use Rattle.goblin_pe_c_tables.proofs.LibraryBatches.{libraries-end, libraries-fault, libraries-full, libraries-more, libraries-refused, libraries-start}
+use Rattle.goblin_pe_c_tables.proofs.LibraryBatches.{libraries-end, libraries-full, libraries-more, libraries-refused, libraries-start}
 use Rattle.goblin_pe_c_tables.proofs.library.fill_libraries.Goals as goal
 
 pub libraries-init : goal.libraries-init
@@ -22,11 +22,6 @@ libraries-preserved c =
       libraries-more c.libraries.invariant.0 c.in-Some-Ok.library c.next.new.self c.cursor_for_c.result c.library_record.result is (c.cursor_for_c.ensures ∙ ap cursor_for_c c.cursor.ensures.is) c.libraries-test.true same,
       ap map_of c.library_record.ensures.same ∙ map_is,
     )
-
-pub returns-in-Some-Err-clause-filled : goal.returns-in-Some-Err-clause-filled
-returns-in-Some-Err-clause-filled c =
-    let is = subst (λ (r : Result WalkedLibrary ErrorOf). GivesNextLibrary c.libraries.libraries (Some r) c.next.new.self) c.in-Some-Err.field-0-is c.in-Some-Err.ensures.steps in
-    libraries-fault c.libraries.invariant.0 c.in-Some-Err.error c.next.new.self is c.if-count-eq0.true c.libraries-test.true
 
 pub returns-in-Some-Err-2-clause-filled : goal.returns-in-Some-Err-2-clause-filled
 returns-in-Some-Err-2-clause-filled c =

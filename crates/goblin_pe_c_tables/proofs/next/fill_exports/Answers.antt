@@ -1,12 +1,10 @@
-use Rattle.std.proofs.Common.{arith, subst, sym}
+use Rattle.std.proofs.Common.{◌∙◌, ap, arith, sym}
 use Rattle.std.proofs.lemmas.List.{length-set}
-use Rattle.goblin_pe_export.specs.declared.added.exports.Exports.{Exports}
+use Rattle.goblin_pe_export.specs.added.ExportWalks.{walked_export}
+use Rattle.goblin_pe_c_tables.specs.Exports.{export_with, forwarder_for_c}
 use Rattle.goblin_pe_c_headers.proofs.Batches.{items-full}
-use Rattle.goblin_pe_c_tables.proofs.ExportBatches.{AtExports, exports-ended, exports-filled, exports-more, exports-start, exports-through}
+use Rattle.goblin_pe_c_tables.proofs.ExportBatches.{exports-ended, exports-filled, exports-more, exports-through}
 use Rattle.goblin_pe_c_tables.proofs.next.fill_exports.Goals as goal
-
-pub exports-init : goal.exports-init
-exports-init c = exports-start c.args.exports.now c.args.records.now c.args.end
 
 pub ascii-init : goal.ascii-init
 ascii-init c =
@@ -23,20 +21,15 @@ pub ascii-preserved : goal.ascii-preserved
 ascii-preserved c =
     let before = c.ascii.invariant in
     let given = c.in-Some-next_ascii.ensures in
-    let r = c.unforwarded_record.result in
+    let r = c.export_record.result in
     let long = length-set c.ascii.records c.ascii.count r in
     let room = before.2 c.ascii-test.true in (
       exports-more before.0 c.in-Some-next_ascii.export c.next_ascii.new.self r given.steps.0 given.steps.1 (omega (arith, given.further)) (omega (arith, given.further, room, c.ascii-test.true))
-          (omega (arith, c.ascii-test.true, before.3)) (c.unforwarded_record.ensures.unforwarded given.unforwarded),
+          (omega (arith, c.ascii-test.true, before.3)) (c.export_record.ensures ∙ ap (export_with (walked_export c.in-Some-next_ascii.export)) (c.no_forwarder.ensures ∙ ap forwarder_for_c (sym given.unforwarded))),
       omega (arith, before.1),
       λ below. omega (arith, below, room, given.further),
       omega (arith, before.3, long),
     )
-
-pub exports-preserved : goal.exports-preserved
-exports-preserved c =
-    subst (λ (w : Exports). AtExports c.args.exports.now c.args.records.now c.args.end w c.ascii.records c.ascii.count)
-    (sym c.in_default-next_ascii.ensures.steps) c.ascii.invariant.0
 
 pub returns-in_default-clause-filled : goal.returns-in_default-clause-filled
 returns-in_default-clause-filled c =

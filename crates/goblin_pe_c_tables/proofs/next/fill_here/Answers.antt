@@ -27,6 +27,3 @@ ascii-preserved g c =
       length-set c.ascii.records c.ascii.count c.import_record.result ∙ c.ascii.invariant.3,
       λ _. omega (arith, c.ascii-test.true),
     )
-
-pub returns-clause-within : goal.returns-clause-within
-returns-clause-within g c = c.ascii.invariant.4

@@ -3,15 +3,9 @@ use Rattle.goblin_base.specs.declared.error.ErrorOf.{ErrorOf}
 use Rattle.goblin_pe_import.specs.declared.added.imports.WalkedImport.{WalkedImport}
 use Rattle.goblin_pe.specs.added.LayoutCursors.{GivesFileWithin}
 use Rattle.goblin_pe.specs.added.Layouts.{layout_map, layout_places}
-use Rattle.goblin_pe_c_tables.proofs.ImportBatches.{goes-at, imports-end, imports-fault, imports-full, imports-refused, imports-start, library-given, library-more}
+use Rattle.goblin_pe_c_tables.proofs.ImportBatches.{goes-at, imports-end, imports-full, imports-refused, library-given, library-more}
 use Rattle.goblin_pe_c_tables.specs.Batches.{is_over}
 use Rattle.goblin_pe_c_tables.proofs.next.fill_imports.Goals as goal
-
-pub imports-init : goal.imports-init
-imports-init c =
-    let l = c.args.layout.now in
-    imports-start (layout_map l) (layout_places l) l.bytes.now c.args.steps c.args.imports c.args.position.now c.args.records.now
-    c.requires
 
 pub imports-preserved : goal.imports-preserved
 imports-preserved c =
@@ -37,13 +31,6 @@ returns-in-Some-Err-2-clause-filled c =
     let next = c.next_within.new.self in
     let is = subst (λ (r : Result WalkedImport ErrorOf). GivesFileWithin now (Some c.imports.left) (Some r) next c.next_within.new.steps) c.in-Some-Err.field-0-is c.in-Some-Err.ensures in
     rw c.goes_on.ensures (imports-refused c.imports.invariant c.in-Some-Err.error next c.next_within.new.steps is c.if-count-eq0.false)
-
-pub returns-in-Some-Err-clause-filled : goal.returns-in-Some-Err-clause-filled
-returns-in-Some-Err-clause-filled c =
-    let now = c.imports.imports in
-    let next = c.next_within.new.self in
-    let is = subst (λ (r : Result WalkedImport ErrorOf). GivesFileWithin now (Some c.imports.left) (Some r) next c.next_within.new.steps) c.in-Some-Err.field-0-is c.in-Some-Err.ensures in
-    imports-fault c.imports.invariant c.in-Some-Err.error next c.next_within.new.steps is c.if-count-eq0.true c.imports-test.true
 
 pub returns-in-None-clause-filled : goal.returns-in-None-clause-filled
 returns-in-None-clause-filled c =
