@@ -6,13 +6,13 @@ use Rattle.std.proofs.lemmas.List.{append_assoc, length-append}
 use Rattle.goblin_base.specs.declared.error.ErrorOf.{ErrorOf}
 use Rattle.goblin_pe_import.specs.declared.added.imports.ImportCursor.{ImportCursor}
 use Rattle.goblin_pe_import.specs.declared.added.imports.WalkedImport.{WalkedImport}
-use Rattle.goblin_pe.specs.Addresses.{MapOfAddresses}
-use Rattle.goblin_pe.specs.Imports.{NumberedImport}
-use Rattle.goblin_pe.specs.KeptEntries.{entries_from}
-use Rattle.goblin_pe.specs.added.ImportWalks.{imports_next, walked_value}
+use Rattle.goblin_pe_sect.specs.Addresses.{MapOfAddresses}
+use Rattle.goblin_pe_import.specs.Imports.{NumberedImport}
+use Rattle.goblin_pe_import.specs.KeptEntries.{entries_from}
+use Rattle.goblin_pe_import.specs.added.ImportWalks.{imports_next, walked_value}
 use Rattle.goblin_pe.specs.added.LayoutCursors.{GivesFileWithin, IsImportWalk, file_ahead, file_bytes, file_cursor, file_cursor_ahead, file_cursor_left}
-use Rattle.goblin_pe.specs.Steps.{AreCounted}
-use Rattle.goblin_pe.specs.added.StepsAhead.{AtSteps, HaveRunOut}
+use Rattle.goblin_pe_import.specs.Steps.{AreCounted}
+use Rattle.goblin_pe_import.specs.added.StepsAhead.{AtSteps, HaveRunOut}
 use Rattle.goblin_pe.proofs.added.ImportStarts.{walk-ahead, walk-left}
 use Rattle.goblin_pe.specs.added.Layouts.{file_imports_left}
 use Rattle.goblin_pe.specs.Whole.{TablePlaces}

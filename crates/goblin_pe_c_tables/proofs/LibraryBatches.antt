@@ -5,9 +5,9 @@ use Rattle.goblin_pe_import.specs.declared.added.library_walk.Libraries.{Librari
 use Rattle.goblin_pe_import.specs.ImportEntries.{EntryValue}
 use Rattle.goblin_base.specs.Tables.{Format}
 use Rattle.goblin_base.specs.declared.error.ErrorOf.{ErrorOf}
-use Rattle.goblin_pe.specs.Addresses.{MapOfAddresses}
-use Rattle.goblin_pe.specs.added.ImportWalks.{no_imports}
-use Rattle.goblin_pe.specs.added.Libraries.{AreLibrariesOver, GivesNextLibrary, LibraryValue, after_library, cursor_libraries, libraries_bytes, libraries_cursor, libraries_format, libraries_left, libraries_map, libraries_next, library_value}
+use Rattle.goblin_pe_sect.specs.Addresses.{MapOfAddresses}
+use Rattle.goblin_pe_import.specs.added.ImportWalks.{no_imports}
+use Rattle.goblin_pe_import.specs.added.Libraries.{AreLibrariesOver, GivesNextLibrary, LibraryValue, after_library, cursor_libraries, libraries_bytes, libraries_cursor, libraries_format, libraries_left, libraries_map, libraries_next, library_value}
 use Rattle.goblin_pe.specs.Whole.{TablePlaces, entry_format}
 use Rattle.goblin_pe_c_tables.specs.declared.next.PeImportCursor.{PeImportCursor}
 use Rattle.goblin_pe_c_tables.specs.Batches.{cursor_for_c}
