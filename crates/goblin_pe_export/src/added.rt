@@ -1,7 +1,6 @@
 //! What goblin does not have: walks over exports, which list nothing, and what their reads depend
 //! on.
 
-mod addresses;
 mod export_marks;
 mod exports;
 

@@ -34,7 +34,7 @@ both-fit true false t v e = absurd cc
 both-fit false b t v e = absurd cc
 
 module _ (addressing : Addressing) (d : DataDirectory) (bytes : List ℕ) where
-  tables_kept : (t : ExportDirectoryTable) (tables : ExportTables) → (export_tables addressing d t).value bytes ≡ Some tables → (address_tables addressing d t).value bytes ≡ Some (without_names tables)
+  pub tables_kept : (t : ExportDirectoryTable) (tables : ExportTables) → (export_tables addressing d t).value bytes ≡ Some tables → (address_tables addressing d t).value bytes ≡ Some (without_names tables)
   unfolding export_tables address_tables
   tables_kept t tables e =
       kept ((or_none (name_at addressing t.name_rva)).value bytes) ((counted_if name_pointers t.number_of_name_pointers (addressing.offset t.name_pointer_rva)).value bytes)

@@ -22,9 +22,9 @@ ghost use Rattle.goblin_pe_export.specs.added.LeftOutExports.{gives_export, poin
 ghost use Rattle.goblin_pe_export.specs.added.LeftOutExports.{reads_forwarder};
 
 use crate::export::entries::{Entries, TablesInFile};
-use crate::export::tables::{ExportAddressTableEntry, ExportDirectoryTable};
+use crate::export::tables::{ExportAddressTableEntry, ExportDirectoryTable, test_address_count};
 use crate::export::{Export, forwarder_at};
-use goblin_base::{Result, pread_ascii_str};
+use goblin_base::{Cause, Error, Result, pread_ascii_str};
 use goblin_pe_sect::DataDirectory;
 use goblin_pe_sect::address_map::{AddressMap, Finder};
 use std::fmt;
@@ -151,7 +151,7 @@ impl<'a, 'm> Exports<'a, 'm> {
     ///
     /// # Errors
     /// As [`Exports::of`], but never because of the number of name pointers.
-    #[tactic(auto, using(crate::proofs::added::ExportAddresses::repeats_addresses))]
+    #[tactic(auto, unfolding(crate::specs::added::ExportAddresses::export_addresses), using(crate::proofs::WholeEntries::no_names, crate::proofs::added::ExportAddresses::repeats_addresses, crate::proofs::added::ExportAddresses::tables_kept))]
     pub fn addresses_of(
         bytes: &'a [u8],
         directory: DataDirectory,
@@ -165,7 +165,15 @@ impl<'a, 'm> Exports<'a, 'm> {
             RepeatsAddresses m.addressing directory bytes.now }
     {
         let mut finder = Finder::of(address_map);
-        let tables = TablesInFile::find_addresses(bytes, directory, &mut finder)?;
+        let rva = directory.virtual_address;
+        let Some(offset) = finder.offset_of(rva) else {
+            return Err(Error::Malformed(Cause::Unmapped(rva as usize)));
+        };
+        let table = ExportDirectoryTable::parse(bytes, offset)?;
+        test_address_count(bytes, &table)?;
+        let mut tables = TablesInFile::of_record(bytes, table, directory, &mut finder);
+        tables.name_pointers = &[];
+        tables.ordinals = &[];
         Ok(Exports {
             bytes,
             finder,

@@ -79,7 +79,7 @@ impl<'a> TablesInFile<'a> {
     // The tables that a record leads to.
     #[inline(always)]
     #[tactic(auto, unfolding(crate::specs::ExportReadings::export_tables, goblin_pe_sect::specs::AddressReadings::name_at), using(crate::proofs::WholeEntries::counted_is, crate::proofs::WholeEntries::entry_count))]
-    fn of_record(
+    pub(crate) fn of_record(
         bytes: &'a [u8],
         table: ExportDirectoryTable,
         directory: DataDirectory,

@@ -192,8 +192,7 @@ impl ExportAddressTableEntry {
 #[tactic(auto, using(crate::proofs::WholeEntries::entries_inside))]
 pub(crate) fn whole_entries(bytes: &[u8], offset: Option<usize>, width: usize, count: u32) -> &[u8]
     requires { 0 < width }
-    ensures value { result.now ≡ table_bytes width count bytes.now offset }
-    ensures none { count ≡ 0 → length result.now ≡ 0 }
+    ensures { result.now ≡ table_bytes width count bytes.now offset }
 {
     let Some(begin) = offset else {
         return &bytes[..0];

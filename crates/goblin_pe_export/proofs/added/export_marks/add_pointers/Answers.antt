@@ -1,6 +1,5 @@
-use Rattle.std.proofs.Common.{◌≡◌, ℕ, List, length, sym, arith}
+use Rattle.std.proofs.Common.{◌≡◌, ℕ, List, length, arith}
 use Rattle.goblin_base.specs.Footprints.{Range}
-use Rattle.goblin_base.proofs.Marks.{marked_nil}
 use Rattle.goblin_base.proofs.Ranges.{marked_below}
 use Rattle.goblin_pe_sect.specs.Addresses.{map_of, Addressing}
 use Rattle.goblin_pe_export.specs.ExportReadings.{numbered_row, numbered_rows}
@@ -10,9 +9,6 @@ use Rattle.goblin_pe_export.proofs.added.export_marks.add_pointers.Goals as goal
 -- what the name pointer at an index leads to
 row_reach : Addressing → ExportTables → List ℕ → ℕ → List Range
 row_reach addressing tables bytes i = (numbered_row addressing tables i).reaches bytes
-
-pub pointers-init : goal.pointers-init
-pointers-init g c = sym (marked_nil c.args.marks.now)
 
 pub pointers-preserved : goal.pointers-preserved
 unfolding row_reach

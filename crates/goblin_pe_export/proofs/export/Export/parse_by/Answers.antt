@@ -8,10 +8,6 @@ use Rattle.goblin_pe_export.proofs.ExportRows.{row_more, row_none, rows_listed}
 use Rattle.goblin_pe_export.proofs.export.Export.parse_by.Goals as goal
 use Rattle.goblin_pe_export.proofs.export.Export.parse_by.Goals.{in-Some+in_ok-make_room, in_default}
 
-pub rows-init : goal.rows-init
-rows-init c =
-    (c.new-rows.ensures.items, c.of-finder.ensures)
-
 pub rows-preserved : goal.rows-preserved
 rows-preserved c =
     let row : AddressMap → ℕ → Option ExportRow =

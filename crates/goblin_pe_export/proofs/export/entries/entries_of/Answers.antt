@@ -1,4 +1,4 @@
-use Rattle.std.proofs.Common.{◌≡◌, ◌+◌, ◌++◌, ◌∷◌, [], List, ℕ, Some, ap, arith, sym, take, take_all, ◌∙◌, slice_get}
+use Rattle.std.proofs.Common.{◌≡◌, ◌+◌, ◌++◌, ◌∷◌, [], List, ℕ, Some, ap, arith, sym, take, ◌∙◌, slice_get}
 use Rattle.std.proofs.lemmas.List.{take_more}
 use Rattle.std.proofs.lemmas.Option.{get_or_from_slice_get, slice_get_within}
 use Rattle.goblin_pe_export.proofs.export.entries.entries_of.Goals as goal
@@ -19,8 +19,3 @@ entries-preserved g c = (
   omega (arith, c.push_reserved.ensures.len, c.entries.invariant.1),
   c.push_reserved.ensures.capacity ∙ c.entries.invariant.2,
 )
-
-pub returns : goal.returns
-returns g c = λ entries long says.
-    sym (c.entries.invariant.0 entries long says
-    ∙ take_all c.entries.index entries (omega (arith, long, c.entries-test.false)))
