@@ -106,12 +106,11 @@ pub record GivesFileWithin (s : FileImports) (old : Option ℕ)
     pub fewer : IfSome result (λ r. file_imports_bound t < file_imports_bound s)
     pub strictly : IfSome result (λ r. IfErr r (λ e. reads_strictly (file_map s) ≡ true))
 
--- A call gives the walk at the cursor that `first` reads, or it is refused as `first` is.
-abbrev pub GivesFirst : MapOfAddresses → ℕ → List ℕ → Reading ImportCursor
-    → Result FileImports ErrorOf → Type 0
-GivesFirst m magic bytes first (Ok imports) =
-    IsSomeAnd (first.value bytes) (λ c. IsImportWalkAt m magic bytes c imports)
-GivesFirst m magic bytes first (Err e) = IsRefused first bytes e
+-- A call gives what begins at the cursor that `first` reads, or it is refused as `first` is.
+abbrev pub GivesFirst : {S : Type 0} → (ImportCursor → S → Type 0) → Reading ImportCursor → List ℕ
+    → Result S ErrorOf → Type 0
+GivesFirst BeginsAt first bytes (Ok s) = IsSomeAnd (first.value bytes) (λ c. BeginsAt c s)
+GivesFirst BeginsAt first bytes (Err e) = IsRefused first bytes e
 
 -- ---- where a file's imports begin
 
@@ -133,10 +132,3 @@ abbrev pub PartBegins : MapOfAddresses → ℕ → List ℕ → ImportCursor →
 PartBegins m magic bytes c Absent = c ≡ no_imports
 PartBegins m magic bytes c (part.Read imports) = IsImportWalkAt m magic bytes c imports
 PartBegins m magic bytes c Refused = ⊥
-
--- A call gives the imports from the cursor that `begin` reads on, or it is refused as `begin` is.
-abbrev pub StartsAt : MapOfAddresses → ℕ → List ℕ → Reading ImportCursor
-    → Result (Part FileImports) ErrorOf → Type 0
-StartsAt m magic bytes begin (Ok result) =
-    IsSomeAnd (begin.value bytes) (λ c. PartBegins m magic bytes c result)
-StartsAt m magic bytes begin (Err e) = IsRefused begin bytes e
