@@ -411,14 +411,12 @@ impl<'a> Layout<'a> {
         self.part(self.bytes_of(directory))
     }
 
-    // What becomes of a table.
     fn part<'e, T: Drop>(&self, table: ResultOf<'e, T>) -> ResultOf<'e, Part<T>>
         ensures { BecomesPart (reads_strictly (layout_map self.now)) table.entry result }
     {
         part_of(table, self.address_map.opts())
     }
 
-    // The bytes of a data directory.
     fn bytes_of(&self, directory: DataDirectory) -> Result<&'a [u8]>
         ensures { let m = layout_map self.now in
             Reads (λ b. b.now) result (directory_data m.addressing directory)
@@ -469,7 +467,6 @@ impl<'a> Layout<'a> {
         }
     }
 
-    // A walk over the imports of a directory.
     #[inline(always)]
     #[tactic(auto, unfolding(crate::specs::Whole::entry_format))]
     fn imports_in<'m, 'e>(
