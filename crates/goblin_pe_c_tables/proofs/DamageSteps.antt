@@ -6,7 +6,7 @@ use Rattle.goblin_pe_import.specs.added.ImportWalks.{no_imports}
 use Rattle.goblin_pe_import.specs.Steps.{AreCounted, HasNotGrown}
 use Rattle.goblin_pe_import.specs.added.StepsAhead.{AtSteps, HaveRunOut}
 use Rattle.goblin_pe_sect.specs.Addresses.{MapOfAddresses, reads_strictly}
-use Rattle.goblin_pe.specs.added.LayoutCursors.{IsImportWalk, file_cursor_ahead, file_map}
+use Rattle.goblin_pe.specs.added.Layouts.{IsImportWalk, file_cursor_ahead, file_map}
 use Rattle.goblin_pe.specs.declared.added.file_imports.FileImports.{FileImports}
 use Rattle.goblin_pe.specs.declared.added.file_imports.FileImports.TheVariants.{Narrow, Wide}
 use Rattle.goblin_pe_c_tables.specs.Batches.{is_over}

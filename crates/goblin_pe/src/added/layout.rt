@@ -18,14 +18,13 @@ ghost use Rattle.goblin_pe_import.specs.added.ImportCursors.{first_import};
 ghost use Rattle.goblin_pe_import.specs.ImportReadings.{numbered_data};
 ghost use Rattle.goblin_pe_import.specs.Imports.{numbered_imports};
 ghost use Rattle.goblin_pe.specs.added.Damages.{exports_left_out, left_out_of};
-ghost use Rattle.goblin_pe.specs.added.LayoutCursors.{GivesFirst, IsFileCursorCause};
-ghost use Rattle.goblin_pe.specs.added.LayoutCursors.{IsImportWalkAt, PartBegins};
-ghost use Rattle.goblin_pe.specs.added.LayoutCursors.{file_cursor_left, file_map, import_begin};
-ghost use Rattle.goblin_pe.specs.added.Layouts.{IsExportWalk, IsFileImportsCause};
+ghost use Rattle.goblin_pe.specs.added.Layouts.{GivesFirst, IsFileCursorCause, IsImportWalkAt};
+ghost use Rattle.goblin_pe.specs.added.Layouts.{PartBegins, file_cursor_left, file_map};
+ghost use Rattle.goblin_pe.specs.added.Layouts.{import_begin, IsExportWalk, IsFileImportsCause};
 ghost use Rattle.goblin_pe.specs.added.Layouts.{PartWalks, file_imports_left, layout_bytes};
 ghost use Rattle.goblin_pe.specs.added.Layouts.{layout_map, layout_places, layout_sections};
-ghost use Rattle.goblin_pe.specs.added.Layouts.{GivesLayout, address_part, directory_data, directory_part};
-ghost use Rattle.goblin_pe.specs.added.Layouts.{layout_table, walked_exports};
+ghost use Rattle.goblin_pe.specs.added.Layouts.{GivesLayout, address_part, directory_data};
+ghost use Rattle.goblin_pe.specs.added.Layouts.{directory_part, layout_table, walked_exports};
 ghost use Rattle.goblin_pe_export.specs.added.ExportWalks.{walked_tables};
 ghost use Rattle.goblin_pe.specs.Whole.{BecomesPart, IfRead, directory_offset, entry_format, export_part};
 ghost use Rattle.goblin_pe.specs.Whole.{import_list};
@@ -258,7 +257,7 @@ impl<'a> Layout<'a> {
     /// # Errors
     /// In strict mode as [`Imports::of`](crate::added::Imports::of).
     #[inline(always)]
-    #[tactic(auto, unfolding(crate::specs::added::LayoutCursors::import_begin))]
+    #[tactic(auto, unfolding(crate::specs::added::Layouts::import_begin))]
     pub fn imports<'m, 'e>(&'m self) -> ResultOf<'e, Part<FileImports<'a, 'm, 'e>>>
         ensures walks { PartWalks file_imports_left IsFileImportsCause (λ xs. xs) result
             (layout_table import_list self.now) (layout_bytes self.now) }
@@ -283,7 +282,7 @@ impl<'a> Layout<'a> {
     ///
     /// # Errors
     /// In strict mode as [`ImportCursor::first`].
-    #[tactic(auto, unfolding(crate::specs::added::LayoutCursors::import_begin))]
+    #[tactic(auto, unfolding(crate::specs::added::Layouts::import_begin))]
     pub fn imports_begin<'e>(&self) -> ResultOf<'e, ImportCursor>
         ensures { let m = layout_map self.now in
             Reads (λ c. c) result (import_begin m.opts m.addressing (layout_places self.now))

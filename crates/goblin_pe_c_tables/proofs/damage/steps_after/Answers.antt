@@ -4,8 +4,7 @@ use Rattle.goblin_pe_import.specs.declared.added.imports.ImportCursor.{ImportCur
 use Rattle.goblin_pe_import.specs.declared.added.imports.WalkedImport.{WalkedImport}
 use Rattle.goblin_pe_import.specs.added.ImportCursors.{before_record}
 use Rattle.goblin_pe_import.specs.TableSums.{amount_of}
-use Rattle.goblin_pe.specs.added.LayoutCursors.{GivesFileWithin, file_ahead, file_cursor, file_cursor_ahead}
-use Rattle.goblin_pe.specs.added.Layouts.{layout_map, layout_places}
+use Rattle.goblin_pe.specs.added.Layouts.{GivesFileWithin, file_ahead, file_cursor, file_cursor_ahead, layout_map, layout_places}
 use Rattle.goblin_pe_import.specs.added.StepsAhead.{AtSteps}
 use Rattle.goblin_pe.proofs.added.ImportStarts.{walk-ahead}
 use Rattle.goblin_pe_sect.specs.Addresses.{reads_strictly}

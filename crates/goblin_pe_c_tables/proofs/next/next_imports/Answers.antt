@@ -1,5 +1,4 @@
-use Rattle.goblin_pe.specs.added.LayoutCursors.{IsFileCursorCause, file_cursor_left}
-use Rattle.goblin_pe.specs.added.Layouts.{IsFileImportsCause, file_imports_left, layout_map, layout_places}
+use Rattle.goblin_pe.specs.added.Layouts.{IsFileCursorCause, file_cursor_left, IsFileImportsCause, file_imports_left, layout_map, layout_places}
 use Rattle.goblin_pe_c_tables.specs.Batches.{GivesImports, ImportBatch, import_cursor}
 use Rattle.goblin_pe_c_headers.proofs.Batches.{answered}
 use Rattle.goblin_pe_c_tables.proofs.ImportBatches.{goes-start}

@@ -9,10 +9,6 @@ use Rattle.goblin_pe.proofs.added.file_imports.FileImports.count_imports.Goals a
 capped-same : (n k m : ℕ) → n ≡ min k m → n ≡ min (n + 0) m
 capped-same n k m is = omega (arith, is)
 
-pub imports-init : goal.imports-init
-imports-init g c = λ p is.
-    rw c.into_iter-import-iterator.ensures.into_iter_gives (gathers_start (counted p) c.args.self 0 refl)
-
 pub returns-in_err-import : goal.returns-in_err-import
 returns-in_err-import g c = λ p is.
     let e = err_from_is_err_and c.from_residual.result c.from_residual.ensures.1 in

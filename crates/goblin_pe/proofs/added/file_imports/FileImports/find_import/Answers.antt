@@ -26,10 +26,6 @@ still-found : (o : Option WalkedImport) (r b : Bool) (x : WalkedImport) → is_s
 still-found None r b x some fails = let wrong : false ≡ true = some ∙ ap not fails in absurd cc
 still-found (Some y) r b x some fails = refl
 
-pub imports-init : goal.imports-init
-imports-init g c = λ p is.
-    rw c.into_iter-import-iterator.ensures.into_iter_gives (gathers_start (find p) c.args.self None refl)
-
 pub returns-in_err-import : goal.returns-in_err-import
 returns-in_err-import g c = λ p is.
     let e = err_from_is_err_and c.from_residual.result c.from_residual.ensures.1 in
