@@ -1,4 +1,4 @@
-use Rattle.std.proofs.Common.{List, subst, sym, ◌∙◌, eqb-true, All}
+use Rattle.std.proofs.Common.{List, subst, sym, All}
 use Rattle.goblin_pe.specs.added.Keys.{HasKeptRange, KeptRange}
 use Rattle.goblin_pe.specs.Whole.{whole_file}
 use Rattle.goblin_pe.proofs.added.Keys.{agree-there, there-agree}
