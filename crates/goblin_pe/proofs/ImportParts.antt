@@ -19,8 +19,7 @@ use Rattle.goblin_pe.specs.declared.whole.Part.{Part}
 use Rattle.goblin_pe.specs.declared.whole.Part.TheVariants.{Absent, Refused}
 use Rattle.goblin_pe.specs.declared.whole.Part.TheVariants as part
 use Rattle.goblin_pe.specs.Whole.{TablePlaces, both_lists, directory_at, entry_format, import_data_part, imports_in, listed_imports_part, numbered_data_part, part_at, part_map, part_of, without_indexes, without_numbers}
-use Rattle.goblin_pe.proofs.KeptImports.{listed_imports, part-kept}
-use Rattle.goblin_pe.proofs.ListedImports.{data-listed}
+use Rattle.goblin_pe.proofs.KeptImports.{listed_imports, part-kept, data-listed}
 use Rattle.goblin_pe.proofs.Parts.{part_of-mapped}
 
 -- ---- permissive mode refuses no import data

@@ -1,5 +1,5 @@
--- What is kept of each library's imports is what is kept of the list of all imports.
-use Rattle.std.proofs.Common.{◌≡◌, ◌∙◌, ◌≤◌, ◌++◌, ◌∷◌, ℕ, zero, suc, List, [], Bool, true, false, IsSome, None, Option, Some, ap, append-nil, arith, length, map, refl, sym, take_all, get_or, slice_get, take, unwrap_or, take-suc, flat_map}
+-- Of the import data of a file a list of imports can be made, and what is kept of each library's imports is what is kept of the list.
+use Rattle.std.proofs.Common.{◌≡◌, ◌∙◌, ◌≤◌, ◌++◌, ◌∷◌, ℕ, zero, suc, List, [], Bool, true, false, IsSome, None, Option, Some, ap, append-nil, arith, length, map, refl, sym, take_all, get_or, slice_get, take, unwrap_or, take-suc, flat_map, ◌<◌, ◌^◌}
 use Rattle.std.proofs.lemmas.List.{map-append}
 use Rattle.std.proofs.lemmas.List.Concat.{flat_map-append}
 use Rattle.std.proofs.lemmas.Option.{get_or_from_slice_get}
@@ -14,7 +14,12 @@ use Rattle.goblin_pe_import.proofs.Imports.{imported_at}
 use Rattle.goblin_pe.specs.declared.whole.Part.{Part}
 use Rattle.goblin_pe.specs.declared.whole.Part.TheVariants.{Absent, Refused}
 use Rattle.goblin_pe.specs.declared.whole.Part.TheVariants as part
-use Rattle.goblin_pe.specs.Whole.{TablePlaces, entry_format, listed_imports_part, part_map, part_of}
+use Rattle.goblin_pe.specs.Whole.{TablePlaces, entry_format, listed_imports_part, part_map, part_of, directory_at, import_data_part}
+use Rattle.goblin_base.specs.Bytes.{IsBytes}
+use Rattle.goblin_pe_sect.specs.Addresses.{Addressing}
+use Rattle.goblin_pe_import.specs.ImportReadings.{import_data}
+use Rattle.goblin_pe_import.proofs.ListedImports.{imports_of-there}
+use Rattle.goblin_pe.proofs.Parts.{read_from}
 
 -- the imports of import data that a list can be made from
 unfoldable pub listed_imports : ℕ → Part (List ImportedLibrary) → Part (List ImportValue)
@@ -92,3 +97,25 @@ module _ {X : Type 0} (import_of : ImportValue → X) where
       ap (λ (xs : List X). part.Read xs)
       (all-kept (entry_format places.magic).width libraries (libraries-there opts places libraries h))
   part-kept opts places Refused h = refl
+
+-- ---- a list can be made
+
+part-there : {A : Type 0} (strict : Bool) (table : Option (List A)) → IsSome table → part_of strict table ≡ Some (part.Read (unwrap_or table []))
+part-there strict None there = absurd cc
+part-there strict (Some xs) there = refl
+
+module _ (opts : ParseOptions) (file : List ℕ) (places : TablePlaces) (short : length file < 2 ^ 63)
+    (bytes : IsBytes file) (addressing : Addressing) where
+  -- of import data that was read a list of imports can be made
+  pub data-listed : (p : Part (List ImportedLibrary))
+      → (import_data_part opts addressing places).value file ≡ Some p → HasList opts places p
+  unfolding import_data_part listed_imports_part listed_imports
+  data-listed Absent e = refl
+  data-listed (part.Read libraries) e =
+      let strict = is_strict opts.parse_mode in
+      let format = entry_format places.magic in
+      let from = read_from opts.parse_imports strict
+      (λ d. import_data strict format addressing d.virtual_address) (directory_at places 1) file libraries e in
+      part-there strict (imports_of format.width libraries)
+      (imports_of-there strict format addressing file short bytes from.at.virtual_address libraries from.read)
+  data-listed Refused e = refl

@@ -12,7 +12,6 @@ pub use Rattle.goblin_pe_head.proofs.PeHeaderRoundTrip
 pub mod Collected
 pub mod ImportParts
 pub mod KeptImports
-pub mod ListedImports
 pub mod Parts
 pub mod PermissiveReads
 pub mod TableRuns

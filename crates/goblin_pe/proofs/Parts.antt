@@ -1,6 +1,6 @@
 -- What becomes of a table that was asked for, as a part of a file.
 use Rattle.std.proofs.Common.{◌≡◌, ℕ, List, Bool, true, false, Option, Some, None, option_map, refl, ap, subst, ◌∙◌, inl, inr}
-use Rattle.std.specs.Prelude.{◌⊎◌, IfOk, Result, Ok, Err}
+use Rattle.std.specs.Prelude.{◌⊎◌, Result, Ok, Err}
 use Rattle.goblin_base.specs.declared.error.ErrorOf.{ErrorOf}
 use Rattle.goblin_base.specs.declared.error.ErrorOf.TheVariants.{BadMagic, BufferTooShort, Malformed, Memory, Read}
 use Rattle.goblin_base.specs.Answers.{Answers, AnswersOrMemory, IsMemory}
@@ -10,7 +10,7 @@ use Rattle.goblin_pe_sect.specs.declared.data_directories.DataDirectory.{DataDir
 use Rattle.goblin_pe.specs.declared.whole.Part.{Part}
 use Rattle.goblin_pe.specs.declared.whole.Part.TheVariants.{Absent, Refused}
 use Rattle.goblin_pe.specs.declared.whole.Part.TheVariants as part
-use Rattle.goblin_pe.specs.Whole.{BecomesPart, IfRead, part_at, part_map, part_of}
+use Rattle.goblin_pe.specs.Whole.{BecomesPart, part_at, part_map, part_of}
 
 abbrev IsNoMemory : {X : Type 0} → Result X ErrorOf → Type 0
 IsNoMemory (Ok x) = Unit {0}
@@ -36,14 +36,6 @@ becomes_refused true (BufferTooShort n w) made is = inl (is, λ other. refl)
 becomes_refused false (BufferTooShort n w) made is = inr (is, refl, λ m. m)
 becomes_refused true (Read f) made is = inl (is, λ other. refl)
 becomes_refused false (Read f) made is = inr (is, refl, λ m. m)
-
--- what holds of a table holds of the part that it becomes
-pub becomes_kept : {X : Type 0} (P : X → Type 0) (strict : Bool) (asked : Result X ErrorOf)
-    (made : Result (Part X) ErrorOf) → IfOk asked P → BecomesPart strict asked made
-    → IfOk made (IfRead P)
-becomes_kept P strict (Ok x) made h is = rw is h
-becomes_kept P strict (Err e) made h is =
-    elim (becomes_refused strict e made is) [ inl r ↦ rw (r.0) tt | inr r ↦ rw (r.0) tt ]
 
 module _ {X Y : Type 0} (view : X → Y) (value : Option Y) (IsCause : ErrorOf → Type 0)
     (made : Result (Part X) ErrorOf) where

@@ -1,5 +1,4 @@
 pub mod Checksums
 pub mod Damages
 pub mod Keys
-pub mod LayoutCursors
 pub mod Layouts

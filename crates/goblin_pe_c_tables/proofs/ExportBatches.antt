@@ -1,17 +1,14 @@
 -- A loop that fills records with the exports of a file from a position on.
 use Rattle.std.proofs.Common.{◌≡◌, ◌⊎◌, ℕ, ◌+◌, ◌-◌, ◌<◌, ◌≤◌, List, [], length, drop, set, ap, refl, subst, sym, arith, ◌∙◌, inl, inr, max, min, nat_le, Bool, true, false, None, Option, Some}
-use Rattle.std.proofs.lemmas.Bool.{cases_lt}
-use Rattle.std.proofs.lemmas.Bool.{leb-false, leb-true}
+use Rattle.std.proofs.lemmas.Bool.{cases_lt, leb-false, leb-true}
 use Rattle.std.specs.Iterator.{YieldsFirstBy}
 use Rattle.goblin_pe_export.specs.declared.added.exports.Exports.{Exports}
 use Rattle.goblin_pe_export.specs.declared.added.exports.WalkedExport.{WalkedExport}
-use Rattle.goblin_pe_export.specs.ExportRecords.{name_pointers}
-use Rattle.goblin_pe_export.specs.added.ExportWalks.{GivesExportBefore, exports_position, pointer_count}
+use Rattle.goblin_pe_export.specs.ExportRecords.{name_pointers, ExportTables}
+use Rattle.goblin_pe_export.specs.added.ExportWalks.{GivesExportBefore, exports_position, pointer_count, KeepsOver, NumberedExport, exports_at, exports_left, numbered_from, walked_export, walked_tables}
 use Rattle.goblin_pe_export.proofs.added.ExportWalk.{from_end}
 use Rattle.goblin_base.proofs.RecordItems.{length-records_in}
 use Rattle.goblin_pe_sect.specs.Addresses.{MapOfAddresses, map_of}
-use Rattle.goblin_pe_export.specs.ExportRecords.{ExportTables}
-use Rattle.goblin_pe_export.specs.added.ExportWalks.{KeepsOver, NumberedExport, exports_at, exports_left, numbered_from, walked_export, walked_tables}
 use Rattle.goblin_pe.specs.added.Layouts.{IsExportWalk, walked_exports}
 use Rattle.goblin_pe.specs.Whole.{IfRead, TablePlaces, export_part, part_map}
 use Rattle.goblin_pe.specs.declared.whole.Part.{Part}

@@ -14,7 +14,7 @@ use Rattle.goblin_pe_import.specs.added.Libraries.{LibraryValue, inside_library,
 use Rattle.goblin_pe_import.specs.declared.import.directory_entry.ImportDirectoryEntry.{ImportDirectoryEntry}
 use Rattle.goblin_pe_import.specs.declared.added.imports.ImportCursor.{ImportCursor}
 use Rattle.goblin_pe_import.proofs.added.LeftOutLibraries.{library_left_out}
-use Rattle.goblin_pe.specs.added.LayoutCursors.{file_cursor_left}
+use Rattle.goblin_pe.specs.added.Layouts.{file_cursor_left}
 use Rattle.goblin_pe.specs.Whole.{TablePlaces, entry_format}
 use Rattle.goblin_pe_c_tables.specs.Libraries.{LibrariesEnd}
 use Rattle.goblin_pe_c_tables.proofs.ImportBatches.{cursor-from_for}

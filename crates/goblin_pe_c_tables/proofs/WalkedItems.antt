@@ -30,8 +30,7 @@ use Rattle.goblin_pe_export.specs.ExportRecords.{ExportTables, NumberedExport}
 use Rattle.goblin_pe_export.specs.added.ExportWalks.{numbered_from}
 use Rattle.goblin_pe_export.proofs.added.ExportAddresses.{repeats_addresses}
 use Rattle.goblin_pe_export.proofs.added.ExportWalk.{read_walked}
-use Rattle.goblin_pe.specs.added.LayoutCursors.{begin_in, import_begin}
-use Rattle.goblin_pe.specs.added.Layouts.{address_part}
+use Rattle.goblin_pe.specs.added.Layouts.{begin_in, import_begin, address_part}
 use Rattle.goblin_pe.specs.Whole.{IfRead, NumberedTables, TablePlaces, collected_tables, directory_at, entry_format, export_part, imports_in, layout, addressing_by, mapped_in, numbered_data_part, part_at, part_map, part_of, places_in, sections_after, table_parts, tables_with}
 use Rattle.goblin_pe.specs.declared.whole.Part.{Part}
 use Rattle.goblin_pe.specs.declared.whole.Part.TheVariants.{Absent, Refused}

@@ -9,18 +9,17 @@ use Rattle.goblin_base.specs.Reading.{IsRefused, Reading}
 use Rattle.goblin_pe_sect.specs.BaseRelocations.{Block, block_at, block_items}
 use Rattle.goblin_pe_import.specs.ImportLookup.{entries_32, entries_64}
 use Rattle.goblin_pe_import.specs.declared.added.imports.ImportCursor.{ImportCursor}
-use Rattle.goblin_pe_sect.specs.Addresses.{MapOfAddresses}
+use Rattle.goblin_pe_sect.specs.Addresses.{MapOfAddresses, Addressing}
 use Rattle.goblin_pe_export.specs.ExportRecords.{ExportTables}
 use Rattle.goblin_pe_export.specs.added.ExportWalks.{NumberedExport, numbered_from}
 use Rattle.goblin_pe_import.specs.Imports.{NumberedImport}
-use Rattle.goblin_pe.specs.added.LayoutCursors.{IsFileCursorCause, IsImportWalk, file_cursor_left}
-use Rattle.goblin_pe.specs.added.LayoutCursors.{file_ahead, file_cursor_ahead, import_begin}
+use Rattle.goblin_pe.specs.added.Layouts.{IsFileCursorCause, IsImportWalk, file_cursor_left}
+use Rattle.goblin_pe.specs.added.Layouts.{file_ahead, file_cursor_ahead, import_begin}
 use Rattle.goblin_pe_import.specs.TableSums.{amount_of}
 use Rattle.readings.specs.Reads.{given, pick}
 use Rattle.goblin_pe.specs.added.Layouts.{address_part, file_imports_left}
 use Rattle.goblin_pe_import.specs.added.StepsAhead.{AtSteps}
 use Rattle.goblin_pe.specs.Whole.{TablePlaces, directory_offset, export_part, relocation_part}
-use Rattle.goblin_pe_sect.specs.Addresses.{Addressing}
 use Rattle.goblin_pe.specs.declared.whole.Part.{Part}
 use Rattle.goblin_pe.specs.declared.whole.Part.TheVariants.{Absent, Refused}
 use Rattle.goblin_pe.specs.declared.whole.Part.TheVariants as part

@@ -14,7 +14,7 @@ use Rattle.goblin_pe_import.specs.added.ImportCursors.{before_record}
 use Rattle.goblin_pe_import.specs.TableSums.{amount_of}
 use Rattle.goblin_pe_import.specs.added.StepsAhead.{AtSteps}
 use Rattle.goblin_pe.specs.added.Damages.{AreDamaged, IsDamage, exports_left_out}
-use Rattle.goblin_pe.specs.added.LayoutCursors.{file_cursor_ahead}
+use Rattle.goblin_pe.specs.added.Layouts.{file_cursor_ahead}
 use Rattle.goblin_pe.specs.Whole.{TablePlaces, directory_offset, export_part}
 use Rattle.goblin_pe.specs.declared.added.damage.Damage.{Damage}
 use Rattle.goblin_pe_c_headers.specs.Faults.{fault, fault_of, image_fault, no_fault}

@@ -3,7 +3,7 @@
 ghost use Rattle.std.specs.Prelude.{◌≡◌, ◌⊎◌, ◌+◌, ◌<◌, ◌≤◌, IfErr, MatchResult, length, max, min};
 ghost use Rattle.goblin_base.specs.Answers.{IsMemory};
 ghost use Rattle.goblin_base.specs.Reading.{Reads};
-ghost use Rattle.goblin_pe.specs.added.LayoutCursors.{file_ahead};
+ghost use Rattle.goblin_pe.specs.added.Layouts.{file_ahead};
 ghost use Rattle.goblin_pe_export.specs.added.ExportWalks.{KeepsOver, exports_left};
 ghost use Rattle.goblin_pe_export.specs.added.ExportWalks.{exports_position, pointer_count};
 ghost use Rattle.goblin_pe.specs.added.Layouts.{IsFileImportsCause, file_imports_left, layout_map};

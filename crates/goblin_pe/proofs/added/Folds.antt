@@ -9,8 +9,7 @@ use Rattle.goblin_pe_import.specs.added.ImportWalks.{walked_value}
 use Rattle.goblin_pe_import.specs.Imports.{NumberedImport}
 use Rattle.goblin_pe_import.specs.declared.added.imports.WalkedImport.{WalkedImport}
 use Rattle.goblin_pe.specs.declared.added.file_imports.FileImports.{FileImports}
-use Rattle.goblin_pe.specs.added.LayoutCursors.{GivesFileImport}
-use Rattle.goblin_pe.specs.added.Layouts.{IsFileImportsCause, file_imports_left}
+use Rattle.goblin_pe.specs.added.Layouts.{GivesFileImport, IsFileImportsCause, file_imports_left}
 use Rattle.readings.specs.added.Questions.{counted}
 use Rattle.readings.specs.Walks.{GivesNext}
 use Rattle.readings.proofs.Walked.{AtWalk, walk-all, walk-fault, walk-more, walk-start}

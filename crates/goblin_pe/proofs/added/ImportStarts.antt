@@ -18,8 +18,7 @@ use Rattle.goblin_pe_import.specs.declared.added.imports.Imports.{Imports}
 use Rattle.goblin_pe_import.specs.declared.added.imports.WalkedImport.{WalkedImport}
 use Rattle.goblin_pe.specs.declared.added.file_imports.FileImports.{FileImports}
 use Rattle.goblin_pe.specs.declared.added.file_imports.FileImports.TheVariants.{Narrow, Wide}
-use Rattle.goblin_pe.specs.added.LayoutCursors.{file_ahead, file_cursor_ahead, GivesFileWithin, GivesFileImport, IsImportWalkAt, file_cursor, file_cursor_left, import_begin}
-use Rattle.goblin_pe.specs.added.Layouts.{IsFileImportsCause, file_imports_left}
+use Rattle.goblin_pe.specs.added.Layouts.{file_ahead, file_cursor_ahead, GivesFileWithin, GivesFileImport, IsImportWalkAt, file_cursor, file_cursor_left, import_begin, IsFileImportsCause, file_imports_left}
 use Rattle.goblin_pe.specs.Whole.{TablePlaces, directory_at}
 use Rattle.goblin_pe_import.proofs.added.ImportCursors.{cursor_left_of}
 use Rattle.goblin_pe_import.proofs.added.ImportSteps.{ended-left}

@@ -23,7 +23,6 @@ use Rattle.goblin_pe.specs.declared.whole.Part.TheVariants as part
 use Rattle.goblin_pe.specs.declared.added.file_imports.FileImports.{FileImports}
 use Rattle.goblin_pe.specs.added.Layouts.{IsFileImportsCause, file_imports_left}
 use Rattle.goblin_pe.specs.Whole.{TablePlaces, directory_at, entry_format, numbered_data_part, import_list, part_at, part_map, part_of}
-use Rattle.std.specs.Prelude.{IfOk}
 
 -- what a value is made of is there
 pub was-there : {A B : Type 0} (f : A → B) (o : Option A) → IsSome (option_map f o) → IsSome o
@@ -117,8 +116,3 @@ pub unasked_mapped : {X A B : Type 0} (view : X → B) (f : A → B) (strict ask
 unasked_mapped view f strict false read directory bytes is = refl
 unasked_mapped view f strict true read directory bytes (inl is) = absurd cc
 unasked_mapped view f strict true read directory bytes (inr is) = rw is refl
-
-pub kept_both : {X : Type 0} (P Q : X → Type 0) (asked : Result X ErrorOf) → IfOk asked P
-    → IfOk asked Q → IfOk asked (λ x. P x × Q x)
-kept_both P Q (Ok x) h k = (h, k)
-kept_both P Q (Err e) h k = tt

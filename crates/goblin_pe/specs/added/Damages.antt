@@ -1,6 +1,6 @@
 -- What strict mode would refuse in a file, part by part.
 use Rattle.std.specs.Prelude.{◌≡◌, ℕ, true, List, Option, None, Some, IsSome, IsSomeAnd, Result, Ok}
-use Rattle.std.specs.Prelude.{Err, IfErr, IfOk, if◌then◌else◌, min, ◌^◌, ◌-◌}
+use Rattle.std.specs.Prelude.{Err, IfErr, IfOk, if◌then◌else◌, min, option_map, unwrap_or, ◌^◌, ◌-◌}
 use Rattle.goblin_base.specs.declared.error.ErrorOf.{ErrorOf}
 use Rattle.goblin_base.specs.declared.permissive.ParseMode.TheVariants.{Permissive, Strict}
 use Rattle.goblin_base.specs.Answers.{◌>>=◌, IsMemory}
@@ -19,7 +19,6 @@ use Rattle.goblin_pe_import.specs.ImportEntries.{EntryValue}
 use Rattle.goblin_pe_import.specs.added.LeftOut.{entries_left_out, libraries_left_out}
 use Rattle.goblin_pe_import.specs.added.LeftOut.{unmapped_entries}
 use Rattle.goblin_pe_export.specs.ExportReadings.{numbered_read}
-use Rattle.goblin_pe_export.specs.ExportRecords.{ExportTables, NumberedExport}
 use Rattle.goblin_pe_export.specs.added.LeftOutExports.{pointers_left_out}
 use Rattle.goblin_pe.specs.declared.added.damage.Damage.{Damage}
 use Rattle.goblin_pe.specs.Modes.{in_mode}
@@ -54,17 +53,12 @@ left_out_of opts addressing places bytes =
     imports_left_out_at (entry_format places.magic) addressing bytes
     (if opts.parse_imports then directory_at places 1 else None)
 
--- how many name pointers of an export directory give no export; 0 if none was read
-abbrev pub exports_left_out_of : Addressing → List ℕ
-    → Option (ExportTables × List NumberedExport) → ℕ
-exports_left_out_of addressing bytes None = 0
-exports_left_out_of addressing bytes (Some read) = pointers_left_out addressing bytes read.0
-
 -- how many name pointers of a file's export directory give no export; 0 if it cannot be read
 unfoldable pub exports_left_out : Addressing → TablePlaces → List ℕ → ℕ
 exports_left_out addressing places bytes =
-    exports_left_out_of addressing bytes
-    (directory_at places 0 >>= λ d. (numbered_read addressing d).value bytes)
+    unwrap_or
+    (option_map (λ read. pointers_left_out addressing bytes read.0)
+    (directory_at places 0 >>= λ d. (numbered_read addressing d).value bytes)) 0
 
 -- What strict mode would refuse in the tables, with this map of addresses.
 pub record AreDamaged (opts : ParseOptions) (addressing : Addressing) (places : TablePlaces)

@@ -58,7 +58,6 @@ fn refusal_of<'a, 'm, 'e>(imports: FileImports<'a, 'm, 'e>) -> Option<ErrorOf<'e
     None
 }
 
-// Why the imports are refused, if they are.
 fn import_damage(layout: &Layout) -> Option<Error>
     ensures { IsDamage (layout_table import_list layout.now) (layout_bytes layout.now) result }
 {
@@ -69,7 +68,6 @@ fn import_damage(layout: &Layout) -> Option<Error>
     }
 }
 
-// Why strict mode refuses the sections after this header, if it does.
 #[tactic(auto, using(crate::proofs::added::SectionNames::damage_made))]
 fn name_damage(bytes: &[u8], header: &Header) -> Option<Error>
     ensures { IsDamage (sections_after true (header_value header.now)) bytes.now result }

@@ -10,8 +10,8 @@ ghost use Rattle.readings.specs.added.Questions.{counted, has_any};
 ghost use Rattle.goblin_pe_import.specs.added.ImportWalks.{walked_value};
 ghost use Rattle.goblin_pe_import.specs.Imports.{NumberedImport};
 ghost use Rattle.goblin_pe_sect.specs.Addresses.{MapOfAddresses, map_of};
-ghost use Rattle.goblin_pe.specs.added.LayoutCursors.{GivesFileImport, file_cursor_left, file_map};
-ghost use Rattle.goblin_pe.specs.added.LayoutCursors.{GivesFileWithin, IsImportWalk, file_cursor};
+ghost use Rattle.goblin_pe.specs.added.Layouts.{GivesFileImport, file_cursor_left, file_map};
+ghost use Rattle.goblin_pe.specs.added.Layouts.{GivesFileWithin, IsImportWalk, file_cursor};
 ghost use Rattle.goblin_pe.specs.added.Layouts.{IsFileImportsCause, file_imports_bound};
 ghost use Rattle.goblin_pe.specs.added.Layouts.{file_imports_left};
 

@@ -3,7 +3,7 @@
 ghost use Rattle.std.specs.Prelude.{IfOk};
 ghost use Rattle.goblin_base.specs.Reading.{Reads};
 ghost use Rattle.goblin_pe_import.specs.added.Libraries.{AreLibrariesAt, libraries_cursor};
-ghost use Rattle.goblin_pe.specs.added.LayoutCursors.{import_begin};
+ghost use Rattle.goblin_pe.specs.added.Layouts.{import_begin};
 ghost use Rattle.goblin_pe.specs.added.Layouts.{layout_bytes, layout_map, layout_places};
 ghost use Rattle.goblin_pe.specs.Whole.{entry_format};
 

@@ -14,7 +14,6 @@ use goblin_pe_head::optional_header::{
 };
 use goblin_pe_sect::options::ParseOptions;
 
-// The byte at an offset. It counts as 0 in the four bytes of the checksum field, and past the end.
 fn summed_byte(bytes: &[u8], field: usize, offset: usize) -> u32
     ensures value { result ≡ summed_byte bytes.now field offset }
     ensures small { result < 256 }
@@ -28,7 +27,6 @@ fn summed_byte(bytes: &[u8], field: usize, offset: usize) -> u32
     }
 }
 
-// The little-endian word of two bytes at an index, which counts words.
 fn summed_word(bytes: &[u8], field: usize, index: usize) -> u32
     requires { 2 * index < length bytes.now }
     ensures value { result ≡ summed_word bytes.now field index }
@@ -37,7 +35,6 @@ fn summed_word(bytes: &[u8], field: usize, index: usize) -> u32
     summed_byte(bytes, field, 2 * index) + 256 * summed_byte(bytes, field, 2 * index + 1)
 }
 
-// The low 16 bits of a sum, with its carry added.
 fn with_carry(sum: u32) -> u32
     requires { sum < 131071 }
     ensures value { result ≡ with_carry sum }
@@ -46,7 +43,6 @@ fn with_carry(sum: u32) -> u32
     sum % 65536 + sum / 65536
 }
 
-// The sum of all words in 16 bits, with each carry added.
 #[tactic(auto, unfolding(crate::specs::added::Checksums::sum_of_words))]
 fn sum_of_words(bytes: &[u8], field: usize) -> u32
     ensures value { result ≡ sum_of_words bytes.now field ((length bytes.now + 1) / 2) }

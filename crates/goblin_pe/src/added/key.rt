@@ -82,14 +82,12 @@ impl fmt::Debug for FileKey {
     }
 }
 
-// Whether a file has the bytes of all these ranges.
 fn are_there(kept: &[KeptRange], file: &[u8]) -> bool
     ensures { IsTrue result ↔ All (HasKeptRange file.now) kept.now }
 {
     kept.iter().all(|range| is_there(range, file))
 }
 
-// Whether a file has the bytes of this range.
 fn is_there(range: &KeptRange, file: &[u8]) -> bool
     ensures { IsTrue result ↔ HasKeptRange file.now range.now }
 {
@@ -98,7 +96,6 @@ fn is_there(range: &KeptRange, file: &[u8]) -> bool
         && file[range.begin..range.end] == range.bytes[..]
 }
 
-// The bytes of a file in these ranges.
 fn kept_ranges(alloc: Global, file: &[u8], ranges: &[(usize, usize)]) -> Result<Vec<KeptRange>>
     requires { All (IsInFile file.now) ranges.now }
     ensures value { IfOk result
@@ -113,7 +110,6 @@ fn kept_ranges(alloc: Global, file: &[u8], ranges: &[(usize, usize)]) -> Result<
     Ok(kept)
 }
 
-// The bytes of a file in a range.
 fn kept_range(alloc: Global, file: &[u8], begin: usize, end: usize) -> Result<KeptRange>
     requires { (begin < end) × (end ≤ length file.now) }
     ensures value { IfOk result (λ range. range ≡ kept_range file.now (begin, end)) }

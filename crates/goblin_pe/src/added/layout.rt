@@ -18,16 +18,15 @@ ghost use Rattle.goblin_pe_import.specs.added.ImportCursors.{first_import};
 ghost use Rattle.goblin_pe_import.specs.ImportReadings.{numbered_data};
 ghost use Rattle.goblin_pe_import.specs.Imports.{numbered_imports};
 ghost use Rattle.goblin_pe.specs.added.Damages.{exports_left_out, left_out_of};
-ghost use Rattle.goblin_pe.specs.added.LayoutCursors.{GivesFirst, IsFileCursorCause};
-ghost use Rattle.goblin_pe.specs.added.LayoutCursors.{IsImportWalkAt, StartsAt};
-ghost use Rattle.goblin_pe.specs.added.LayoutCursors.{file_cursor_left, file_map, import_begin};
-ghost use Rattle.goblin_pe.specs.added.Layouts.{IsExportWalk, IsFileImportsCause};
+ghost use Rattle.goblin_pe.specs.added.Layouts.{GivesFirst, IsFileCursorCause, IsImportWalkAt};
+ghost use Rattle.goblin_pe.specs.added.Layouts.{PartBegins, file_cursor_left, file_map};
+ghost use Rattle.goblin_pe.specs.added.Layouts.{import_begin, IsExportWalk, IsFileImportsCause};
 ghost use Rattle.goblin_pe.specs.added.Layouts.{PartWalks, file_imports_left, layout_bytes};
 ghost use Rattle.goblin_pe.specs.added.Layouts.{layout_map, layout_places, layout_sections};
-ghost use Rattle.goblin_pe.specs.added.Layouts.{GivesLayout, address_part, directory_data, directory_part};
-ghost use Rattle.goblin_pe.specs.added.Layouts.{layout_table, walked_exports};
+ghost use Rattle.goblin_pe.specs.added.Layouts.{GivesLayout, address_part, directory_data};
+ghost use Rattle.goblin_pe.specs.added.Layouts.{directory_part, layout_table, walked_exports};
 ghost use Rattle.goblin_pe_export.specs.added.ExportWalks.{walked_tables};
-ghost use Rattle.goblin_pe.specs.Whole.{IfRead, directory_offset, entry_format, export_part};
+ghost use Rattle.goblin_pe.specs.Whole.{BecomesPart, IfRead, directory_offset, entry_format, export_part};
 ghost use Rattle.goblin_pe.specs.Whole.{import_list};
 ghost use Rattle.goblin_pe.specs.Whole.{part_map, relocation_part, section_table_offset, places_in};
 ghost use Rattle.goblin_pe.specs.Whole.{sections_after, table_places};
@@ -258,14 +257,14 @@ impl<'a> Layout<'a> {
     /// # Errors
     /// In strict mode as [`Imports::of`](crate::added::Imports::of).
     #[inline(always)]
-    #[tactic(auto, unfolding(crate::specs::added::LayoutCursors::import_begin))]
+    #[tactic(auto, unfolding(crate::specs::added::Layouts::import_begin))]
     pub fn imports<'m, 'e>(&'m self) -> ResultOf<'e, Part<FileImports<'a, 'm, 'e>>>
         ensures walks { PartWalks file_imports_left IsFileImportsCause (λ xs. xs) result
             (layout_table import_list self.now) (layout_bytes self.now) }
         ensures starts { let m = layout_map self.now in
             let places = layout_places self.now in
-            StartsAt m places.magic (layout_bytes self.now)
-            (import_begin m.opts m.addressing places) result }
+            GivesFirst (PartBegins m places.magic (layout_bytes self.now))
+            (import_begin m.opts m.addressing places) (layout_bytes self.now) result }
         ensures over { IfOk result (IfRead (λ walk. file_map walk ≡ layout_map self.now)) }
     {
         let opts = self.address_map.opts();
@@ -283,7 +282,7 @@ impl<'a> Layout<'a> {
     ///
     /// # Errors
     /// In strict mode as [`ImportCursor::first`].
-    #[tactic(auto, unfolding(crate::specs::added::LayoutCursors::import_begin))]
+    #[tactic(auto, unfolding(crate::specs::added::Layouts::import_begin))]
     pub fn imports_begin<'e>(&self) -> ResultOf<'e, ImportCursor>
         ensures { let m = layout_map self.now in
             Reads (λ c. c) result (import_begin m.opts m.addressing (layout_places self.now))
@@ -335,10 +334,7 @@ impl<'a> Layout<'a> {
         let Some(directory) = self.places.directory(EXPORT_TABLE) else {
             return Ok(Part::Absent);
         };
-        part_of(
-            Exports::by(self.bytes, directory, self.finder()),
-            self.address_map.opts(),
-        )
+        self.part(Exports::by(self.bytes, directory, self.finder()))
     }
 
     /// The export directory without the names of the exports: its export directory table, the name
@@ -360,10 +356,7 @@ impl<'a> Layout<'a> {
         let Some(directory) = self.places.directory(EXPORT_TABLE) else {
             return Ok(Part::Absent);
         };
-        part_of(
-            Exports::addresses_of(self.bytes, directory, &self.address_map),
-            self.address_map.opts(),
-        )
+        self.part(Exports::addresses_of(self.bytes, directory, &self.address_map))
     }
 
     /// A finder of file offsets, over the address map of this layout.
@@ -414,10 +407,15 @@ impl<'a> Layout<'a> {
         let Some(directory) = self.places.directory(index) else {
             return Ok(Part::Absent);
         };
-        part_of(self.bytes_of(directory), self.address_map.opts())
+        self.part(self.bytes_of(directory))
     }
 
-    // The bytes of a data directory.
+    fn part<'e, T: Drop>(&self, table: ResultOf<'e, T>) -> ResultOf<'e, Part<T>>
+        ensures { BecomesPart (reads_strictly (layout_map self.now)) table.entry result }
+    {
+        part_of(table, self.address_map.opts())
+    }
+
     fn bytes_of(&self, directory: DataDirectory) -> Result<&'a [u8]>
         ensures { let m = layout_map self.now in
             Reads (λ b. b.now) result (directory_data m.addressing directory)
@@ -468,7 +466,6 @@ impl<'a> Layout<'a> {
         }
     }
 
-    // A walk over the imports of a directory.
     #[inline(always)]
     #[tactic(auto, unfolding(crate::specs::Whole::entry_format))]
     fn imports_in<'m, 'e>(
@@ -484,8 +481,8 @@ impl<'a> Layout<'a> {
             (layout_bytes self.now) }
         ensures first { let m = layout_map self.now in
             let rva = directory.virtual_address in
-            GivesFirst m (layout_places self.now).magic (layout_bytes self.now)
-            (first_import (reads_strictly m) m.addressing rva) result }
+            GivesFirst (IsImportWalkAt m (layout_places self.now).magic (layout_bytes self.now))
+            (first_import (reads_strictly m) m.addressing rva) (layout_bytes self.now) result }
         ensures over { IfOk result (λ walk. file_map walk ≡ layout_map self.now) }
     {
         if self.places.has_narrow_entries() {

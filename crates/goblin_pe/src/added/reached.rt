@@ -13,7 +13,6 @@ use goblin_pe_export::added::add_exports;
 use goblin_pe_import::laws::add_imports;
 
 impl Layout<'_> {
-    // Marks what the imports reach, if they are asked for and there is a directory for them.
     #[tactic(auto, unfolding(crate::specs::Whole::numbered_data_part, crate::specs::Whole::entry_format), using(goblin_base::proofs::Marks::marking, crate::proofs::added::TablesReached::numbered_marked))]
     fn mark_imports(&self, marks: &mut Marks)
         ensures { let read = layout_table numbered_data_part self.now in
@@ -32,7 +31,6 @@ impl Layout<'_> {
         }
     }
 
-    // Marks what the exports reach, if there is a directory for them.
     #[tactic(auto, unfolding(crate::specs::Whole::export_part), using(goblin_base::proofs::Marks::marking))]
     fn mark_exports(&self, marks: &mut Marks)
         ensures { let read = layout_table export_part self.now in
@@ -44,7 +42,6 @@ impl Layout<'_> {
         }
     }
 
-    // Marks the bytes of the base relocations, if there is a directory for them.
     #[tactic(auto, unfolding(crate::specs::Whole::relocation_part, goblin_pe_sect::specs::AddressReadings::relocation_data), using(goblin_base::proofs::Marks::marking))]
     fn mark_relocations(&self, marks: &mut Marks)
         ensures { let read = layout_table relocation_part self.now in

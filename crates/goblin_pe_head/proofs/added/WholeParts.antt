@@ -1,5 +1,5 @@
 -- The parts of a header that is read as a whole, each read by itself, are its parts.
-use Rattle.std.proofs.Common.{◌≡◌, ℕ, ◌+◌, ◌≤◌, Bool, true, false, cond, nat_le, List, drop, Option, Some, None, Result, Ok, Err, refl, sym, ap, ◌∙◌, arith, inl, inr, ◌==◌, IfSome, option_map, unwrap_or}
+use Rattle.std.proofs.Common.{replicate, ◌≡◌, ℕ, ◌+◌, ◌≤◌, Bool, true, false, cond, nat_le, List, drop, Option, Some, None, Result, Ok, Err, refl, sym, ap, ◌∙◌, arith, inl, inr, ◌==◌, IfSome, option_map, unwrap_or}
 use Rattle.std.specs.Prelude.{min}
 use Rattle.std.proofs.lemmas.Bool.{leb-true}
 use Rattle.goblin_base.specs.declared.error.ErrorOf.{ErrorOf}
@@ -14,7 +14,7 @@ use Rattle.goblin_pe_head.specs.declared.added.parts.HeaderParts.{HeaderParts}
 use Rattle.goblin_pe_head.specs.declared.optional_header.OptionalHeader.{OptionalHeader}
 use Rattle.goblin_pe_head.specs.declared.optional_header.standard_fields.StandardFields.{StandardFields}
 use Rattle.goblin_pe_head.specs.declared.optional_header.windows_fields.WindowsFields64.{WindowsFields64}
-use Rattle.goblin_pe_head.specs.added.HeaderParts.{AreOfHeader, AreOfWhole, ArePartsOf, coff_part, directories_front, optional_part, placed_coff, standard_front, no_directories, no_windows_fields, windows_front}
+use Rattle.goblin_pe_head.specs.added.HeaderParts.{AreOfHeader, AreOfWhole, ArePartsOf, coff_part, directories_front, optional_part, placed_coff, standard_front, no_windows_fields, windows_front}
 use Rattle.goblin_pe_head.specs.HeaderReadings.{dos_header, optional_at, optional_header, pe_header}
 use Rattle.goblin_pe_head.specs.OptionalHeader.{fields_size}
 use Rattle.goblin_pe_head.specs.PeHeader.{PeHeader}
@@ -92,7 +92,7 @@ answered view (Err error) reading bytes y reads e = absurd (cc (reads.0, e))
 remade : (o : Option OptionalHeader) (s : Option StandardFields) (w : Option WindowsFields64) (d : Option DataDirectories)
     → s ≡ option_map (λ h. h.standard_fields) o → w ≡ option_map (λ h. h.windows_fields) o
     → option_map (λ d. d.data_directories) d ≡ option_map (λ h. h.data_directories.data_directories) o
-    → option_map (λ standard. record { standard_fields = standard; windows_fields = unwrap_or w no_windows_fields; data_directories = unwrap_or d no_directories }) s ≡ o
+    → option_map (λ standard. record { standard_fields = standard; windows_fields = unwrap_or w no_windows_fields; data_directories = unwrap_or d (record { data_directories = replicate 16 None }) }) s ≡ o
 remade None s w d es ew ed = rw es refl
 remade (Some h) s w None es ew ed = absurd cc
 remade (Some h) s w (Some d) es ew ed =

@@ -103,32 +103,21 @@ pub record ArePartsOf (bytes : List ℕ) (parts : HeaderParts) : Type 0 where
 abbrev pub no_windows_fields : WindowsFields64
 no_windows_fields = windows_record 8 Little (replicate 88 0)
 
--- no data directories
-abbrev pub no_directories : DataDirectories
-no_directories = record { data_directories = replicate 16 None }
-
 -- the part of an optional header, if it could be read
 abbrev pub part_given : {A : Type 0} → Result (Option A) ErrorOf → Option A
 part_given (Ok part) = part
 part_given (Err e) = None
 
--- the optional header of these parts; Windows fields that are missing are zeros, and data
--- directories that are missing are none
-abbrev pub optional_of : StandardFields → Option WindowsFields64 → Option DataDirectories
-    → OptionalHeader
-optional_of standard windows directories = record {
-  standard_fields = standard;
-  windows_fields = unwrap_or windows no_windows_fields;
-  data_directories = unwrap_or directories no_directories;
-}
-
--- the optional header of the parts that could be read; there is none without standard fields
+-- The optional header of the parts that could be read. There is none without standard fields.
+-- Windows fields that are missing are zeros, and data directories that are missing are none.
 abbrev pub known_optional : HeaderParts → Option OptionalHeader
 known_optional parts =
-    option_map
-    (λ standard. optional_of standard (part_given parts.windows_fields)
-    (part_given parts.data_directories))
-    (part_given parts.standard_fields)
+    let none : DataDirectories = record { data_directories = replicate 16 None } in
+    option_map (λ standard. record {
+      standard_fields = standard;
+      windows_fields = unwrap_or (part_given parts.windows_fields) no_windows_fields;
+      data_directories = unwrap_or (part_given parts.data_directories) none;
+    }) (part_given parts.standard_fields)
 
 -- If a header is read as a whole, the parts that are read by themselves are its parts.
 pub record AreOfHeader (h : PeHeader) (parts : HeaderParts) : Type 0 where

@@ -29,7 +29,6 @@ const SIZEOF_MAGIC: usize = 2;
 // The size of the marker of a Rich header with the key after it, in bytes.
 const SIZEOF_MARKER_AND_KEY: usize = 8;
 
-// Marks the footprint of the DOS header, and of the PE signature to which it points.
 #[tactic(auto, using(goblin_base::proofs::Marks::marking))]
 fn add_dos_header(marks: &mut Marks, bytes: &[u8])
     ensures { marks.new ≡ marked marks.old (reading.dos_header.reaches bytes.now) }
@@ -59,7 +58,6 @@ fn add_searched(marks: &mut Marks, stretch: &[u8], place: Option<usize>, width: 
     }
 }
 
-// Marks the bytes that the search for a Rich header looked at in a stretch after the DOS header.
 #[tactic(auto, using(goblin_base::proofs::Marks::marking, crate::proofs::added::HeaderRanges::no_marker))]
 fn add_markers(marks: &mut Marks, stretch: &[u8])
     requires { length stretch.now + 64 < 2 ^ 32 }
@@ -76,7 +74,6 @@ fn add_markers(marks: &mut Marks, stretch: &[u8])
     add_searched(marks, stretch, dans_place(stretch, key), DANS_MARKER_SIZE)
 }
 
-// Marks the footprint of the Rich header before a PE signature.
 #[tactic(auto, unfolding(crate::specs::RichHeader::rich_at), using(goblin_base::proofs::Marks::marking))]
 fn add_rich(marks: &mut Marks, bytes: &[u8], pe_pointer: u32)
     requires { pe_pointer ≤ length bytes.now }
@@ -104,7 +101,6 @@ fn add_records(marks: &mut Marks, bytes: &[u8], offset: usize, sizes: (usize, us
     add_slice(marks, bytes, offset + first, second)
 }
 
-// Marks the fields of the optional header at an offset, in the width that the magic gives.
 #[tactic(auto, unfolding(crate::specs::HeaderReadings::fixed_fields), using(goblin_base::proofs::Marks::marking, crate::proofs::added::HeaderRanges::fields_32, crate::proofs::added::HeaderRanges::fields_64, crate::proofs::added::HeaderRanges::no_fields))]
 fn add_fields(marks: &mut Marks, bytes: &[u8], offset: usize, magic: u16)
     requires { offset ≤ length bytes.now }
@@ -120,7 +116,6 @@ fn add_fields(marks: &mut Marks, bytes: &[u8], offset: usize, magic: u16)
     }
 }
 
-// Marks the footprint of the optional header at an offset.
 #[tactic(auto, using(goblin_base::proofs::Marks::marking))]
 fn add_optional_header(marks: &mut Marks, bytes: &[u8], offset: usize)
     requires { offset ≤ length bytes.now }
@@ -140,7 +135,6 @@ fn add_optional_header(marks: &mut Marks, bytes: &[u8], offset: usize)
     add_directories(marks, bytes, count, offset + fields.size)
 }
 
-// Marks the footprint of the parts from the signature at an offset on.
 #[tactic(auto, using(goblin_base::proofs::Marks::marking))]
 fn add_parts(marks: &mut Marks, bytes: &[u8], offset: usize)
     requires { offset ≤ length bytes.now }

@@ -6,7 +6,7 @@ ghost use Rattle.goblin_pe_sect.specs.SectionTable.{recorded_sections};
 ghost use Rattle.goblin_pe_head.specs.HeaderReadings.{dos_header as file_dos_header, optional_with};
 ghost use Rattle.goblin_pe_head.specs.added.HeaderParts as reading;
 ghost use Rattle.goblin_pe_head.specs.added.HeaderParts.{AreOfWhole, ArePartsOf, known_optional};
-ghost use Rattle.goblin_pe_head.specs.added.HeaderParts.{no_directories, no_windows_fields};
+ghost use Rattle.goblin_pe_head.specs.added.HeaderParts.{no_windows_fields};
 ghost use Rattle.goblin_pe_head.specs.added.HeaderParts.{part_given, sections_there};
 ghost use Rattle.goblin_pe_head.specs.added.HeaderParts.{unnamed_sections};
 
@@ -63,7 +63,6 @@ fn again(error: &Error) -> Error
     }
 }
 
-// The file offset just past the COFF header, and the COFF header.
 #[tactic(auto, unfolding(crate::specs::added::HeaderParts::placed_coff))]
 fn placed_coff(bytes: &[u8], dos_header: &Result<DosHeader>) -> Result<(usize, CoffHeader)>
     requires { Reads (λ h. h) dos_header.now file_dos_header bytes.now }
@@ -80,7 +79,6 @@ fn placed_coff(bytes: &[u8], dos_header: &Result<DosHeader>) -> Result<(usize, C
     }
 }
 
-// The standard fields of the optional header of this size at `offset`.
 #[tactic(auto, unfolding(crate::specs::added::HeaderParts::standard_front))]
 fn standard_fields(bytes: &[u8], offset: usize, size: u16) -> Result<Option<StandardFields>>
     requires { offset ≤ length bytes.now }
@@ -96,7 +94,6 @@ fn standard_fields(bytes: &[u8], offset: usize, size: u16) -> Result<Option<Stan
     Ok(Some(fields))
 }
 
-// The Windows fields of the optional header of this size at `offset`.
 #[tactic(auto, unfolding(crate::specs::added::HeaderParts::windows_front))]
 fn windows_fields(bytes: &[u8], offset: usize, size: u16) -> Result<Option<WindowsFields>>
     requires { offset ≤ length bytes.now }
@@ -112,7 +109,6 @@ fn windows_fields(bytes: &[u8], offset: usize, size: u16) -> Result<Option<Windo
     Ok(Some(fields))
 }
 
-// The first sixteen data directories of the optional header of this size at `offset`.
 #[tactic(auto, unfolding(crate::specs::added::HeaderParts::directories_front))]
 fn data_directories(bytes: &[u8], offset: usize, size: u16) -> Result<Option<DataDirectories>>
     requires { offset ≤ length bytes.now }
@@ -166,7 +162,6 @@ pub fn unnamed_records(bytes: &[u8], offset: usize, count: u16) -> Result<Sectio
     section_records_at(bytes, offset, count)
 }
 
-// The `count` section headers at `offset`, or as many as the file has.
 fn section_records(bytes: &[u8], offset: usize, count: u16) -> Result<SectionRecords<'_>>
     ensures { Reads recorded_sections result (reading.whole_sections count offset) bytes.now }
 {
@@ -225,7 +220,6 @@ impl<'a> HeaderParts<'a> {
     }
 }
 
-// The Windows fields, or zeros if there are none.
 #[tactic(auto, unfolding(goblin_base::specs::Bytes::number))]
 fn windows_or_zeros(fields: Option<WindowsFields>) -> WindowsFields
     ensures { result ≡ unwrap_or fields no_windows_fields }
@@ -233,7 +227,6 @@ fn windows_or_zeros(fields: Option<WindowsFields>) -> WindowsFields
     fields.unwrap_or_default()
 }
 
-// The part of an optional header, if it could be read.
 fn given<T: Copy>(part: &Result<Option<T>>) -> Option<T>
     ensures { result ≡ part_given part.now }
 {

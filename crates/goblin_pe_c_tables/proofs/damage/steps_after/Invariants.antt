@@ -1,7 +1,6 @@
 -- The steps that are gone are those that are no longer ahead.
 use Rattle.std.proofs.Common.{Some}
-use Rattle.goblin_pe.specs.added.LayoutCursors.{IsImportWalk, file_ahead}
-use Rattle.goblin_pe.specs.added.Layouts.{file_imports_bound, layout_map, layout_places}
+use Rattle.goblin_pe.specs.added.Layouts.{IsImportWalk, file_ahead, file_imports_bound, layout_map, layout_places}
 use Rattle.goblin_pe_import.specs.Steps.{AreCounted}
 use Rattle.goblin_pe_c_tables.specs.Damages.{all_imports}
 use Rattle.goblin_pe_c_tables.proofs.damage.steps_after.Given as goal

@@ -1,12 +1,7 @@
 use Rattle.goblin_pe_import.specs.added.ImportWalks.{walked_value}
 use Rattle.goblin_pe.specs.added.Layouts.{IsFileImportsCause, file_imports_left}
-use Rattle.goblin_pe.proofs.added.Walked.{walked-all, walked-fault, walked-more, walked-start}
+use Rattle.goblin_pe.proofs.added.Walked.{walked-all, walked-fault, walked-more}
 use Rattle.goblin_pe.proofs.added.damage.refusal_of.Goals as goal
-
-pub imports-init : goal.imports-init
-imports-init c =
-    rw c.into_iter-import-iterator.ensures.into_iter_gives
-    (walked-start file_imports_left IsFileImportsCause c.args.imports)
 
 pub returns-in-Err : goal.returns-in-Err
 returns-in-Err c =

@@ -1,17 +1,12 @@
 use Rattle.std.proofs.Common.{◌≡◌, ℕ, ◌+◌, ◌-◌, ◌^◌, Bool, true, false, cond, ap, arith, refl, ◌∙◌, count_by, min}
 use Rattle.std.proofs.lemmas.Result.{err_from_is_err_and}
 use Rattle.std.proofs.lemmas.Fn.{says_at}
-use Rattle.readings.specs.added.Questions.{counted}
-use Rattle.goblin_pe.proofs.added.Folds.{count_more, gathers_all, gathers_fault, gathers_start}
+use Rattle.goblin_pe.proofs.added.Folds.{count_more, gathers_all, gathers_fault}
 use Rattle.goblin_pe.proofs.added.file_imports.FileImports.count_imports.Goals as goal
 
 -- a count is at most the greatest number already
 capped-same : (n k m : ℕ) → n ≡ min k m → n ≡ min (n + 0) m
 capped-same n k m is = omega (arith, is)
-
-pub imports-init : goal.imports-init
-imports-init g c = λ p is.
-    rw c.into_iter-import-iterator.ensures.into_iter_gives (gathers_start (counted p) c.args.self 0 refl)
 
 pub returns-in_err-import : goal.returns-in_err-import
 returns-in_err-import g c = λ p is.

@@ -1,10 +1,10 @@
-use Rattle.std.proofs.Common.{◌≡◌, Bool, true, false, cond, not, Option, Some, None, ap, refl, ◌∙◌, find, option_map}
+use Rattle.std.proofs.Common.{◌≡◌, Bool, true, false, cond, not, Option, Some, None, ap, refl, ◌∙◌, option_map}
 use Rattle.std.specs.Option.{is_some, option_or}
 use Rattle.std.proofs.lemmas.Result.{err_from_is_err_and}
 use Rattle.std.proofs.lemmas.Fn.{says_at}
 use Rattle.goblin_pe_import.specs.declared.added.imports.WalkedImport.{WalkedImport}
 use Rattle.goblin_pe_import.specs.added.ImportWalks.{walked_value}
-use Rattle.goblin_pe.proofs.added.Folds.{find_more, gathers_all, gathers_fault, gathers_start}
+use Rattle.goblin_pe.proofs.added.Folds.{find_more, gathers_all, gathers_fault}
 use Rattle.goblin_pe.proofs.added.file_imports.FileImports.find_import.Goals as goal
 use Rattle.goblin_pe.proofs.added.file_imports.FileImports.find_import.Goals.{else-is_none-via-then-is_none+else-test, else-is_none-via-else-is_none}
 
@@ -25,10 +25,6 @@ still-found : (o : Option WalkedImport) (r b : Bool) (x : WalkedImport) → is_s
     → option_map walked_value o ≡ option_or (option_map walked_value o) (cond b (Some (walked_value x)) None)
 still-found None r b x some fails = let wrong : false ≡ true = some ∙ ap not fails in absurd cc
 still-found (Some y) r b x some fails = refl
-
-pub imports-init : goal.imports-init
-imports-init g c = λ p is.
-    rw c.into_iter-import-iterator.ensures.into_iter_gives (gathers_start (find p) c.args.self None refl)
 
 pub returns-in_err-import : goal.returns-in_err-import
 returns-in_err-import g c = λ p is.

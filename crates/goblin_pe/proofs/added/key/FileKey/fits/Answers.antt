@@ -1,4 +1,4 @@
-use Rattle.std.proofs.Common.{List, subst, sym, ◌∙◌, eqb-true, All}
+use Rattle.std.proofs.Common.{List, subst, sym, All}
 use Rattle.goblin_pe.specs.added.Keys.{HasKeptRange, KeptRange}
 use Rattle.goblin_pe.specs.Whole.{whole_file}
 use Rattle.goblin_pe.proofs.added.Keys.{agree-there, there-agree}
@@ -15,6 +15,3 @@ returns-then-file-self-clause-exact c = λ opts was is.
 pub returns-then-file-self-clause-value : goal.returns-then-file-self-clause-value
 returns-then-file-self-clause-value c = λ opts was is yes.
     (whole_file opts).is_local was c.args.file.now ((returns-then-file-self-clause-exact c opts was is).0 yes)
-
-pub returns-else-file-self-clause-exact : goal.returns-else-file-self-clause-exact
-returns-else-file-self-clause-exact c = λ opts was is. (λ yes. absurd (c.if-file-self.false (eqb-true _ _ yes)), λ agree. absurd (c.if-file-self.false (sym (is.same_length ∙ agree.same_length))))

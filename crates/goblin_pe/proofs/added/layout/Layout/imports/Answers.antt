@@ -48,11 +48,3 @@ returns-in_err-imports-in-Some-clause-starts c =
     let e = err_from_is_err_and c.from_residual.result c.from_residual.ensures.1 in
     let refused = rw c.in_err-imports-in-Some.was at c.imports_in.ensures.first in
     rw (e.1, e.2) (begin-value m (layout_places l) (layout_bytes l) _ asked there ∙ refused.0, begin-cause m (layout_places l) (layout_bytes l) _ asked there _ refused.1)
-
-pub returns-in_ok-imports-in-Some-clause-starts : goal.returns-in_ok-imports-in-Some-clause-starts
-returns-in_ok-imports-in-Some-clause-starts c =
-    let l = c.args.self.now in
-    let m = layout_map l in
-    let asked : m.opts.parse_imports ≡ true = sym (ap (λ (o : ParseOptions). o.parse_imports) c.opts-opts.ensures) ∙ c.if-opts.true in
-    rw (begin-value m (layout_places l) (layout_bytes l) c.in-Some.directory asked (sym c.directory.ensures ∙ c.in-Some.is))
-    (rw c.in_ok-imports-in-Some.was at c.imports_in.ensures.first)
