@@ -10,11 +10,10 @@ use Rattle.goblin_pe_sect.specs.Addresses.{MapOfAddresses}
 use Rattle.goblin_pe_import.specs.Imports.{NumberedImport}
 use Rattle.goblin_pe_import.specs.KeptEntries.{entries_from}
 use Rattle.goblin_pe_import.specs.added.ImportWalks.{imports_next, walked_value}
-use Rattle.goblin_pe.specs.added.Layouts.{GivesFileWithin, IsImportWalk, file_ahead, file_bytes, file_cursor, file_cursor_ahead, file_cursor_left}
+use Rattle.goblin_pe.specs.added.Layouts.{GivesFileWithin, IsImportWalk, file_ahead, file_bytes, file_cursor, file_cursor_ahead, file_cursor_left, file_imports_left}
 use Rattle.goblin_pe_import.specs.Steps.{AreCounted}
 use Rattle.goblin_pe_import.specs.added.StepsAhead.{AtSteps, HaveRunOut}
 use Rattle.goblin_pe.proofs.added.ImportStarts.{walk-ahead, walk-left}
-use Rattle.goblin_pe.specs.added.Layouts.{file_imports_left}
 use Rattle.goblin_pe.specs.Whole.{TablePlaces}
 use Rattle.goblin_pe.specs.declared.added.file_imports.FileImports.{FileImports}
 use Rattle.goblin_pe.specs.declared.added.file_imports.FileImports.TheVariants.{Narrow, Wide}

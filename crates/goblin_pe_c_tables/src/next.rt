@@ -3,11 +3,10 @@
 ghost use Rattle.std.specs.Prelude.{◌≡◌, ◌⊎◌, ◌+◌, ◌<◌, ◌≤◌, IfErr, MatchResult, length, max, min};
 ghost use Rattle.goblin_base.specs.Answers.{IsMemory};
 ghost use Rattle.goblin_base.specs.Reading.{Reads};
-ghost use Rattle.goblin_pe.specs.added.Layouts.{file_ahead};
+ghost use Rattle.goblin_pe.specs.added.Layouts.{file_ahead, IsFileImportsCause, file_imports_left};
+ghost use Rattle.goblin_pe.specs.added.Layouts.{layout_map, layout_bytes, layout_places};
 ghost use Rattle.goblin_pe_export.specs.added.ExportWalks.{KeepsOver, exports_left};
 ghost use Rattle.goblin_pe_export.specs.added.ExportWalks.{exports_position, pointer_count};
-ghost use Rattle.goblin_pe.specs.added.Layouts.{IsFileImportsCause, file_imports_left, layout_map};
-ghost use Rattle.goblin_pe.specs.added.Layouts.{layout_bytes, layout_places};
 ghost use Rattle.goblin_pe_c_tables.specs.Batches.{Fills, GivesExports, GivesImports, GivesInFile};
 ghost use Rattle.goblin_pe_c_tables.specs.Batches.{GoesOn, IsExportBatchFault, IsImportsFault};
 ghost use Rattle.goblin_pe_c_tables.specs.Batches.{batch_at, cursor_for_c, cursor_from_c, is_over};

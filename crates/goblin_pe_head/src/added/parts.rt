@@ -6,9 +6,8 @@ ghost use Rattle.goblin_pe_sect.specs.SectionTable.{recorded_sections};
 ghost use Rattle.goblin_pe_head.specs.HeaderReadings.{dos_header as file_dos_header, optional_with};
 ghost use Rattle.goblin_pe_head.specs.added.HeaderParts as reading;
 ghost use Rattle.goblin_pe_head.specs.added.HeaderParts.{AreOfWhole, ArePartsOf, known_optional};
-ghost use Rattle.goblin_pe_head.specs.added.HeaderParts.{no_windows_fields};
-ghost use Rattle.goblin_pe_head.specs.added.HeaderParts.{part_given, sections_there};
-ghost use Rattle.goblin_pe_head.specs.added.HeaderParts.{unnamed_sections};
+ghost use Rattle.goblin_pe_head.specs.added.HeaderParts.{no_windows_fields, part_given};
+ghost use Rattle.goblin_pe_head.specs.added.HeaderParts.{sections_there, unnamed_sections};
 
 use crate::header::{CoffHeader, DosHeader, SIZEOF_PE_MAGIC};
 use crate::optional_header::{

@@ -25,8 +25,7 @@ use Rattle.goblin_pe_import.specs.added.ImportCursors.{before_record}
 use Rattle.goblin_pe_import.specs.ImportReadings.{at_index, first_record_offset, kept_library, library_of, numbered_data, numbered_libraries_at, read_if, read_past_front}
 use Rattle.goblin_pe_import.specs.ImportRecords.{ImportedLibrary, NumberedLibrary, import_record, import_slots, lookup_offset}
 use Rattle.goblin_pe_import.specs.Imports.{ImportValue, NumberedImport, at_library, import_at, import_of, imports_by, numbered_imports}
-use Rattle.goblin_pe_import.specs.added.ImportWalks.{imports_from_record, library_items, addresses_of, imports_next, library_name, record_index, IsCursorCause, IsImportsCause, IsWalkAt, cursor_of, imports_bytes, imports_left, imports_map}
-use Rattle.goblin_pe_import.specs.added.ImportWalks.{items_left, kept_import, no_imports}
+use Rattle.goblin_pe_import.specs.added.ImportWalks.{imports_from_record, library_items, addresses_of, imports_next, library_name, record_index, IsCursorCause, IsImportsCause, IsWalkAt, cursor_of, imports_bytes, imports_left, imports_map, items_left, kept_import, no_imports}
 use Rattle.goblin_pe_import.specs.KeptEntries.{entries_from, KeptValue, kept_at}
 use Rattle.goblin_pe_import.specs.declared.added.imports.ImportCursor.{ImportCursor}
 use Rattle.goblin_pe_import.specs.declared.added.imports.Imports.{Imports}

@@ -1,7 +1,5 @@
 -- The walk over all imports: what is still to come.
-use Rattle.std.specs.Prelude.{◌≡◌, ◌+◌, ◌-◌, ◌*◌, ◌/◌, not, [], ◌∷◌, map, Some, None, Ok, Err}
-use Rattle.std.specs.Prelude.{ℕ, if◌then◌else◌, length, option_map, unwrap_or, is_none, MatchOption}
-use Rattle.std.specs.Prelude.{Bool, ◌&&◌, true, List, ◌++◌, Option, Result, IfErr, IfSome, IsSomeAnd}
+use Rattle.std.specs.Prelude.{◌≡◌, ◌+◌, ◌-◌, ◌*◌, ◌/◌, not, [], ◌∷◌, map, Some, None, Ok, Err, ℕ, if◌then◌else◌, length, option_map, unwrap_or, is_none, MatchOption, Bool, ◌&&◌, true, List, ◌++◌, Option, Result, IfErr, IfSome, IsSomeAnd}
 use Rattle.std.specs.Option.{option_len}
 use Rattle.goblin_base.specs.declared.error.ErrorOf.{ErrorOf}
 use Rattle.goblin_base.specs.Answers.{FirstFault, IsMemory, all_of}

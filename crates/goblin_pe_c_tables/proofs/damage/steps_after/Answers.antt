@@ -1,8 +1,7 @@
 use Rattle.std.proofs.Common.{Result, Some, subst}
 use Rattle.goblin_base.specs.declared.error.ErrorOf.{ErrorOf}
 use Rattle.goblin_pe_import.specs.declared.added.imports.WalkedImport.{WalkedImport}
-use Rattle.goblin_pe.specs.added.Layouts.{GivesFileWithin}
-use Rattle.goblin_pe.specs.added.Layouts.{layout_map, layout_places}
+use Rattle.goblin_pe.specs.added.Layouts.{GivesFileWithin, layout_map, layout_places}
 use Rattle.goblin_pe_c_tables.proofs.DamageSteps.{counted-then}
 use Rattle.goblin_pe_c_tables.proofs.damage.steps_after.Goals as goal
 

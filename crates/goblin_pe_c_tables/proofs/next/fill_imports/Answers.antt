@@ -1,8 +1,7 @@
 use Rattle.std.proofs.Common.{◌∙◌, Some, Result, ap, subst, sym}
 use Rattle.goblin_base.specs.declared.error.ErrorOf.{ErrorOf}
 use Rattle.goblin_pe_import.specs.declared.added.imports.WalkedImport.{WalkedImport}
-use Rattle.goblin_pe.specs.added.Layouts.{GivesFileWithin}
-use Rattle.goblin_pe.specs.added.Layouts.{layout_map, layout_places}
+use Rattle.goblin_pe.specs.added.Layouts.{GivesFileWithin, layout_map, layout_places}
 use Rattle.goblin_pe_c_tables.proofs.ImportBatches.{goes-at, imports-end, imports-full, imports-refused, library-given, library-more}
 use Rattle.goblin_pe_c_tables.specs.Batches.{is_over}
 use Rattle.goblin_pe_c_tables.proofs.next.fill_imports.Goals as goal
