@@ -8,7 +8,7 @@ from tests.programs import CRATES, TOP
 GOBLIN = ("goblin_base", "readings", "goblin_pe_sect", "goblin_pe_symbol", "goblin_pe_head", "goblin_pe_import", "goblin_pe_export",
           "goblin_pe")
 FOR_C = ("goblin_pe_c_headers", "goblin_pe_c_tables", "goblin_pe_capi")
-NAMED = re.compile(r"\b(?:specs|proofs|declared|crate|super|self|readings|goblin_\w+)(?:::|\.)added\b|\badded::|[{,]\s*added\s*[,}:.]")
+NAMED = re.compile(r"\b(?:specs|proofs|declared|crate|super|self|readings|base|sect|symbol|head|import|export|goblin_\w+)(?:::|\.)added\b|\badded::|[{,]\s*added\s*[,}:.]")
 
 
 def files(part, crates, added):
