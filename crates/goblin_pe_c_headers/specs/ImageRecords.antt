@@ -1,24 +1,12 @@
 -- The record of an image, as definitions.
 use Rattle.std.specs.Prelude.{◌≡◌, ℕ, List, [], ◌∷◌, false, replicate}
 use Rattle.goblin_pe_head.specs.added.HeaderParts.{no_windows_fields}
-use Rattle.goblin_pe_head.specs.PeHeader.{zero_dos_header}
-use Rattle.goblin_pe_head.specs.declared.header.coff.CoffHeader.{CoffHeader}
+use Rattle.goblin_pe_head.specs.PeHeader.{zero_coff_header, zero_dos_header}
 use Rattle.goblin_pe_c_headers.specs.declared.image.PeImage.{PeImage}
 use Rattle.goblin_pe_c_headers.specs.declared.image.PeRichHeader.{PeRichHeader}
 use Rattle.goblin_pe_c_headers.specs.declared.options.PeOptions.{PeOptions}
 use Rattle.goblin_pe_c_headers.specs.Headers.{no_standard_fields}
 use Rattle.goblin_pe_sect.specs.DataDirectories.{no_directory}
-
-abbrev pub zero_coff_header : CoffHeader
-zero_coff_header = record {
-  machine = 0;
-  number_of_sections = 0;
-  time_date_stamp = 0;
-  pointer_to_symbol_table = 0;
-  number_of_symbol_table = 0;
-  size_of_optional_header = 0;
-  characteristics = 0;
-}
 
 abbrev pub no_rich_header : PeRichHeader
 no_rich_header = record {

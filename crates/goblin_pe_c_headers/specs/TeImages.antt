@@ -7,7 +7,8 @@ use Rattle.goblin_pe_head.specs.declared.header.te.TeHeader.{TeHeader}
 use Rattle.goblin_pe_head.specs.TeHeader.{te_image}
 use Rattle.goblin_pe_c_headers.specs.declared.image.PeImage.{PeImage}
 use Rattle.goblin_pe_c_headers.specs.declared.options.PeOptions.{PeOptions}
-use Rattle.goblin_pe_c_headers.specs.ImageRecords.{IsImage, zero_coff_header, zero_image}
+use Rattle.goblin_pe_head.specs.PeHeader.{zero_coff_header}
+use Rattle.goblin_pe_c_headers.specs.ImageRecords.{IsImage, zero_image}
 use Rattle.goblin_pe_c_headers.specs.Options.{header_options, longest_of}
 use Rattle.goblin_pe_c_headers.specs.Sections.{RowsHold}
 

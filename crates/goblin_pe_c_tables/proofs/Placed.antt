@@ -29,7 +29,7 @@ use Rattle.goblin_pe_c_headers.specs.Headers.{optional_record}
 use Rattle.goblin_pe_c_headers.specs.Places.{number_if}
 use Rattle.goblin_pe_c_tables.specs.Places.{LeadsBack}
 use Rattle.goblin_pe_c_tables.specs.ReadImages.{ImageLeadsBack}
-use Rattle.goblin_pe_c_headers.specs.ImageRecords.{zero_coff_header}
+use Rattle.goblin_pe_head.specs.PeHeader.{zero_coff_header}
 use Rattle.goblin_pe_c_tables.specs.PartialImages.{AreOfLayout, given_count, given_or, given_sections, sections_of}
 use Rattle.goblin_pe_head.specs.declared.header.coff.CoffHeader.{CoffHeader}
 use Rattle.goblin_pe_head.specs.added.HeaderParts.{ArePartsOf, coff_part, placed_coff, sections_part, sections_there, table_after, whole_sections}

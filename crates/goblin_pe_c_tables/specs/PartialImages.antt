@@ -19,7 +19,7 @@ use Rattle.goblin_pe_head.specs.DosStub.{default_stub, stub_bytes}
 use Rattle.goblin_pe_head.specs.added.HeaderParts.{AreOfWhole, ArePartsOf, known_optional}
 use Rattle.goblin_pe_head.specs.added.HeaderParts.{unnamed_sections}
 use Rattle.goblin_pe_head.specs.HeaderReadings.{dos_header, pe_header, rich_header, stub_at}
-use Rattle.goblin_pe_head.specs.PeHeader.{PeHeader, zero_dos_header}
+use Rattle.goblin_pe_head.specs.PeHeader.{PeHeader, zero_coff_header, zero_dos_header}
 use Rattle.goblin_pe_head.specs.RichHeader.{rich_value}
 use Rattle.goblin_pe.specs.Whole.{layout, places_in, sections_after}
 use Rattle.goblin_pe_c_headers.specs.declared.fault.PeFault.{PeFault}
@@ -27,7 +27,7 @@ use Rattle.goblin_pe_c_headers.specs.declared.image.PeImage.{PeImage}
 use Rattle.goblin_pe_c_headers.specs.declared.options.PeOptions.{PeOptions}
 use Rattle.goblin_pe_c_headers.specs.Faults.{fault_of, status_of}
 use Rattle.goblin_pe_c_headers.specs.Headers.{optional_record}
-use Rattle.goblin_pe_c_headers.specs.ImageRecords.{IsImage, zero_coff_header, zero_image}
+use Rattle.goblin_pe_c_headers.specs.ImageRecords.{IsImage, zero_image}
 use Rattle.goblin_pe_c_headers.specs.Options.{header_options}
 use Rattle.goblin_pe_c_headers.specs.Places.{image_places, placed_sections}
 use Rattle.goblin_pe_c_headers.specs.RichHeaders.{rich_of}

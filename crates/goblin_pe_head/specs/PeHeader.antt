@@ -9,8 +9,8 @@ use Rattle.goblin_pe_head.specs.declared.header.coff.CoffHeader.{CoffHeader}
 use Rattle.goblin_pe_head.specs.declared.header.dos.DosHeader.{DosHeader}
 use Rattle.goblin_pe_head.specs.declared.header.pe_header.Header.{Header}
 use Rattle.goblin_pe_head.specs.declared.optional_header.OptionalHeader.{OptionalHeader}
-use Rattle.goblin_pe_head.specs.CoffHeader.{coff_fields, coff_header}
-use Rattle.goblin_pe_head.specs.DosHeader.{dos_fields, dos_record}
+use Rattle.goblin_pe_head.specs.CoffHeader.{coff_fields}
+use Rattle.goblin_pe_head.specs.DosHeader.{dos_fields}
 use Rattle.goblin_pe_head.specs.DosStub.{default_stub, stub_bytes}
 use Rattle.goblin_pe_head.specs.OptionalHeader.{IsUnwritten, optional_bytes}
 use Rattle.goblin_pe_head.specs.RichHeader.{Rich, rich_value}
@@ -39,7 +39,39 @@ header_value h = record {
 
 -- a DOS header of zeros
 abbrev pub zero_dos_header : DosHeader
-zero_dos_header = dos_record Little (replicate 64 0)
+zero_dos_header = record {
+  signature = 0;
+  bytes_on_last_page = 0;
+  pages_in_file = 0;
+  relocations = 0;
+  size_of_header_in_paragraphs = 0;
+  minimum_extra_paragraphs_needed = 0;
+  maximum_extra_paragraphs_needed = 0;
+  initial_relative_ss = 0;
+  initial_sp = 0;
+  checksum = 0;
+  initial_ip = 0;
+  initial_relative_cs = 0;
+  file_address_of_relocation_table = 0;
+  overlay_number = 0;
+  reserved = replicate 4 0;
+  oem_id = 0;
+  oem_info = 0;
+  reserved2 = replicate 10 0;
+  pe_pointer = 0;
+}
+
+-- a COFF header of zeros
+abbrev pub zero_coff_header : CoffHeader
+zero_coff_header = record {
+  machine = 0;
+  number_of_sections = 0;
+  time_date_stamp = 0;
+  pointer_to_symbol_table = 0;
+  number_of_symbol_table = 0;
+  size_of_optional_header = 0;
+  characteristics = 0;
+}
 
 -- the default header: zeros, the default stub, and neither a Rich header nor an optional header
 unfoldable pub default_header : PeHeader
@@ -48,7 +80,7 @@ default_header = record {
   dos_stub = default_stub;
   rich_header = None;
   signature = 0;
-  coff_header = coff_header Little (replicate 20 0);
+  coff_header = zero_coff_header;
   optional_header = None;
 }
 

@@ -59,7 +59,7 @@ impl Default for Header<'_> {
     ghost is_default = { λ header. header_value header ≡ default_header };
 
     /// Zeros, the default stub, and neither a Rich header nor an optional header.
-    #[tactic(auto, unfolding(crate::specs::PeHeader::default_header, goblin_base::specs::Bytes::number))]
+    #[tactic(auto, unfolding(crate::specs::PeHeader::default_header))]
     fn default() -> Self {
         Header {
             dos_header: DosHeader::default(),
@@ -186,13 +186,12 @@ impl<'a> Header<'a> {
     /// # Errors
     /// [`Error::Malformed`] with [`Cause::NoPeSignature`] if there are no four bytes;
     /// [`Error::Read`] if the COFF header runs past the end; as the reader of [`OptionalHeader`].
-    #[tactic(auto, unfolding(crate::specs::HeaderReadings::header_without_dos, crate::specs::PeHeader::default_header))]
+    #[tactic(auto, unfolding(crate::specs::HeaderReadings::header_without_dos))]
     pub fn parse_without_dos(bytes: &'a [u8]) -> Result<Self>
         ensures { Reads header_value result reading.header_without_dos bytes.now }
     {
         let mut header = Header::default();
-        let (dos_header, dos_stub) = (header.dos_header, header.dos_stub);
-        header.read_at(bytes, 0, dos_header, dos_stub, None)?;
+        header.read_at(bytes, 0, DosHeader::default(), DosStub::default(), None)?;
         Ok(header)
     }
 
