@@ -1,17 +1,14 @@
-use Rattle.std.proofs.Common.{lit≤, refl}
+use Rattle.std.proofs.Common.{refl}
 use Rattle.std.proofs.lemmas.Result.{err_from_is_err_and}
 use Rattle.goblin_base.specs.declared.endian.Endian.TheVariants.{Little}
 use Rattle.goblin_base.specs.declared.error.ErrorOf.TheVariants.{Malformed}
 use Rattle.goblin_base.specs.declared.error.CauseOf.TheVariants.{ImportRecordEnd}
 use Rattle.goblin_base.proofs.Steps.{mapped, unmapped}
-use Rattle.readings.proofs.Loops.{read-end, read-missing, read-next, read-refused, read-start}
+use Rattle.readings.proofs.Loops.{read-end, read-missing, read-next, read-refused}
 use Rattle.goblin_pe_import.specs.ImportReadings.{import_record_at}
 use Rattle.goblin_pe_import.specs.ImportRecords.{import_record}
 use Rattle.goblin_pe_import.proofs.Modes.{ends, lacks_end}
 use Rattle.goblin_pe_import.proofs.import.libraries.Goals as goal
-
-pub records-init : goal.records-init
-records-init g c = rw c.new-libraries.ensures.items (read-start _ _ _ _ (lit≤ tt))
 
 pub returns-in_err-add_library-clause-value : goal.returns-in_err-add_library-clause-value
 returns-in_err-add_library-clause-value g c =

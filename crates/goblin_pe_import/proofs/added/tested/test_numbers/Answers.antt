@@ -25,11 +25,6 @@ returns-then-bytes-offset-clause-tested g c =
     let both = read-missing (entry_slots g.T.Bitfield.format) entry_number c.args.bytes.now c.args.offset c.args.offset [] start true (entry_value_at g.T.Bitfield.format) (Read BadOffset) none refl past in
     (ap (option_map _) both.0, both.1)
 
-pub slots-init : goal.slots-init
-slots-init g c =
-    let wide : 1 ≤ g.T.Bitfield.format.width = omega (arith, c.size_of-size.ensures.width, c.size_of-size.ensures.positive) in
-    (omega (arith, c.if-bytes-offset.false), [], read-start _ _ _ _ wide)
-
 pub returns-then-is_zero-clause-counted : goal.returns-then-is_zero-clause-counted
 returns-then-is_zero-clause-counted g c =
     let width : c.size_of-size.result ≡ g.T.Bitfield.format.width = c.size_of-size.ensures.width in

@@ -1,13 +1,8 @@
-use Rattle.std.proofs.Common.{◌≤◌, Some, sym, ◌∙◌, arith, refl}
+use Rattle.std.proofs.Common.{Some, sym, ◌∙◌, refl}
 use Rattle.std.proofs.lemmas.Result.{err_from_is_err_and}
-use Rattle.readings.proofs.Loops.{read-end, read-missing, read-next, read-start}
+use Rattle.readings.proofs.Loops.{read-end, read-missing, read-next}
 use Rattle.goblin_pe_import.specs.LookupReadings.{entry_value_at}
 use Rattle.goblin_pe_import.proofs.import.address_table.address_table.Goals as goal
-
-pub slots-init : goal.slots-init
-slots-init g c =
-    let wide : 1 ≤ g.T.Bitfield.format.width = omega (arith, c.size_of-size.ensures.width, c.size_of-size.ensures.positive) in
-    rw c.new-addresses.ensures.items (read-start _ _ _ _ wide)
 
 pub returns-in_err-entry : goal.returns-in_err-entry
 returns-in_err-entry g c =

@@ -3,14 +3,11 @@ use Rattle.goblin_base.specs.declared.error.ErrorOf.TheVariants.{Malformed}
 use Rattle.goblin_base.specs.declared.error.CauseOf.TheVariants.{LookupEnd}
 use Rattle.goblin_pe_import.specs.ImportEntries.{entry_slots}
 use Rattle.goblin_pe_import.specs.Steps.{AreCounted, slots_ahead}
-use Rattle.goblin_pe_import.proofs.LookupWalk.{refused-strictly, rest-end, rest-kept, rest-missing, rest-refused, rest-skip, rest-start}
+use Rattle.goblin_pe_import.proofs.LookupWalk.{refused-strictly, rest-end, rest-kept, rest-missing, rest-refused, rest-skip}
 use Rattle.goblin_pe_import.proofs.Modes.{ends, lacks_end}
-use Rattle.goblin_pe_import.proofs.SlotSteps.{counted-given, counted-one, counted-start, grown_none, grown_spent}
+use Rattle.goblin_pe_import.proofs.SlotSteps.{counted-one, grown_spent}
 use Rattle.readings.proofs.Walks.{stop-first, stop-next}
 use Rattle.goblin_pe_import.proofs.import.kept.next_kept_within.Goals as goal
-
-pub slots-init : goal.slots-init
-slots-init g c = (rest-start _ _ _ _ _ _ _ c.in-Some.is, refl, rw c.in-Some.is (counted-start c.args.steps.now _), rw c.in-Some.is (omega arith), grown_none c.args.steps.now)
 
 pub returns-then-may_end-clause-steps : goal.returns-then-may_end-clause-steps
 returns-then-may_end-clause-steps g c =
@@ -52,10 +49,6 @@ returns-in-Ok-Some-clause-less g c =
     let less = c.slots.invariant.3 in
     rw c.size_of-size.ensures.width (omega (arith, next, less))
 
-pub returns-in-Ok-Some-clause-given : goal.returns-in-Ok-Some-clause-given
-returns-in-Ok-Some-clause-given g c =
-    counted-given c.args.steps.now c.slots.steps _ _ (c.are_out.ensures.no c.if-are_out.false) c.slots.invariant.3 c.slots.invariant.2
-
 pub returns-in-Err-clause-steps : goal.returns-in-Err-clause-steps
 returns-in-Err-clause-steps g c =
     let wide : 1 ≤ g.T.Bitfield.format.width = omega (arith, c.size_of-size.ensures.width, c.size_of-size.ensures.positive) in
@@ -73,11 +66,6 @@ slots-preserved g c =
       omega (arith, next, less),
       grown_spent c.args.steps.now c.slots.steps 1 c.slots.invariant.4,
     )
-
-pub returns-in_default-next_entry-clause-strictly : goal.returns-in_default-next_entry-clause-strictly
-returns-in_default-next_entry-clause-strictly g c =
-    let may = rw (c.reads_strictly.ensures, c.slots.invariant.1, c.size_of-size.ensures.width) at c.may_end.ensures in
-    (lacks_end _ _ g.T.Bitfield.format.value_of _ may c.if-may_end.false).0
 
 pub returns-in-Err-clause-strictly : goal.returns-in-Err-clause-strictly
 returns-in-Err-clause-strictly g c = refused-strictly _ _ _ _ (rw c.slots.invariant.1 at c.in-Err.ensures.value).0

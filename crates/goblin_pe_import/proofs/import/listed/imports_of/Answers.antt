@@ -1,11 +1,8 @@
-use Rattle.std.proofs.Common.{ap, sym, ◌∙◌, refl, Some, inr}
+use Rattle.std.proofs.Common.{ap, sym, ◌∙◌, Some, inr}
 use Rattle.std.proofs.lemmas.Option.{slice_get-get_or}
 use Rattle.std.proofs.lemmas.Result.{err_from_is_err_and}
 use Rattle.goblin_pe_import.proofs.Imports.{library-next, library-refused, slots-refused, slots-there}
 use Rattle.goblin_pe_import.proofs.import.listed.imports_of.Goals as goal
-
-pub libraries-init : goal.libraries-init
-libraries-init c = rw c.in_ok-imports.ensures.items refl
 
 pub returns-in-Some : goal.returns-in-Some
 returns-in-Some c =

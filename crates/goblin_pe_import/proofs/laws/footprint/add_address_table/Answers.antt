@@ -1,10 +1,7 @@
-use Rattle.std.proofs.Common.{sym, arith}
+use Rattle.std.proofs.Common.{sym}
 use Rattle.goblin_base.proofs.Marks.{marked_nil}
-use Rattle.goblin_base.proofs.SlotFootprints.{ranges-end, ranges-next, ranges-start}
+use Rattle.goblin_base.proofs.SlotFootprints.{ranges-end, ranges-next}
 use Rattle.goblin_pe_import.proofs.laws.footprint.add_address_table.Goals as goal
-
-pub slots-init : goal.slots-init
-slots-init g c = ranges-start _ _ _ _ _ (omega (arith, c.size_of-size.ensures.width, c.size_of-size.ensures.positive))
 
 pub slots-preserved-in-Some-next_entry : goal.slots-preserved-in-Some-next_entry
 slots-preserved-in-Some-next_entry g c =

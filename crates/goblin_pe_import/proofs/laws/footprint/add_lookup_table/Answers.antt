@@ -1,10 +1,6 @@
-use Rattle.std.proofs.Common.{arith}
-use Rattle.goblin_base.proofs.SlotFootprints.{ranges-end, ranges-next, ranges-start}
+use Rattle.goblin_base.proofs.SlotFootprints.{ranges-end, ranges-next}
 use Rattle.goblin_pe_import.specs.ImportReadings.{lookup_if}
 use Rattle.goblin_pe_import.proofs.laws.footprint.add_lookup_table.Goals as goal
-
-pub slots-init : goal.slots-init
-slots-init g c = ranges-start _ _ _ _ _ (omega (arith, c.size_of-size.ensures.width, c.size_of-size.ensures.positive))
 
 pub slots-preserved : goal.slots-preserved
 slots-preserved g c =

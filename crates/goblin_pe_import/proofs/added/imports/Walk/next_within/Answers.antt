@@ -1,14 +1,11 @@
-use Rattle.std.proofs.Common.{◌≡◌, ◌∙◌, ◌+◌, ap, arith, inl, length, refl, sym}
+use Rattle.std.proofs.Common.{◌≡◌, ◌∙◌, ◌+◌, ap, arith, length, refl, sym}
 use Rattle.goblin_pe_sect.specs.Addresses.{map_of, reads_strictly}
 use Rattle.goblin_pe_import.specs.added.StepsAhead.{later_ahead, walk_ahead}
 use Rattle.goblin_pe_import.specs.Steps.{slots_ahead}
-use Rattle.goblin_pe_import.proofs.added.ImportSteps.{ended-cause, imports-start, next-fault, next-library, next-none, next-refused}
-use Rattle.goblin_pe_import.proofs.SlotSteps.{counted-start, grown_none, grown_spent}
+use Rattle.goblin_pe_import.proofs.added.ImportSteps.{ended-cause, next-fault, next-library, next-none, next-refused}
+use Rattle.goblin_pe_import.proofs.SlotSteps.{grown_spent}
 use Rattle.goblin_pe_import.proofs.added.StepsAhead.{ended-ahead, grown_then, place-ended, steps-kept, steps-library}
 use Rattle.goblin_pe_import.proofs.added.imports.Walk.next_within.Goals as goal
-
-pub libraries-init : goal.libraries-init
-libraries-init g c = (imports-start _ _, inl (counted-start _ _), grown_none _)
 
 pub returns-in-Some-Err-clause-steps : goal.returns-in-Some-Err-clause-steps
 returns-in-Some-Err-clause-steps g c =

@@ -1,14 +1,9 @@
-use Rattle.std.proofs.Common.{◌≤◌, map, ap, arith, ◌∙◌}
+use Rattle.std.proofs.Common.{map, ap, arith, ◌∙◌}
 use Rattle.std.proofs.lemmas.List.{length-map, map-append}
 use Rattle.std.proofs.lemmas.Result.{err_from_is_err_and}
 use Rattle.goblin_pe_import.specs.ImportLookup.{entry_model}
-use Rattle.goblin_pe_import.proofs.LookupWalk.{entries-all, entries-counted, entries-fault, entries-more, entries-start}
+use Rattle.goblin_pe_import.proofs.LookupWalk.{entries-all, entries-counted, entries-fault, entries-more}
 use Rattle.goblin_pe_import.proofs.import.lookup_table.SyntheticImportLookupTableEntry.parse_by.Goals as goal
-
-pub entries-init : goal.entries-init
-entries-init g c =
-    let wide : 1 ≤ g.T.Bitfield.format.width = omega (arith, c.size_of-size.ensures.width, c.size_of-size.ensures.positive) in
-    rw (c.new-entries.ensures.items, c.new-slots.ensures.items) (entries-start _ _ _ _ _ wide, c.of-finder.ensures)
 
 pub returns-in_err-kept-clause-value : goal.returns-in_err-kept-clause-value
 returns-in_err-kept-clause-value g c =
