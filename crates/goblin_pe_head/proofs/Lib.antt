@@ -1,16 +1,14 @@
 pub mod CoffHeaderRoundTrip
 pub mod ConsistentHeaders
 pub mod DosHeaderRoundTrip
-pub mod OptionalFieldsRoundTrip
 pub mod OptionalHeaderRoundTrip
 pub mod OptionalParts
 pub mod PeHeaderRoundTrip
 pub mod PermissiveReads
+pub mod RecordRoundTrips
 pub mod RichEntries
 pub mod RichLaw
-pub mod RichMetadataRoundTrip
 pub mod RichPlaces
 pub mod Sections
-pub mod TeHeaderRoundTrip
 pub mod WordPlaces
 pub mod WrittenForm

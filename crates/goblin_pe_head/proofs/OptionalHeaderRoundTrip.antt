@@ -21,7 +21,7 @@ use Rattle.goblin_pe_head.specs.OptionalHeader.{optional_bytes, standard_32_fiel
 use Rattle.goblin_pe_head.specs.OptionalHeaderLaws.{optional_header-within}
 use Rattle.goblin_pe_head.specs.HeaderLaws.{OptionalWritesBack, filling, optional_size}
 use Rattle.goblin_pe_head.proofs.OptionalParts.{IsOptionalOf, magic_32, magic_64, optional_of}
-use Rattle.goblin_pe_head.proofs.OptionalFieldsRoundTrip.{standard_32_back, standard_64_back, windows_4_back, windows_64_back}
+use Rattle.goblin_pe_head.proofs.RecordRoundTrips.{standard_32_back, standard_64_back, windows_4_back, windows_64_back}
 
 -- a field of four bytes fits 32 bits
 pub four-bytes : (own : List ℕ) (p : ℕ) → IsBytes own → number Little 4 own p < 2 ^ 32

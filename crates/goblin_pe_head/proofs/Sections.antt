@@ -90,15 +90,6 @@ pub in_room_made : {X A B : Type 0} (view : X → B) (r : Result X ErrorOf) (n :
 in_room_made view (Ok x) n f reading bytes room made = made
 in_room_made view (Err e) n f reading bytes room made = (made.0, inr (room, made.1))
 
--- where something was stripped, the sections are moved by that
-pub by_displacement : {X : Type 0} (view : X → List Section) (r : Result X ErrorOf)
-    (shift : Option ℕ) (size d n : ℕ) (bytes : List ℕ) (p : ℕ) → shift ≡ Some d
-    → ReadsOrMemory view r (moved_sections (Some d) true 0 n p) bytes
-    → ReadsOrMemory view r
-    (needs shift (StrippedSize size) >>= λ d. moved_sections (Some d) true 0 n p) bytes
-by_displacement view (Ok x) shift size d n bytes p is made = rw is made
-by_displacement view (Err e) shift size d n bytes p is made = rw is made
-
 -- ---- records of sections that are moved
 
 all_at-map : {A B : Type 0} (f : A → B) (value : ℕ → Option A) (n : ℕ)

@@ -1,5 +1,5 @@
 -- The section headers that are there.
-use Rattle.std.proofs.Common.{◌≡◌, ◌==◌, cond, ℕ, ◌*◌, ◌/◌, ◌-◌, ◌<◌, ◌≤◌, Bool, true, false, List, length, [], arith, ap, refl, inr, Result, Ok, Err, None, Option, Some, option_map}
+use Rattle.std.proofs.Common.{◌≡◌, ◌==◌, cond, ℕ, ◌*◌, ◌/◌, ◌<◌, ◌≤◌, Bool, true, false, List, length, [], arith, ap, refl, inr, Result, Ok, Err, None, Option, Some, option_map}
 use Rattle.std.proofs.lemmas.Bool.{eqb-true}
 use Rattle.goblin_base.specs.declared.error.ErrorOf.{ErrorOf}
 use Rattle.goblin_base.specs.Bytes.{slice_at}

@@ -182,7 +182,7 @@ impl Record for RichMetadata {
         }
     }
 
-    #[tactic(auto, using(crate::proofs::RichMetadataRoundTrip::round_trip))]
+    #[tactic(auto, using(crate::proofs::RecordRoundTrips::metadata_round_trip))]
     fn put(self, bytes: &mut [u8], endian: Endian) {
         let fields = [
             Field::U16(self.build),

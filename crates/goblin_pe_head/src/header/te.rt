@@ -96,7 +96,7 @@ impl Record for TeHeader {
         }
     }
 
-    #[tactic(auto, using(crate::proofs::TeHeaderRoundTrip::round_trip))]
+    #[tactic(auto, using(crate::proofs::RecordRoundTrips::te_round_trip))]
     fn put(self, bytes: &mut [u8], endian: Endian) {
         let fields = [
             Field::U16(self.signature),

@@ -70,7 +70,7 @@ impl Record for StandardFields32 {
         }
     }
 
-    #[tactic(auto, using(crate::proofs::OptionalFieldsRoundTrip::round_trips))]
+    #[tactic(auto, using(crate::proofs::RecordRoundTrips::round_trips))]
     fn put(self, bytes: &mut [u8], endian: Endian) {
         let fields = [
             Field::U16(self.magic),
@@ -159,7 +159,7 @@ impl Record for StandardFields64 {
         }
     }
 
-    #[tactic(auto, using(crate::proofs::OptionalFieldsRoundTrip::round_trips))]
+    #[tactic(auto, using(crate::proofs::RecordRoundTrips::round_trips))]
     fn put(self, bytes: &mut [u8], endian: Endian) {
         let fields = [
             Field::U16(self.magic),

@@ -127,7 +127,7 @@ impl Record for WindowsFields32 {
         }
     }
 
-    #[tactic(auto, using(crate::proofs::OptionalFieldsRoundTrip::round_trips))]
+    #[tactic(auto, using(crate::proofs::RecordRoundTrips::round_trips))]
     fn put(self, bytes: &mut [u8], endian: Endian) {
         let fields = [
             Field::U32(self.image_base),
@@ -278,7 +278,7 @@ impl Record for WindowsFields64 {
         }
     }
 
-    #[tactic(auto, using(crate::proofs::OptionalFieldsRoundTrip::round_trips))]
+    #[tactic(auto, using(crate::proofs::RecordRoundTrips::round_trips))]
     fn put(self, bytes: &mut [u8], endian: Endian) {
         let fields = [
             Field::U64(self.image_base),

@@ -1,20 +1,10 @@
-use Rattle.std.proofs.Common.{◌≡◌, ◌+◌, ◌*◌, ℕ, Bor, List, None, Some, map, ap, arith, refl, sym, subst, ◌∙◌, option_map}
+use Rattle.std.proofs.Common.{◌≡◌, ◌+◌, ◌*◌, ℕ, Bor, List, None, Some, ap, arith, refl, sym, subst, ◌∙◌, option_map}
 use Rattle.std.proofs.lemmas.Result.{err_from_is_err_and}
-use Rattle.goblin_base.proofs.Steps.{all_at-zero}
 use Rattle.goblin_pe_sect.specs.Options.{is_strict}
 use Rattle.goblin_pe_sect.specs.SectionReadings.{named_section_at}
 use Rattle.goblin_pe_sect.specs.SectionTable.{Section, sections_in, unnamed}
 use Rattle.goblin_pe_head.proofs.added.SectionRecords.{section_end, section_more, sections_from, sections_of_got, unnamed_from, unnamed_refused}
 use Rattle.goblin_pe_head.proofs.added.section_records.read_section_records.Goals as goal
-
-pub records-init : goal.records-init
-records-init c =
-    let strict = is_strict c.args.opts.now.parse_mode in
-    record {
-      end = omega arith;
-      within = λ some. absurd (omega (arith, some));
-      read = λ table. ap (option_map (map unnamed)) (all_at-zero (λ (i : ℕ). (named_section_at strict table (c.args.offset.now + 40 * i)).value c.args.bytes.now));
-    }
 
 pub records-preserved : goal.records-preserved
 records-preserved c =
@@ -55,6 +45,3 @@ returns-clause-value c =
     λ table.
     subst (λ (k : ℕ). unnamed_from strict table bytes offset k ≡ Some (sections_from bytes offset n)) all (before.read table)
     ∙ ap (λ (xs : List Section). Some xs) (sym (c.of-records.ensures.value ∙ got))
-
-pub returns-clause-ok : goal.returns-clause-ok
-returns-clause-ok c = omega (arith, c.records.invariant.end, c.records-test.false, c.records.auto.counter-end)

@@ -1,24 +1,12 @@
 use Rattle.std.proofs.Common.{◌+◌, ◌*◌, ℕ, List, ap, arith, subst, sym, ◌∙◌, Option, Some}
 use Rattle.std.proofs.lemmas.Result.{err_from_is_err_and}
-use Rattle.goblin_base.proofs.Steps.{all_at-each, all_at-more, all_at-none, all_at-zero}
+use Rattle.goblin_base.proofs.Steps.{all_at-each, all_at-more, all_at-none}
 use Rattle.goblin_pe_sect.specs.Options.{is_strict}
 use Rattle.goblin_pe_sect.specs.SectionReadings.{named_section_at}
 use Rattle.goblin_pe_sect.specs.SectionTable.{Section}
 use Rattle.goblin_pe_head.specs.TeHeader.{moved_section}
 use Rattle.goblin_pe_head.proofs.Sections.{moved-cause, moved-none, moved-value}
 use Rattle.goblin_pe_head.proofs.header.sections.read_sections.Goals as goal
-
-pub records-init : goal.records-init
-records-init c =
-    let strict = is_strict c.args.opts.now.parse_mode in
-    let value : ℕ → Option Section =
-    λ (i : ℕ). (moved_section c.args.displacement strict c.args.string_table_offset (c.args.offset.now + 40 * i)).value c.args.bytes.now in
-    record {
-      end = omega arith;
-      read = all_at-zero value ∙ ap (λ (xs : List Section). Some xs) (sym c.in_ok-sections.ensures.items);
-      len = c.in_ok-sections.ensures.len;
-      capacity = c.in_ok-sections.ensures.exact;
-    }
 
 pub records-preserved : goal.records-preserved
 records-preserved c =

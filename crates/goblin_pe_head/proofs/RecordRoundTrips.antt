@@ -1,12 +1,16 @@
--- Standard fields and Windows fields that were read are written as they stood, and any that were written are read again.
+-- Records that were read are written as they stood, and any that were written are read again: the fields of an optional header, the header of a Terse Executable, and an entry of a Rich header.
 use Rattle.std.proofs.Common.{refl, arith}
 use Rattle.goblin_base.specs.Record.{WritesBack, FieldsFit, ReadsBack}
 use Rattle.goblin_base.proofs.RecordRoundTrip.{writes_back, reads_back}
+use Rattle.goblin_pe_head.specs.declared.header.rich.RichMetadata.{RichMetadata}
+use Rattle.goblin_pe_head.specs.declared.header.te.TeHeader.{TeHeader}
 use Rattle.goblin_pe_head.specs.declared.optional_header.standard_fields.StandardFields32.{StandardFields32}
 use Rattle.goblin_pe_head.specs.declared.optional_header.standard_fields.StandardFields64.{StandardFields64}
 use Rattle.goblin_pe_head.specs.declared.optional_header.windows_fields.WindowsFields32.{WindowsFields32}
 use Rattle.goblin_pe_head.specs.declared.optional_header.windows_fields.WindowsFields64.{WindowsFields64}
 use Rattle.goblin_pe_head.specs.OptionalHeader.{standard_32_record, standard_32_fields, standard_64_record, standard_64_fields, windows_32_record, windows_32_fields, windows_record, windows_fields}
+use Rattle.goblin_pe_head.specs.RichMetadata.{metadata_fields, metadata_record}
+use Rattle.goblin_pe_head.specs.TeHeader.{te_fields, te_record}
 
 pub standard_32_back : WritesBack 28 standard_32_record standard_32_fields
 standard_32_back = writes_back 28 standard_32_record standard_32_fields refl (λ endian own bytes. refl)
@@ -34,6 +38,22 @@ windows_32_again f fit = reads_back 68 windows_32_record windows_32_fields f ref
 
 pub windows_64_again : (f : WindowsFields64) → FieldsFit (windows_fields 8 f) → ReadsBack 88 (windows_record 8) (windows_fields 8) f
 windows_64_again f fit = reads_back 88 (windows_record 8) (windows_fields 8) f refl (omega arith) fit (λ endian own. refl) (λ endian own e. grind (arith, e))
+
+pub te_back : WritesBack 40 te_record te_fields
+te_back = writes_back 40 te_record te_fields refl (λ endian own bytes. refl)
+
+pub te_again : (h : TeHeader) → FieldsFit (te_fields h) → ReadsBack 40 te_record te_fields h
+te_again h fit = reads_back 40 te_record te_fields h refl (omega arith) fit (λ endian own. refl) (λ endian own e. grind (arith, e))
+
+pub metadata_back : WritesBack 8 metadata_record metadata_fields
+metadata_back = writes_back 8 metadata_record metadata_fields refl (λ endian own h. refl)
+
+pub metadata_again : (m : RichMetadata) → FieldsFit (metadata_fields m) → ReadsBack 8 metadata_record metadata_fields m
+metadata_again m fit = reads_back 8 metadata_record metadata_fields m refl (omega arith) fit (λ endian own. refl) (λ endian own e. grind (arith, e))
+
+pub ruleset te_round_trip = (te_back, te_again)
+
+pub ruleset metadata_round_trip = (metadata_back, metadata_again)
 
 pub ruleset round_trips = (
   standard_32_back,
