@@ -60,7 +60,7 @@ first_address m offset =
     (find (λ s. is_some (rva_in m.mapping m.alignment offset s)) m.sections)
     else Some offset
 
--- this address, if it is mapped back to the offset
+-- the address of an offset: that in the first section, if it is mapped back to the offset
 abbrev pub image_address : PeOptions → PePlaces → List ℕ → ℕ → Option ℕ
 image_address o p bytes offset =
     mapped_image o p bytes >>= λ m. first_address m offset

@@ -4,7 +4,6 @@ use Rattle.std.specs.Prelude.{ℕ, Bool, false, ◌==◌, ◌&&◌, if◌then◌
 use Rattle.std.specs.Prelude.{◌∷◌, option_map, unwrap_or}
 use Rattle.goblin_base.specs.declared.endian.Endian.TheVariants.{Little}
 use Rattle.goblin_base.specs.Bytes.{number_at}
-use Rattle.goblin_pe_sect.specs.added.Backward.{is_at}
 use Rattle.goblin_pe_c_headers.specs.declared.kind.Kind.{Kind}
 use Rattle.goblin_pe_c_headers.specs.declared.kind.Kind.TheVariants as kind
 
@@ -35,7 +34,8 @@ kind_with magic =
 
 -- the n bytes at p are there, and are this number
 abbrev pub has_number : ℕ → List ℕ → ℕ → ℕ → Bool
-has_number n bytes p number = is_at number (number_at Little n bytes p)
+has_number n bytes p number =
+    unwrap_or (option_map (λ found. found == number) (number_at Little n bytes p)) false
 
 -- The identifier of big objects, {D1BAA1C7-BAEE-4BA9-AF20-FAF66AA4DCB8}, in the 16 bytes at 12.
 -- Source: the Windows headers, ANON_OBJECT_HEADER_BIGOBJ.
@@ -47,9 +47,9 @@ is_big bytes =
 -- Source: PE Format, "Import Header"; the Windows headers, ANON_OBJECT_HEADER.
 abbrev pub anonymous_kind : List ℕ → Kind
 anonymous_kind bytes =
+    let version = number_at Little 2 bytes 4 in
     if has_number 2 bytes 4 0 then kind.ImportObject
-    else if unwrap_or (option_map (nat_le 2) (number_at Little 2 bytes 4)) false && is_big bytes
-    then kind.BigObject
+    else if unwrap_or (option_map (nat_le 2) version) false && is_big bytes then kind.BigObject
     else kind.Unknown
 
 -- the kind of a file: `!<arch>` and a line feed, 0 and 0xFFFF, or by the first two bytes, unknown

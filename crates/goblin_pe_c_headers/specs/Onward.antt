@@ -13,8 +13,9 @@ pub record Batch (P R : Type 0) : Type 0 where
   pub position : P
   pub records : List R
 
-abbrev pub rows_at : {P R : Type 0} → P → List R → Batch P R
-rows_at position records = record { position = position; records = records }
+-- records that are filled from a position on
+abbrev pub batch_at : {P R : Type 0} → P → List R → Batch P R
+batch_at position records = record { position = position; records = records }
 
 -- A table that comes in batches: what contracts see of a record, the value of an item, and the
 -- items that come from a position on, `None` in place of one that is refused. Nothing is there

@@ -58,8 +58,8 @@ pub record Output : Type 0 where
   pub out : List ℕ
   pub written : ℕ
 
--- A call has made this change to the bytes and given its size; or there is no such change, the cause
--- is true, and everything is unchanged.
+-- A call has made this change to the bytes and given its size; or there is no such change, the
+-- cause is true, and everything is unchanged.
 abbrev pub WritesOut : Option (List ℕ) → (ℕ → Type 0) → (ErrorOf → Type 0) → Output → Output
     → Result Unit ErrorOf → Type 0
 WritesOut change IsSize IsCause old new (Ok x) = (change ≡ Some new.out) × IsSize new.written

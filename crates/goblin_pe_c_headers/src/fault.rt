@@ -26,6 +26,7 @@ fn item_at<T: Copy>(table: &[T], index: u32) -> Option<T>
 
 /// What kind of refusal it is. A later version may add numbers, here and to the causes, but changes
 /// none.
+#[derive(Copy, Clone)]
 pub enum Status {
     /// Nothing is refused.
     Ok = 0,

@@ -1,7 +1,7 @@
 //! A list from a position on, as far as there is room.
 
 ghost use Rattle.std.specs.Prelude.{◌≡◌, ◌<◌, ◌^◌, List, length, slice_get};
-ghost use Rattle.goblin_pe_c_headers.specs.Onward.{GivesOnward, rows_at};
+ghost use Rattle.goblin_pe_c_headers.specs.Onward.{GivesOnward, batch_at};
 
 use crate::batch::{PeBatch, ended, goes_on};
 
@@ -16,8 +16,8 @@ pub fn fill_onward<W: Copy, F: Fn(usize) -> Option<W>>(
     requires { (index : _) → F.pre item index }
     ensures { (items : List W) → length items < 2 ^ 64
         → ((index : _) (found : _) → F.post item index found → found ≡ slice_get items index)
-        → GivesOnward items (rows_at position.old records.old)
-        (rows_at position.new records.new) result }
+        → GivesOnward items (batch_at position.old records.old)
+        (batch_at position.new records.new) result }
 {
     let mut index = *position;
     'records: for count in 0..records.len() {

@@ -4,7 +4,7 @@ ghost use Rattle.std.specs.Prelude.{◌≡◌, ◌<◌, ◌^◌, IfOk, length, s
 ghost use Rattle.goblin_base.specs.Reading.{Reads};
 ghost use Rattle.goblin_pe_sect.specs.Relocations.{relocations_in};
 ghost use Rattle.goblin_pe_c_headers.specs.Calls.{ReadsWithout};
-ghost use Rattle.goblin_pe_c_headers.specs.Onward.{GivesOnward, no_batch, rows_at};
+ghost use Rattle.goblin_pe_c_headers.specs.Onward.{GivesOnward, no_batch, batch_at};
 ghost use Rattle.goblin_pe_c_headers.specs.Relocations.{all_relocations, record_count};
 
 use crate::batch::{PeBatch, ended};
@@ -64,8 +64,8 @@ pub fn next_relocations(
     records: &mut [Relocation],
     batch: &mut PeBatch,
 ) -> Result<()>
-    ensures given { let old = rows_at cursor.old.index records.old in
-        let new = rows_at cursor.new.index records.new in
+    ensures given { let old = batch_at cursor.old.index records.old in
+        let new = batch_at cursor.new.index records.new in
         ReadsWithout (all_relocations cursor.old) image.now.bytes.now
         (λ all. GivesOnward all old new batch.new)
         ((new ≡ old) × (batch.new ≡ no_batch)) result }

@@ -4,7 +4,7 @@ ghost use Rattle.std.specs.Prelude.{◌≡◌, ◌<◌, ◌^◌, IfOk, MatchResu
 ghost use Rattle.goblin_base.specs.Reading.{Reads};
 ghost use Rattle.goblin_base.specs.Tables.{records_in};
 ghost use Rattle.goblin_pe_head.specs.RichMetadata.{metadata_at};
-ghost use Rattle.goblin_pe_c_headers.specs.Onward.{rows_at};
+ghost use Rattle.goblin_pe_c_headers.specs.Onward.{batch_at};
 ghost use Rattle.goblin_pe_c_headers.specs.RichHeaders.{GivesEntries, GivesEntriesOf};
 ghost use Rattle.goblin_pe_c_headers.specs.RichHeaders.{HeaderIsWalked, IsRefusedEntry};
 ghost use Rattle.goblin_pe_c_headers.specs.RichHeaders.{RichIsWalked, is_rest, rich_stretch};
@@ -75,8 +75,8 @@ fn fill_entries(
     records: &mut [RichMetadata],
 ) -> Result<PeBatch>
     requires { length stretch.now < 2 ^ 63 }
-    ensures { let old = rows_at position.old records.old in
-        let new = rows_at position.new records.new in
+    ensures { let old = batch_at position.old records.old in
+        let new = batch_at position.new records.new in
         MatchResult result (GivesEntriesOf key stretch.now old new)
         (λ e. IsRefusedEntry key stretch.now old e × (new ≡ old)) }
 {
@@ -112,8 +112,8 @@ pub fn next_entries(
     records: &mut [RichMetadata],
     batch: &mut PeBatch,
 ) -> Result<()>
-    ensures given { GivesEntries image.now (rows_at position.old records.old)
-        (rows_at position.new records.new) batch.new result }
+    ensures given { GivesEntries image.now (batch_at position.old records.old)
+        (batch_at position.new records.new) batch.new result }
 
     // The entries of a Rich header that was read are its own.
     ensures found { RichIsWalked }

@@ -6,7 +6,7 @@ ghost use Rattle.goblin_base.specs.Bytes.{before_nul};
 ghost use Rattle.goblin_pe_sect.specs.SectionReadings.{SectionWritesBack};
 ghost use Rattle.goblin_pe_sect.specs.SectionTable.{section_record, unnamed};
 ghost use Rattle.goblin_pe_head.specs.TeHeader.{section_moved};
-ghost use Rattle.goblin_pe_c_headers.specs.Onward.{GivesRows, rows_at};
+ghost use Rattle.goblin_pe_c_headers.specs.Onward.{GivesRows, batch_at};
 ghost use Rattle.goblin_pe_c_headers.specs.Relocations.{relocations_begin};
 ghost use Rattle.goblin_pe_c_headers.specs.Sections.{ReadsSections, displacement_of, long_name};
 ghost use Rattle.goblin_pe_c_headers.specs.Sections.{row_model, row_of, section_model};
@@ -208,7 +208,7 @@ fn fill_sections<'a>(
     records: &mut [PeSection<'a>],
 ) -> PeBatch
     ensures { GivesRows row_model (section_rows image.now headers.now)
-        (rows_at position.old records.old) (rows_at position.new records.new) result }
+        (batch_at position.old records.old) (batch_at position.new records.new) result }
 {
     let there = headers.len() / SIZEOF_SECTION_TABLE;
     let mut index = *position;
@@ -235,8 +235,8 @@ pub fn next_sections<'a>(
     records: &mut [PeSection<'a>],
     batch: &mut PeBatch,
 ) -> Result<()>
-    ensures { ReadsSections image.now (rows_at position.old records.old)
-        (rows_at position.new records.new) batch.new result }
+    ensures { ReadsSections image.now (batch_at position.old records.old)
+        (batch_at position.new records.new) batch.new result }
 {
     *batch = ended(0);
     let headers = section_headers(image.bytes, image.section_table, image.section_count)?;

@@ -7,7 +7,7 @@ ghost use Rattle.goblin_pe_head.specs.CoffHeader.{symbols_end};
 ghost use Rattle.goblin_pe_symbol.specs.Symbols.{name_and_symbol, named_value, record_of};
 ghost use Rattle.goblin_pe_symbol.specs.Symbols.{symbol_of};
 ghost use Rattle.goblin_pe_c_headers.specs.Calls.{ReadsWithout};
-ghost use Rattle.goblin_pe_c_headers.specs.Onward.{no_batch, rows_at};
+ghost use Rattle.goblin_pe_c_headers.specs.Onward.{no_batch, batch_at};
 ghost use Rattle.goblin_pe_c_headers.specs.Options.{longest_of};
 ghost use Rattle.goblin_pe_c_headers.specs.Symbols.{FindsTables, GivesSymbols, NamesOfText};
 ghost use Rattle.goblin_pe_c_headers.specs.Symbols.{auxiliary_of, found_tables, name_in};
@@ -181,7 +181,7 @@ fn fill_symbols_at<'a>(
 ) -> PeBatch
     ensures { GivesSymbols tables.entry.records.now
         (name_in_piece tables.entry.longest tables.entry.strings.now)
-        (rows_at position.old records.old) (rows_at position.new records.new) result }
+        (batch_at position.old records.old) (batch_at position.new records.new) result }
 {
     let mut index = *position; // (a place behind a pointer is stored for each symbol)
     'symbols: for count in 0..records.len() {
@@ -254,8 +254,8 @@ pub fn next_symbols<'a>(
     records: &mut [PeSymbol<'a>],
     batch: &mut PeBatch,
 ) -> Result<()>
-    ensures given { let old = rows_at position.old records.old in
-        let new = rows_at position.new records.new in
+    ensures given { let old = batch_at position.old records.old in
+        let new = batch_at position.new records.new in
         ReadsWithout (found_tables image.now.coff_header) image.now.bytes.now
         (λ t. GivesSymbols t.0 (name_in_piece (longest_of image.now.options) t.1) old new batch.new)
         ((new ≡ old) × (batch.new ≡ no_batch)) result }

@@ -1,7 +1,7 @@
 //! The base relocations of a block, in batches.
 
 ghost use Rattle.std.specs.Prelude.{◌≡◌, ◌+◌, ◌<◌, ◌^◌, length, slice_get};
-ghost use Rattle.goblin_pe_c_headers.specs.Onward.{rows_at};
+ghost use Rattle.goblin_pe_c_headers.specs.Onward.{batch_at};
 ghost use Rattle.goblin_pe_c_headers.specs.Words.{GivesWords, block_words, word_for_c, words_for_c};
 
 use crate::batch::PeBatch;
@@ -71,8 +71,8 @@ pub fn next_words(
     cursor: &mut PeBaseRelocationCursor,
     records: &mut [PeBaseRelocation],
 ) -> PeBatch
-    ensures { GivesWords image.now.bytes.now (rows_at cursor.old records.old)
-        (rows_at cursor.new records.new) result }
+    ensures { GivesWords image.now.bytes.now (batch_at cursor.old records.old)
+        (batch_at cursor.new records.new) result }
 {
     let (page, words) = (cursor.page_rva, words_at(image.bytes, cursor));
     let mut count = 0;

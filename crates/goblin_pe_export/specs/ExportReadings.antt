@@ -27,8 +27,8 @@ abbrev pub export_record_at : ℕ → Reading ExportDirectoryTable
 export_record_at p = because (ExportTable p) (record_at 40 (export_directory_record Little) p)
 
 -- a record with this count of entries of a kind, if that is no more than the file has bytes
-abbrev pub counted : ℕ → List ℕ → ExportDirectoryTable → Reading ExportDirectoryTable
-counted count kind t =
+abbrev pub with_count : ℕ → List ℕ → ExportDirectoryTable → Reading ExportDirectoryTable
+with_count count kind t =
     file_length
     >>= (λ n.
     needs_by (if nat_le count n then Some t else None) (IsTooShort count kind n)
@@ -36,13 +36,13 @@ counted count kind t =
 
 -- a record, if it counts no more addresses than the file has bytes
 abbrev pub fitting_addresses : ExportDirectoryTable → Reading ExportDirectoryTable
-fitting_addresses t = counted t.address_table_entries (codes "address table entries") t
+fitting_addresses t = with_count t.address_table_entries (codes "address table entries") t
 
 -- the same if it counts no more name pointers than that, either
 abbrev pub fitting : ExportDirectoryTable → Reading ExportDirectoryTable
 fitting t =
     mapped (λ both. both.1)
-    (counted t.number_of_name_pointers (codes "name pointers") t beside fitting_addresses t)
+    (with_count t.number_of_name_pointers (codes "name pointers") t beside fitting_addresses t)
 
 -- What a record leads to: the library's name, and the three tables, each empty if its address has
 -- no offset. The record's number of name pointers also counts the ordinals, even if fewer name

@@ -8,7 +8,7 @@ use Rattle.goblin_pe_head.specs.declared.optional_header.standard_fields.Standar
 use Rattle.goblin_pe_head.specs.declared.optional_header.standard_fields.StandardFields64.{StandardFields64}
 use Rattle.goblin_pe_head.specs.declared.optional_header.windows_fields.WindowsFields32.{WindowsFields32}
 use Rattle.goblin_pe_head.specs.declared.optional_header.windows_fields.WindowsFields64.{WindowsFields64}
-use Rattle.goblin_pe_head.specs.OptionalHeader.{standard_32_record, standard_32_fields, standard_64_record, standard_64_fields, windows_32_record, windows_32_fields, windows_record, windows_fields}
+use Rattle.goblin_pe_head.specs.OptionalHeader.{standard_32_record, standard_32_fields, standard_64_record, standard_64_fields, windows_32_record, windows_32_fields, windows_record, windows_record_fields}
 use Rattle.goblin_pe_head.specs.RichMetadata.{metadata_fields, metadata_record}
 use Rattle.goblin_pe_head.specs.TeHeader.{te_fields, te_record}
 
@@ -21,11 +21,11 @@ standard_64_back = writes_back 24 standard_64_record standard_64_fields refl (λ
 pub windows_32_back : WritesBack 68 windows_32_record windows_32_fields
 windows_32_back = writes_back 68 windows_32_record windows_32_fields refl (λ endian own bytes. refl)
 
-pub windows_4_back : WritesBack 68 (windows_record 4) (windows_fields 4)
-windows_4_back = writes_back 68 (windows_record 4) (windows_fields 4) refl (λ endian own bytes. refl)
+pub windows_4_back : WritesBack 68 (windows_record 4) (windows_record_fields 4)
+windows_4_back = writes_back 68 (windows_record 4) (windows_record_fields 4) refl (λ endian own bytes. refl)
 
-pub windows_64_back : WritesBack 88 (windows_record 8) (windows_fields 8)
-windows_64_back = writes_back 88 (windows_record 8) (windows_fields 8) refl (λ endian own bytes. refl)
+pub windows_64_back : WritesBack 88 (windows_record 8) (windows_record_fields 8)
+windows_64_back = writes_back 88 (windows_record 8) (windows_record_fields 8) refl (λ endian own bytes. refl)
 
 pub standard_32_again : (f : StandardFields32) → FieldsFit (standard_32_fields f) → ReadsBack 28 standard_32_record standard_32_fields f
 standard_32_again f fit = reads_back 28 standard_32_record standard_32_fields f refl (omega arith) fit (λ endian own. refl) (λ endian own e. grind (arith, e))
@@ -36,8 +36,8 @@ standard_64_again f fit = reads_back 24 standard_64_record standard_64_fields f 
 pub windows_32_again : (f : WindowsFields32) → FieldsFit (windows_32_fields f) → ReadsBack 68 windows_32_record windows_32_fields f
 windows_32_again f fit = reads_back 68 windows_32_record windows_32_fields f refl (omega arith) fit (λ endian own. refl) (λ endian own e. grind (arith, e))
 
-pub windows_64_again : (f : WindowsFields64) → FieldsFit (windows_fields 8 f) → ReadsBack 88 (windows_record 8) (windows_fields 8) f
-windows_64_again f fit = reads_back 88 (windows_record 8) (windows_fields 8) f refl (omega arith) fit (λ endian own. refl) (λ endian own e. grind (arith, e))
+pub windows_64_again : (f : WindowsFields64) → FieldsFit (windows_record_fields 8 f) → ReadsBack 88 (windows_record 8) (windows_record_fields 8) f
+windows_64_again f fit = reads_back 88 (windows_record 8) (windows_record_fields 8) f refl (omega arith) fit (λ endian own. refl) (λ endian own e. grind (arith, e))
 
 pub te_back : WritesBack 40 te_record te_fields
 te_back = writes_back 40 te_record te_fields refl (λ endian own bytes. refl)

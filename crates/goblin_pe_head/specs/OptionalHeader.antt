@@ -99,8 +99,8 @@ windows_record w endian bytes = record {
 }
 
 -- their fields, in order
-abbrev pub windows_fields : ℕ → WindowsFields64 → List FieldValue
-windows_fields w f =
+abbrev pub windows_record_fields : ℕ → WindowsFields64 → List FieldValue
+windows_record_fields w f =
     uint w f.image_base ∷ uint 4 f.section_alignment ∷ uint 4 f.file_alignment
     ∷ uint 2 f.major_operating_system_version
     ∷ uint 2 f.minor_operating_system_version ∷ uint 2 f.major_image_version
@@ -112,7 +112,7 @@ windows_fields w f =
     ∷ uint w f.size_of_heap_reserve ∷ uint w f.size_of_heap_commit ∷ uint 4 f.loader_flags
     ∷ uint 4 f.number_of_rva_and_sizes ∷ []
 
--- the fields as those for 32 bits
+-- the same fields, as those for 32 bits; the five wide ones are taken to fit
 abbrev pub as_windows_32 : WindowsFields64 → WindowsFields32
 as_windows_32 s = record {
   image_base = s.image_base;
@@ -169,7 +169,7 @@ abbrev pub windows_32_record : Endian → List ℕ → WindowsFields32
 windows_32_record endian bytes = as_windows_32 (windows_record 4 endian bytes)
 
 abbrev pub windows_32_fields : WindowsFields32 → List FieldValue
-windows_32_fields f = windows_fields 4 (windows_from_32 f)
+windows_32_fields f = windows_record_fields 4 (windows_from_32 f)
 
 -- the standard fields of either width, from those for 32 bits
 unfoldable pub standard_from_32 : StandardFields32 → StandardFields

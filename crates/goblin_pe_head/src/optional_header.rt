@@ -19,7 +19,7 @@ ghost use Rattle.goblin_pe_head.specs.OptionalHeader.{standard_32_fields, standa
 ghost use Rattle.goblin_pe_head.specs.OptionalHeader.{standard_64_fields, standard_64_record};
 ghost use Rattle.goblin_pe_head.specs.OptionalHeader.{standard_to_64, windows_to_32, written_bytes};
 ghost use Rattle.goblin_pe_head.specs.OptionalHeader.{windows_32_fields, windows_32_record};
-ghost use Rattle.goblin_pe_head.specs.OptionalHeader.{windows_fields, windows_record};
+ghost use Rattle.goblin_pe_head.specs.OptionalHeader.{windows_record_fields, windows_record};
 ghost use Rattle.goblin_pe_head.specs.OptionalHeaderLaws.{optional_header-within};
 
 use goblin_base::{
@@ -278,7 +278,7 @@ impl OptionalHeader {
         ensures made { result ≡ bytes_64 endian self.now }
         ensures standard { ReadsBack 24 standard_64_record standard_64_fields
             (standard_to_64 self.now.standard_fields) }
-        ensures windows { ReadsBack 88 (windows_record 8) (windows_fields 8)
+        ensures windows { ReadsBack 88 (windows_record 8) (windows_record_fields 8)
             self.now.windows_fields }
     {
         let standard = StandardFields64::from(self.standard_fields);

@@ -19,10 +19,17 @@ HasKeptRange file kept =
     (kept.0.0 ≤ kept.0.1) × (kept.0.1 ≤ length file)
     × (slice_range file kept.0.0 kept.0.1 ≡ kept.1)
 
+-- what a key keeps: a length, and ranges with their bytes
+abbrev pub key_length : FileKey → ℕ
+key_length key = key.length
+
+abbrev pub key_ranges : FileKey → List KeptRange
+key_ranges key = key.kept.items
+
 -- The key of this file with these options: its length, and its bytes in the ranges of its
 -- footprint.
 pub record IsKeyOf (opts : ParseOptions) (file : List ℕ) (key : FileKey) : Type 0 where
   pub ranges : List Range
   pub is : IsFootprint (length file) ((whole_file opts).reaches file) ranges
-  pub same_length : key.length ≡ length file
-  pub same_kept : key.kept.items ≡ map (kept_range file) ranges
+  pub same_length : key_length key ≡ length file
+  pub same_kept : key_ranges key ≡ map (kept_range file) ranges

@@ -75,7 +75,8 @@ pub fn checksum(bytes: &[u8], field: usize) -> u32
     sum_of_words(bytes, field).wrapping_add(length)
 }
 
-// The offset of the checksum field in an optional header of either width, in bytes.
+// The offset of the checksum field in an optional header of either width, in bytes. The standard
+// fields come before the Windows fields.
 const FIELD_OFFSET: usize = SIZEOF_STANDARD_FIELDS_32 + OFFSET_WINDOWS_FIELDS_32_CHECKSUM;
 
 const _: () = prove!(FIELD_OFFSET == SIZEOF_STANDARD_FIELDS_64 + OFFSET_WINDOWS_FIELDS_64_CHECKSUM);
@@ -85,9 +86,11 @@ const _: () = prove!(FIELD_OFFSET == SIZEOF_STANDARD_FIELDS_64 + OFFSET_WINDOWS_
 pub fn checksum_field(header: &Header) -> Option<usize>
     ensures { result ≡ checksum_field (header_value header.now) }
 {
-    header.optional_header.as_ref()?;
     let begin = header.dos_header.pe_pointer as usize + SIZEOF_PE_MAGIC + SIZEOF_COFF_HEADER;
-    Some(begin + FIELD_OFFSET)
+    match &header.optional_header {
+        Some(_) => Some(begin + FIELD_OFFSET),
+        None => None,
+    }
 }
 
 /// The checksum of the image `bytes`, as [`checksum`] computes it, with the field where the header

@@ -115,7 +115,7 @@ fn kept_range(alloc: Global, file: &[u8], begin: usize, end: usize) -> Result<Ke
     ensures value { IfOk result (λ range. range ≡ kept_range file.now (begin, end)) }
     ensures refused { IfErr result IsMemory }
 {
-    let mut bytes = Vec::new(alloc);
+    let mut bytes = Vec::with_capacity(alloc, end - begin)?;
     bytes.extend_from_slice(&file[begin..end])?;
     Ok(KeptRange { begin, end, bytes })
 }

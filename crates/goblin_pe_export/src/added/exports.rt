@@ -1,10 +1,13 @@
-//! A walk over the exports of an image.
+//! A walk over the exports of an image; how many name pointers give none, and which exports pass a
+//! test.
 
 ghost use Rattle.std.specs.Prelude.{◌≡◌, ◌≤◌, ◌<◌, ◌^◌, ◌+◌, IfOk, IfSome, MatchOption, None, Some};
 ghost use Rattle.std.specs.Prelude.{length, option_map, slice_get, Bool, count_by, find};
+ghost use Rattle.std.specs.Fn.{FnReturnsAt};
 ghost use Rattle.std.specs.Iterator.{UpTo, at_most};
 ghost use Rattle.std.specs.Iterator.SizeHint.{IsWithinCount};
 ghost use Rattle.goblin_base.specs.Reading.{Reads};
+ghost use Rattle.readings.specs.Tests.{IsTest};
 ghost use Rattle.goblin_pe_sect.specs.Addresses.{map_of};
 ghost use Rattle.goblin_pe_export.specs.added.ExportAddresses.{RepeatsAddresses, export_addresses};
 ghost use Rattle.goblin_pe_export.specs.ExportReadings.{numbered_read, numbered_export};
@@ -16,8 +19,6 @@ ghost use Rattle.goblin_pe_export.specs.added.ExportWalks.{KeepsOver, numbered_f
 ghost use Rattle.goblin_pe_export.specs.added.ExportWalks.{walked_export, walked_tables};
 ghost use Rattle.goblin_pe_export.specs.added.ExportWalks.{NumberedExport, exports_bytes};
 ghost use Rattle.goblin_pe_export.specs.added.ExportWalks.{exports_map};
-ghost use Rattle.std.specs.Fn.{FnReturnsAt};
-ghost use Rattle.readings.specs.Tests.{IsTest};
 ghost use Rattle.goblin_pe_export.specs.added.LeftOutExports.{gives_export, pointers_left_out};
 ghost use Rattle.goblin_pe_export.specs.added.LeftOutExports.{reads_forwarder};
 

@@ -58,6 +58,8 @@ pending_table strict format addressing (Some rva) =
 abbrev pub record_index : ℕ → ℕ → ℕ
 record_index first p = (p - first) / 20
 
+-- ---- what comes from a cursor on
+
 -- the cursor at the end
 abbrev pub no_imports : ImportCursor
 no_imports = record {
@@ -84,9 +86,9 @@ module _ (strict : Bool) (format : Format EntryValue) (addressing : Addressing)
   abbrev pub is_skipped : ImportDirectoryEntry → Bool
   is_skipped r = not strict && is_none ((addresses_of format addressing r).value bytes)
 
-  -- What comes of the library of the descriptor with an index: its name is needed, then its imports
-  -- come, then strict mode needs its address table. Permissive mode needs that table first, and
-  -- leaves out the library without it.
+  -- What comes of the library of the descriptor with an index: its name is needed (without it, only
+  -- a refusal comes), then its imports come, then strict mode needs its address table. Permissive
+  -- mode needs that table first, and leaves out the library without it.
   unfoldable pub library_items : ℕ → ImportDirectoryEntry → List (Option NumberedImport)
   library_items index r =
       let table = lookup_offset addressing r in
@@ -189,7 +191,8 @@ abbrev pub IsNamed : Walk → Type 0
 IsNamed w =
     IsNamedAt w.at.place w.dll.now (cursor_dll (map_of w.finder).addressing w.bytes.now w.at)
 
--- an upper bound of the number of imports to come
+-- an upper bound of the number of imports to come; an address table that is still to be tested may
+-- give one refusal
 abbrev pub walk_bound : Walk → ℕ
 walk_bound w =
     slots_bound w.bytes.now w.at.place + option_len w.at.pending
@@ -203,11 +206,13 @@ later_left format w =
     (later_items (reads_strictly m) format m.addressing w.bytes.now w.at.pending w.at.first_record
     w.at.next_record)
 
+-- the cause that is true if it is refused
 abbrev pub IsLaterLeftCause : Format EntryValue → Walk → ErrorOf → Type 0
 IsLaterLeftCause format w e =
     let m = map_of w.finder in
     (reads_strictly m ≡ true)
-    × IsLaterCause (reads_strictly m) format m.addressing w.bytes.now w.at.pending w.at.next_record e
+    × IsLaterCause (reads_strictly m) format m.addressing w.bytes.now w.at.pending
+    w.at.next_record e
 
 -- Once the entries of the library that the walk s is in have come, a call moves the walk to the
 -- next library, where it is t. Or there is no other library, or the call is refused.

@@ -275,8 +275,8 @@ impl<'a, 'm> Walk<'a, 'm> {
         ensures bytes { self.new.bytes.now ≡ self.old.bytes.now }
         ensures finder { self.new.finder ≡ self.old.finder }
         ensures nearer { let bytes = self.old.bytes.now in
-            IfSome result (λ r. IfOk r (λ _.
-            slots_bound bytes self.new.at.next_record < slots_bound bytes self.old.at.next_record)) }
+            IfSome result (λ r. IfOk r (λ _. slots_bound bytes self.new.at.next_record
+            < slots_bound bytes self.old.at.next_record)) }
         ensures bound { IfSome result (λ r. IfOk r (λ _.
             walk_bound self.new ≤ bound_next self.old.bytes.now self.old.at.next_record)) }
         ensures there { let c = self.old.at in
@@ -308,8 +308,9 @@ impl<'a, 'm> Walk<'a, 'm> {
         };
         let (is_out, looked) = is_skipped::<T>(self.bytes, &record, self.finder.address_map());
         let steps = tested + looked + 1;
+        let next_record = Some(offset + size);
         if is_out {
-            self.at.next_record = Some(offset + size);
+            self.at.next_record = next_record;
             self.at.place = None;
             self.at.pending = None;
             return Some(Ok(steps));
@@ -322,7 +323,7 @@ impl<'a, 'm> Walk<'a, 'm> {
         let place = lookup_offset(&record, &mut self.finder);
         self.at = ImportCursor {
             first_record,
-            next_record: Some(offset + size),
+            next_record,
             library: record_index(first_record, offset),
             name_rva: record.name_rva,
             rva: record.import_address_table_rva,
