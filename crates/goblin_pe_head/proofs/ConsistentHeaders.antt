@@ -32,7 +32,7 @@ use Rattle.goblin_pe_head.specs.CoffHeader.{coff_fields, coff_header}
 use Rattle.goblin_pe_head.specs.DosHeader.{dos_fields, dos_record}
 use Rattle.goblin_pe_head.specs.HeaderLaws.{FieldsReadBack, IsConsistent, IsConsistentOptional, IsConsistentPart, IsEntryAt}
 use Rattle.goblin_pe_head.specs.HeaderReadings.{optional_at, optional_header, pe_header, standard_by, stub_in, windows_by}
-use Rattle.goblin_pe_head.specs.OptionalHeader.{bytes_32, bytes_64, fields_size, narrowed, optional_bytes, standard_32_fields, standard_32_record, standard_64_fields, standard_64_record, standard_from_32, standard_from_64, standard_to_32, standard_to_64, windows_32_fields, windows_32_record, windows_fields, windows_record, windows_from_32, windows_to_32}
+use Rattle.goblin_pe_head.specs.OptionalHeader.{bytes_32, bytes_64, fields_size, narrowed, optional_bytes, standard_32_fields, standard_32_record, standard_64_fields, standard_64_record, standard_from_32, standard_from_64, standard_to_32, standard_to_64, windows_32_fields, windows_32_record, windows_record_fields, windows_record, windows_from_32, windows_to_32}
 use Rattle.goblin_pe_head.specs.PeHeader.{PeHeader, header_parts, header_value, written_part}
 use Rattle.goblin_pe_head.specs.RichHeader.{rich_at, rich_in}
 use Rattle.goblin_pe_head.proofs.OptionalHeaderRoundTrip.{four-bytes}
@@ -200,21 +200,21 @@ module _ (h : OptionalHeader) (agree : IsConsistentOptional h) (bytes rest : Lis
       })
 
   wide-again : s.magic ≡ 0x20B
-      → bytes ≡ encoding Little (standard_64_fields (standard_to_64 s)) ++ (encoding Little (windows_fields 8 h.windows_fields) ++ (table ++ rest))
-      → ReadsBack 24 standard_64_record standard_64_fields (standard_to_64 s) → ReadsBack 88 (windows_record 8) (windows_fields 8) h.windows_fields
+      → bytes ≡ encoding Little (standard_64_fields (standard_to_64 s)) ++ (encoding Little (windows_record_fields 8 h.windows_fields) ++ (table ++ rest))
+      → ReadsBack 24 standard_64_record standard_64_fields (standard_to_64 s) → ReadsBack 88 (windows_record 8) (windows_record_fields 8) h.windows_fields
       → optional_header.value bytes ≡ Some (h, 112 + 8 * count)
   unfolding standard_by windows_by standard_to_64
   wide-again magic is standard windows =
       let first = encoding Little (standard_64_fields (standard_to_64 s)) in
-      let second = encoding Little (windows_fields 8 h.windows_fields) in
+      let second = encoding Little (windows_record_fields 8 h.windows_fields) in
       let long : length first ≡ 24 = length_encoding Little (standard_64_fields (standard_to_64 s)) in
-      let long_second : length second ≡ 88 = length_encoding Little (windows_fields 8 h.windows_fields) in
+      let long_second : length second ≡ 88 = length_encoding Little (windows_record_fields 8 h.windows_fields) in
       let after : drop 24 bytes ≡ second ++ (table ++ rest) = ap (drop 24) is ∙ drop_at first (second ++ (table ++ rest)) 24 long in
       let last : drop 112 bytes ≡ table ++ rest = sym (drop-drop 88 24 bytes) ∙ ap (drop 88) after ∙ drop_at second (table ++ rest) 88 long_second in
       let front : StandAt bytes 0 first = record { rest = second ++ (table ++ rest); is = is; some = omega (arith, long) } in
       let back : StandAt bytes 24 second = record { rest = table ++ rest; is = after; some = omega (arith, long_second) } in
       let one = stand-record bytes 0 24 standard_64_record standard_64_fields (standard_to_64 s) front long standard in
-      let two = stand-record bytes 24 88 (windows_record 8) (windows_fields 8) h.windows_fields back long_second windows in
+      let two = stand-record bytes 24 88 (windows_record 8) (windows_record_fields 8) h.windows_fields back long_second windows in
       let own = record_at-some 24 (standard_64_record Little) bytes 0 (standard_to_64 s) one in
       let number = front-magic bytes 24 0x20B own.end (omega arith) (sym magic ∙ ap (λ (x : StandardFields64). x.magic) own.is) in
       of_optional 0x20B bytes (h, 112 + 8 * count) (record {
@@ -245,7 +245,7 @@ optional-again h written bytes rest agree fields made is =
           let magic = eqb-true h.standard_fields.magic 0x20B wide.0 in
           let back = fields.1 magic in (
             112 + 8 * h.windows_fields.number_of_rva_and_sizes,
-            wide-again h agree bytes rest magic (is ∙ pieces (encoding Little (standard_64_fields (standard_to_64 h.standard_fields))) (encoding Little (windows_fields 8 h.windows_fields)) (encoding Little (entries_fields h.data_directories.data_directories)) written rest (same_value (bytes_64 Little h) written wide.1)) back.0 back.1,
+            wide-again h agree bytes rest magic (is ∙ pieces (encoding Little (standard_64_fields (standard_to_64 h.standard_fields))) (encoding Little (windows_record_fields 8 h.windows_fields)) (encoding Little (entries_fields h.data_directories.data_directories)) written rest (same_value (bytes_64 Little h) written wide.1)) back.0 back.1,
           )
     ]
 

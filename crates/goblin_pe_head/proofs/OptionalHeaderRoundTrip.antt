@@ -17,7 +17,7 @@ use Rattle.goblin_pe_head.specs.declared.optional_header.windows_fields.WindowsF
 use Rattle.goblin_pe_head.specs.declared.optional_header.windows_fields.WindowsFields64.{WindowsFields64}
 use Rattle.goblin_pe_head.specs.declared.optional_header.OptionalHeader.{OptionalHeader}
 use Rattle.goblin_pe_head.specs.HeaderReadings.{optional_header, standard_by, windows_by}
-use Rattle.goblin_pe_head.specs.OptionalHeader.{optional_bytes, standard_32_fields, standard_32_record, standard_64_fields, standard_64_record, standard_from_32, standard_from_64, standard_to_32, standard_to_64, as_windows_32, windows_32_fields, windows_32_record, windows_fields, windows_record, windows_to_32}
+use Rattle.goblin_pe_head.specs.OptionalHeader.{optional_bytes, standard_32_fields, standard_32_record, standard_64_fields, standard_64_record, standard_from_32, standard_from_64, standard_to_32, standard_to_64, as_windows_32, windows_32_fields, windows_32_record, windows_record_fields, windows_record, windows_to_32}
 use Rattle.goblin_pe_head.specs.OptionalHeaderLaws.{optional_header-within}
 use Rattle.goblin_pe_head.specs.HeaderLaws.{OptionalWritesBack, filling, optional_size}
 use Rattle.goblin_pe_head.proofs.OptionalParts.{IsOptionalOf, magic_32, magic_64, optional_of}
@@ -46,7 +46,7 @@ unfolding optional_bytes
 form_32 h s w magic standard windows = rw (standard, windows, magic) refl
 
 form_64 : (h : OptionalHeader) (s : StandardFields64) → h.standard_fields.magic ≡ 0x20B → standard_to_64 h.standard_fields ≡ s
-    → optional_bytes Little h ≡ Some (encoding Little (standard_64_fields s) ++ (encoding Little (windows_fields 8 h.windows_fields) ++ (encoding Little (entries_fields h.data_directories.data_directories) ++ [])))
+    → optional_bytes Little h ≡ Some (encoding Little (standard_64_fields s) ++ (encoding Little (windows_record_fields 8 h.windows_fields) ++ (encoding Little (entries_fields h.data_directories.data_directories) ++ [])))
 unfolding optional_bytes
 form_64 h s magic standard = rw (standard, magic) refl
 
@@ -90,9 +90,9 @@ narrow bytes x h is =
     let magic = magic_32 bytes x is in (
       rw magic (sym is.size),
       form_32 header s.value (as_windows_32 header.windows_fields) magic standard windows
-          ∙ ap (λ (xs : List ℕ). Some xs) (pieces bytes 28 68 (8 * count) (encoding Little (standard_32_fields s.value)) (encoding Little (windows_fields 4 header.windows_fields)) (encoding Little (entries_fields entries)) (filling header)
+          ∙ ap (λ (xs : List ℕ). Some xs) (pieces bytes 28 68 (8 * count) (encoding Little (standard_32_fields s.value)) (encoding Little (windows_record_fields 4 header.windows_fields)) (encoding Little (entries_fields entries)) (filling header)
           (record_bytes-are 28 (standard_32_record Little) standard_32_fields bytes 0 s.value (standard_32_back Little) h s.is)
-          (record_bytes-are 68 (windows_record 4 Little) (windows_fields 4) bytes 28 header.windows_fields (windows_4_back Little) h is.windows)
+          (record_bytes-are 68 (windows_record 4 Little) (windows_record_fields 4) bytes 28 header.windows_fields (windows_4_back Little) h is.windows)
           (entries-are bytes count 96 entries h is.directories))
           ∙ ap (λ (n : ℕ). Some (take n bytes ++ filling header)) is.size,
     )
@@ -110,9 +110,9 @@ wide bytes x h is =
     let magic = magic_64 bytes x is in (
       rw magic (sym is.size),
       form_64 header s.value magic standard
-          ∙ ap (λ (xs : List ℕ). Some xs) (pieces bytes 24 88 (8 * count) (encoding Little (standard_64_fields s.value)) (encoding Little (windows_fields 8 header.windows_fields)) (encoding Little (entries_fields entries)) (filling header)
+          ∙ ap (λ (xs : List ℕ). Some xs) (pieces bytes 24 88 (8 * count) (encoding Little (standard_64_fields s.value)) (encoding Little (windows_record_fields 8 header.windows_fields)) (encoding Little (entries_fields entries)) (filling header)
           (record_bytes-are 24 (standard_64_record Little) standard_64_fields bytes 0 s.value (standard_64_back Little) h s.is)
-          (record_bytes-are 88 (windows_record 8 Little) (windows_fields 8) bytes 24 header.windows_fields (windows_64_back Little) h is.windows)
+          (record_bytes-are 88 (windows_record 8 Little) (windows_record_fields 8) bytes 24 header.windows_fields (windows_64_back Little) h is.windows)
           (entries-are bytes count 112 entries h is.directories))
           ∙ ap (λ (n : ℕ). Some (take n bytes ++ filling header)) is.size,
     )

@@ -17,7 +17,7 @@ use Rattle.goblin_pe_head.specs.OptionalHeader.{fields_size, optional_bytes, sta
 use Rattle.goblin_pe_head.specs.OptionalHeader.{standard_32_record, standard_64_fields}
 use Rattle.goblin_pe_head.specs.OptionalHeader.{standard_64_record, standard_to_32, standard_to_64}
 use Rattle.goblin_pe_head.specs.OptionalHeader.{windows_32_fields, windows_32_record}
-use Rattle.goblin_pe_head.specs.OptionalHeader.{windows_fields, windows_record, windows_to_32}
+use Rattle.goblin_pe_head.specs.OptionalHeader.{windows_record_fields, windows_record, windows_to_32}
 use Rattle.goblin_pe_head.specs.PeHeader.{PeHeader, header_bytes}
 use Rattle.goblin_pe_head.specs.RichHeader.{Rich, word_at, rich_in}
 
@@ -125,7 +125,7 @@ FieldsReadBack h =
     × IfSome (windows_to_32 h.windows_fields) (ReadsBack 68 windows_32_record windows_32_fields))
     × (h.standard_fields.magic ≡ 0x20B
     → ReadsBack 24 standard_64_record standard_64_fields (standard_to_64 h.standard_fields)
-    × ReadsBack 88 (windows_record 8) (windows_fields 8) h.windows_fields)
+    × ReadsBack 88 (windows_record 8) (windows_record_fields 8) h.windows_fields)
 
 -- ---- the places of the markers of a Rich header
 

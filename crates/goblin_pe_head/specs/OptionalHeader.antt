@@ -287,7 +287,7 @@ bytes_32 endian h =
 abbrev pub bytes_64 : Endian → OptionalHeader → List ℕ
 bytes_64 endian h = concat (
     encoding endian (standard_64_fields (standard_to_64 h.standard_fields))
-    ∷ encoding endian (windows_fields 8 h.windows_fields)
+    ∷ encoding endian (windows_record_fields 8 h.windows_fields)
     ∷ encoding endian (entries_fields h.data_directories.data_directories)
     ∷ []
     )

@@ -5,7 +5,7 @@ ghost use Rattle.goblin_base.specs.Record.{WritesRecord};
 ghost use Rattle.goblin_pe_head.specs.declared.optional_header.windows_fields.WindowsFields32.{WindowsFields32};
 ghost use Rattle.goblin_pe_head.specs.declared.optional_header.windows_fields.WindowsFields64.{WindowsFields64};
 ghost use Rattle.goblin_pe_head.specs.OptionalHeader.{windows_32_record, windows_32_fields};
-ghost use Rattle.goblin_pe_head.specs.OptionalHeader.{windows_record, windows_fields};
+ghost use Rattle.goblin_pe_head.specs.OptionalHeader.{windows_record, windows_record_fields};
 ghost use Rattle.goblin_pe_head.specs.OptionalHeader.{windows_from_32, windows_to_32, narrowed};
 ghost use Rattle.goblin_pe_head.specs.OptionalHeader.{NarrowsWindows};
 
@@ -245,7 +245,7 @@ impl Record for WindowsFields64 {
 
     ghost value = { windows_record 8 };
 
-    ghost fields = { windows_fields 8 };
+    ghost fields = { windows_record_fields 8 };
 
     fn size() -> usize {
         SIZEOF_WINDOWS_FIELDS_64
@@ -315,7 +315,7 @@ impl WindowsFields64 {
     /// # Errors
     /// [`Error::Read`] if there is no room for 88 bytes; `bytes` is then unchanged.
     pub fn try_into_ctx(self, bytes: &mut [u8], endian: Endian) -> Result<usize>
-        ensures { WritesRecord 88 (windows_record 8) (windows_fields 8)
+        ensures { WritesRecord 88 (windows_record 8) (windows_record_fields 8)
             endian self result bytes.old bytes.new }
     {
         Record::try_into_ctx(self, bytes, endian)
