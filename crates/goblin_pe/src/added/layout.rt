@@ -26,10 +26,10 @@ ghost use Rattle.goblin_pe.specs.added.Layouts.{layout_map, layout_places, layou
 ghost use Rattle.goblin_pe.specs.added.Layouts.{GivesLayout, address_part, directory_data};
 ghost use Rattle.goblin_pe.specs.added.Layouts.{directory_part, layout_table, walked_exports};
 ghost use Rattle.goblin_pe_export.specs.added.ExportWalks.{walked_tables};
-ghost use Rattle.goblin_pe.specs.Whole.{BecomesPart, IfRead, directory_offset, entry_format, export_part};
-ghost use Rattle.goblin_pe.specs.Whole.{import_list};
-ghost use Rattle.goblin_pe.specs.Whole.{part_map, relocation_part, section_table_offset, places_in};
-ghost use Rattle.goblin_pe.specs.Whole.{sections_after, table_places};
+ghost use Rattle.goblin_pe.specs.Whole.{BecomesPart, IfRead, directory_offset, entry_format};
+ghost use Rattle.goblin_pe.specs.Whole.{export_part, import_list, part_map, places_in};
+ghost use Rattle.goblin_pe.specs.Whole.{relocation_part, section_table_offset, sections_after};
+ghost use Rattle.goblin_pe.specs.Whole.{table_places};
 
 use crate::added::{Exports, FileImports, ImportCursor, Imports, LeftOut};
 use crate::whole::Part;
