@@ -6,9 +6,8 @@ ghost use Rattle.goblin_base.specs.Reading.{ReadsOrMemory};
 ghost use Rattle.goblin_pe.specs.added.Layouts.{layout_bytes, layout_map, layout_places};
 ghost use Rattle.goblin_pe.specs.added.Layouts.{layout_sections};
 ghost use Rattle.goblin_pe.specs.Whole.{directory_offset, table_places};
-ghost use Rattle.goblin_pe_c_tables.specs.Places.{TakesIndexAt, map_at};
+ghost use Rattle.goblin_pe_c_tables.specs.Places.{TakesIndexAt, map_at, places_from_c};
 ghost use Rattle.goblin_pe_c_headers.specs.Places.{image_places, placed_sections};
-ghost use Rattle.goblin_pe_c_tables.specs.Places.{places_from_c};
 
 use goblin_pe::added::Layout;
 use goblin_pe::address_map::{AddressMap, MappedRecords};
