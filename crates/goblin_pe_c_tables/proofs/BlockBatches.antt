@@ -176,7 +176,7 @@ module _ (m : MapOfAddresses) (bytes directory : List ℕ) where
 
   -- the bytes of a directory that was read end in the file
   pub directory-inside : (places : TablePlaces) → (relocation_part m.opts m.addressing places).value bytes ≡ Some (part.Read directory)
-      → relocations_begin m.addressing places + length directory ≤ length bytes
+      → relocations_begin m places + length directory ≤ length bytes
   unfolding relocation_part
   directory-inside places is = part-inside (is_strict m.opts.parse_mode) (directory_at places 5) is
 
@@ -192,7 +192,7 @@ directory-read m places bytes result found is read =
 module _ (m : MapOfAddresses) (places : TablePlaces) (bytes : List ℕ) (found : Part RelocationData)
     (read : (relocation_part m.opts m.addressing places).value bytes ≡ Some (part_map relocation_bytes found)) (old new : Batch ℕ PeRelocationBlock) where
   abbrev begin : ℕ
-  begin = relocations_begin m.addressing places
+  begin = relocations_begin m places
 
   -- where the directory was read
   pub blocks-answered : (relocations : RelocationData) → found ≡ part.Read relocations → (begins : ℕ) → begins ≡ begin → (result : Result PeBatch ErrorOf)
@@ -211,7 +211,7 @@ module _ (m : MapOfAddresses) (places : TablePlaces) (bytes : List ℕ) (x : ℕ
       → (found ≡ Absent) ⊎ (found ≡ Refused)
       → GivesBlocks m places bytes (record { position = x; records = old }) (record { position = x; records = old }) (at_room (length old) 0 true)
   blocks-none found read none =
-      let begin = relocations_begin m.addressing places in
+      let begin = relocations_begin m places in
       let stays : x ≡ x + 0 = omega arith in
       elim none [
         | inl is ↦ rw (read ∙ ap (λ (p : Part RelocationData). Some (part_map relocation_bytes p)) is) (none-given (block_table begin Absent) ⊥ (λ left. x ≡ x + size_of (take 0 (values_before left))) x old refl stays)

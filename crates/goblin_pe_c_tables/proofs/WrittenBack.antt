@@ -22,8 +22,7 @@ use Rattle.goblin_pe.specs.Whole.{places_in}
 use Rattle.goblin_pe_c_headers.specs.declared.image.PeImage.{PeImage}
 use Rattle.goblin_pe_c_headers.specs.Headers.{optional_record}
 use Rattle.goblin_pe_c_headers.specs.Written.{entry_from_c, header_from_c, image_stub, optional_from_c}
-use Rattle.goblin_pe_c_tables.specs.ReadImages.{image_of}
-use Rattle.goblin_pe_c_tables.specs.Written.{ImageWritesBack}
+use Rattle.goblin_pe_c_tables.specs.ReadImages.{ImageWritesBack, image_of}
 
 abbrev Entry : Type 0
 Entry = Option (ℕ × DataDirectory)

@@ -21,7 +21,6 @@ use Rattle.goblin_pe.specs.added.Layouts.{address_part, file_imports_left}
 use Rattle.goblin_pe_import.specs.added.StepsAhead.{AtSteps}
 use Rattle.goblin_pe.specs.Whole.{TablePlaces, directory_offset, export_part, relocation_part}
 use Rattle.goblin_pe.specs.declared.whole.Part.{Part}
-use Rattle.goblin_pe.specs.declared.whole.Part.TheVariants.{Absent, Refused}
 use Rattle.goblin_pe.specs.declared.whole.Part.TheVariants as part
 use Rattle.goblin_pe.specs.declared.added.file_imports.FileImports.{FileImports}
 use Rattle.goblin_pe.specs.declared.added.file_imports.FileImports.TheVariants.{Narrow, Wide}
@@ -44,8 +43,8 @@ use Rattle.goblin_pe_c_headers.specs.declared.fault.PeFault.{PeFault}
 use Rattle.goblin_pe_c_headers.specs.declared.image.PeImage.{PeImage}
 use Rattle.goblin_pe_c_headers.specs.Calls.{ReportedAfter}
 
--- What is said of a batch of a file, as its caller passes it and as it is filled, and of the answer;
--- and of why one is refused.
+-- What is said of a batch of a file, as its caller passes it and as it is filled, and of the
+-- answer; and of why one is refused.
 abbrev pub SaysBatch : Type 0 → Type 0 → Type 1
 SaysBatch P R = MapOfAddresses → TablePlaces → List ℕ → Batch P R → Batch P R → PeBatch → Type 0
 
@@ -54,11 +53,10 @@ SaysRefused P R = MapOfAddresses → TablePlaces → List ℕ → Batch P R → 
 
 -- what a table gives that was read, and the others
 abbrev pub part_or : {A B : Type 0} → B → (A → B) → Part A → B
-part_or other of_read Absent = other
+part_or other of_read part.Absent = other
 part_or other of_read (part.Read table) = of_read table
-part_or other of_read Refused = other
+part_or other of_read part.Refused = other
 
--- records that are filled from a position on
 abbrev pub batch_at : {P R : Type 0} → P → List R → Batch P R
 batch_at position records = record { position = position; records = records }
 
@@ -68,7 +66,6 @@ at_room room count is_done = record { count = count; is_done = is_done && not (r
 
 -- ---- imports
 
--- the cursor that these numbers say
 abbrev pub cursor_from_c : PeImportCursor → ImportCursor
 cursor_from_c p = record {
   first_record = p.first_record;
@@ -81,7 +78,6 @@ cursor_from_c p = record {
   pending = then_some p.has_address_table p.address_table;
 }
 
--- the numbers of a cursor
 abbrev pub cursor_for_c : ImportCursor → PeImportCursor
 cursor_for_c c = record {
   first_record = c.first_record;
@@ -103,7 +99,6 @@ abbrev pub import_cursor : MapOfAddresses → TablePlaces → PeImportCursor →
 import_cursor m places p =
     pick p.is_begun (given (cursor_from_c p)) (import_begin m.opts m.addressing places)
 
--- the imports of a file
 abbrev pub import_table : MapOfAddresses → TablePlaces → List ℕ
     → Table PeImportCursor PeImport NumberedImport ImportModel
 import_table m places bytes = record {
@@ -165,7 +160,6 @@ abbrev pub exports_in : MapOfAddresses → List ℕ → Part (ExportTables × Li
     → List NumberedExport
 exports_in m bytes p x = part_or [] (λ read. numbered_from m.addressing bytes read.0 x) p
 
--- how many name pointers tables have
 abbrev pub pointers_in : Part (ExportTables × List NumberedExport) → ℕ
 pointers_in p = part_or 0 (λ read. length read.0.export_name_pointer_table) p
 
@@ -216,8 +210,8 @@ GivesAddresses m places bytes old new batch =
 -- ---- blocks of base relocations
 
 -- the file offset of the base relocation directory; 0 if it has none
-abbrev pub relocations_begin : Addressing → TablePlaces → ℕ
-relocations_begin addressing places = unwrap_or (directory_offset addressing places 5) 0
+abbrev pub relocations_begin : MapOfAddresses → TablePlaces → ℕ
+relocations_begin m places = unwrap_or (directory_offset m.addressing places 5) 0
 
 -- blocks that follow one another from a file offset on, each with its offset
 unfoldable pub placed : ℕ → List (Option Block) → List (Option (ℕ × Block))
@@ -231,7 +225,6 @@ abbrev pub blocks_from : ℕ → Part (List ℕ) → ℕ → List (Option (ℕ �
 blocks_from begin p x =
     part_or [] (λ directory. placed (begin + x) (without_causes (block_items directory x))) p
 
--- the record of a block at a file offset
 abbrev pub block_for_c : ℕ × Block → PeRelocationBlock
 block_for_c x = record {
   rva = x.1.rva;
@@ -242,11 +235,10 @@ block_for_c x = record {
 
 -- which refusal comes at an offset, if one does
 abbrev pub IsBlockCause : ℕ → Part (List ℕ) → ErrorOf → Type 0
-IsBlockCause x Absent e = ⊥
+IsBlockCause x part.Absent e = ⊥
 IsBlockCause x (part.Read directory) e = block_at directory x ≡ Err e
-IsBlockCause x Refused e = ⊥
+IsBlockCause x part.Refused e = ⊥
 
--- the blocks of a directory
 abbrev pub block_table : ℕ → Part (List ℕ)
     → Table ℕ PeRelocationBlock (ℕ × Block) PeRelocationBlock
 block_table begin p =
@@ -264,13 +256,13 @@ GivesBlocksIn begin p old new batch =
 abbrev pub GivesBlocks : SaysBatch ℕ PeRelocationBlock
 GivesBlocks m places bytes old new batch =
     IsSomeAnd ((relocation_part m.opts m.addressing places).value bytes)
-    (λ p. GivesBlocksIn (relocations_begin m.addressing places) p old new batch)
+    (λ p. GivesBlocksIn (relocations_begin m places) p old new batch)
 
 -- The directory is refused, or else what comes next of it, and there is room for a block.
 abbrev pub IsBlocksFault : SaysRefused ℕ PeRelocationBlock
 IsBlocksFault m places bytes old e =
     IsNextFault (relocation_part m.opts m.addressing places) bytes
-    (λ p. blocks_from (relocations_begin m.addressing places) p old.position)
+    (λ p. blocks_from (relocations_begin m places) p old.position)
     (IsBlockCause old.position) old e
 
 -- ---- a call

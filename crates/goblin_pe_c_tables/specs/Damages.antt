@@ -28,7 +28,6 @@ use Rattle.goblin_pe_c_tables.specs.declared.damage.PeDamage.{PeDamage}
 
 -- ---- the record
 
--- the numbers of a part's damage
 abbrev pub part_fault : Option ErrorOf → PeFault
 part_fault None = no_fault
 part_fault (Some e) = fault_of e
@@ -41,7 +40,6 @@ is_sound d =
     && (is_none d.imports
     && (is_none d.exports && (is_none d.relocations && d.left_out.libraries == 0))))
 
--- the record of a damage
 abbrev pub damage_record : Damage → PeDamage
 damage_record d = record {
   first_fault = or_fault (part_fault d.dos_stub) (or_fault (part_fault d.section_names)
@@ -142,7 +140,6 @@ LeavesDamage (Ok (Some x)) old new said = (said ≡ no_fault) × (new ≡ x)
 LeavesDamage (Ok None) old new said = (said ≡ fault 7 0 0 0) × (new ≡ old)
 LeavesDamage (Err e) old new said = (said ≡ fault_of e) × (new ≡ old)
 
--- why it is refused before it begins
 abbrev pub damage_refusal : PeImage → ℕ → PeFault
 damage_refusal image steps =
     or_fault (image_fault image.kind image.options) (steps_fault image 1 steps)

@@ -1,20 +1,20 @@
 -- The records of what an export directory says, and of the export address table, as definitions.
 use Rattle.std.specs.Prelude.{ℕ, ◌+◌, Bool, true, false, List, [], ◌∷◌, map, unwrap_or, is_some}
+use Rattle.std.specs.Prelude.{replicate}
 use Rattle.std.specs.List.{enumerate_from}
+use Rattle.goblin_base.specs.declared.endian.Endian.TheVariants.{Little}
 use Rattle.goblin_pe_export.specs.declared.export.tables.ExportAddressTableEntry.{ExportAddressTableEntry}
 use Rattle.goblin_pe_export.specs.declared.export.tables.ExportAddressTableEntry.TheVariants as variant
 use Rattle.goblin_pe_export.specs.declared.export.tables.ExportDirectoryTable.{ExportDirectoryTable}
-use Rattle.goblin_pe_export.specs.ExportRecords.{ExportTables, rva_of}
+use Rattle.goblin_pe_export.specs.ExportRecords.{ExportTables, export_directory_record, rva_of}
 use Rattle.goblin_pe_sect.specs.Addresses.{Addressing}
 use Rattle.goblin_pe_c_tables.specs.declared.export_directory.PeExportAddress.{PeExportAddress}
 use Rattle.goblin_pe_c_tables.specs.declared.export_directory.PeExportDirectory.{PeExportDirectory}
 
--- whether an entry of the export address table is forwarded
 abbrev pub is_forwarder : ExportAddressTableEntry → Bool
 is_forwarder (variant.ExportRVA rva) = false
 is_forwarder (variant.ForwarderRVA rva) = true
 
--- the record of an entry with an ordinal
 abbrev pub address_for_c : Addressing → ℕ → ExportAddressTableEntry → PeExportAddress
 address_for_c addressing ordinal entry = record {
   ordinal = ordinal;
@@ -52,25 +52,12 @@ directory_for_c tables = record {
 abbrev pub no_export_directory : DirectoryModel
 no_export_directory = record {
   name = [];
-  table = record {
-    export_flags = 0;
-    time_date_stamp = 0;
-    major_version = 0;
-    minor_version = 0;
-    name_rva = 0;
-    ordinal_base = 0;
-    address_table_entries = 0;
-    number_of_name_pointers = 0;
-    export_address_table_rva = 0;
-    name_pointer_rva = 0;
-    ordinal_table_rva = 0;
-  };
+  table = export_directory_record Little (replicate 40 0);
   has_name = false;
   is_present = false;
   reserved = 0 ∷ 0 ∷ 0 ∷ 0 ∷ 0 ∷ 0 ∷ [];
 }
 
--- what a record holds
 abbrev pub directory_model : PeExportDirectory → DirectoryModel
 directory_model d = record {
   name = d.name.now;

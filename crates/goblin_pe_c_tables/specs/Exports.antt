@@ -1,8 +1,14 @@
 -- The records of exports, as definitions.
 use Rattle.std.specs.Prelude.{ℕ, Bool, List, [], ◌∷◌, Option, Some, None, unwrap_or, is_some}
-use Rattle.goblin_pe_export.specs.added.ExportWalks.{NumberedExport}
-use Rattle.goblin_pe_export.specs.Forwarders.{Forwarder}
-use Rattle.goblin_pe_export.specs.Forwarders.Forwarder.{ByName, ByOrdinal}
+use Rattle.goblin_base.specs.Reading.{Reading}
+use Rattle.goblin_pe_sect.specs.AddressReadings.{at_address}
+use Rattle.goblin_pe.specs.added.ExportWalks.{NumberedExport}
+use Rattle.goblin_pe_c_headers.specs.Addresses.{image_map}
+use Rattle.goblin_pe_c_headers.specs.Options.{longest_of}
+use Rattle.goblin_pe_c_headers.specs.Places.{image_places}
+use Rattle.goblin_pe_c_headers.specs.declared.image.PeImage.{PeImage}
+use Rattle.goblin_pe.specs.Forwarders.{Forwarder, forwarder_within}
+use Rattle.goblin_pe.specs.Forwarders.Forwarder.{ByName, ByOrdinal}
 use Rattle.goblin_pe_c_tables.specs.declared.export.PeExport.{PeExport}
 use Rattle.goblin_pe_c_tables.specs.declared.forwarder.PeForwarder.{PeForwarder}
 
@@ -51,11 +57,9 @@ export_with x forwarder = record {
   reserved = 0 ∷ 0 ∷ 0 ∷ 0 ∷ 0 ∷ 0 ∷ [];
 }
 
--- the record of an export
 abbrev pub export_for_c : NumberedExport → ExportModel
 export_for_c x = export_with x (forwarder_for_c x.row.reexport)
 
--- what the records hold
 abbrev pub forwarder_model : PeForwarder → ForwarderModel
 forwarder_model f = record {
   dll = f.dll.now;
@@ -78,3 +82,9 @@ export_model x = record {
   has_offset = x.has_offset;
   reserved = x.reserved;
 }
+
+-- the forwarder whose text is at an RVA of an image, up to the limit that its options say
+abbrev pub forwarder_at_address : PeImage → ℕ → Reading Forwarder
+forwarder_at_address image rva =
+    at_address (image_map image.options (image_places image) image.bytes.now) rva
+    (forwarder_within (longest_of image.options))

@@ -24,26 +24,23 @@ pub record ImportModel : Type 0 where
   pub has_name : Bool
   pub reserved : ℕ
 
--- the record of an import of this name; one by ordinal has none
-abbrev pub import_named : NumberedImport → List ℕ → ImportModel
-import_named x name = record {
-  name = name;
-  dll = x.import.dll;
-  iat_rva = x.import.offset;
-  hint_name_rva = x.import.rva;
-  library_index = x.library;
-  thunk_index = x.import.slot;
-  hint_or_ordinal = x.import.ordinal;
-  is_by_name = x.import.is_borrowed;
-  has_name = not (length name == 0);
-  reserved = 0;
-}
-
--- the record of an import, which is by name if its name is in the file
+-- the record of an import, which is by name if its name is in the file; one by ordinal has none
 abbrev pub import_for_c : NumberedImport → ImportModel
-import_for_c x = import_named x (if x.import.is_borrowed then x.import.name else [])
+import_for_c x =
+    let name : List ℕ = if x.import.is_borrowed then x.import.name else [] in
+    record {
+      name = name;
+      dll = x.import.dll;
+      iat_rva = x.import.offset;
+      hint_name_rva = x.import.rva;
+      library_index = x.library;
+      thunk_index = x.import.slot;
+      hint_or_ordinal = x.import.ordinal;
+      is_by_name = x.import.is_borrowed;
+      has_name = not (length name == 0);
+      reserved = 0;
+    }
 
--- what a record holds
 abbrev pub import_model : PeImport → ImportModel
 import_model x = record {
   name = x.name.now;

@@ -2,8 +2,6 @@ pub mod Batches
 pub mod Damages
 pub mod ExportDirectories
 pub mod Exports
-pub mod Footprints
-pub mod ForwardersAt
 pub mod Imports
 pub mod Libraries
 pub mod PartialImages
@@ -11,4 +9,3 @@ pub mod Places
 pub mod ReadImages
 pub mod Steps
 pub mod Walked
-pub mod Written

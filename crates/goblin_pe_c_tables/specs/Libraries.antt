@@ -41,7 +41,6 @@ library_for_c m x = record {
   reserved = 0 ∷ 0 ∷ 0 ∷ [];
 }
 
--- what a record holds
 abbrev pub library_model : PeLibrary → LibraryModel
 library_model x = record {
   name = x.name.now;

@@ -40,7 +40,6 @@ abbrev pub given_or : {A : Type 0} → A → Result A ErrorOf → A
 given_or other (Ok part) = part
 given_or other (Err e) = other
 
--- the sections that are given
 abbrev pub sections_of : Result SectionRecords ErrorOf → List Section
 sections_of (Ok records) = recorded_sections records
 sections_of (Err e) = []
@@ -59,7 +58,6 @@ abbrev pub has_fields : HeaderParts → Bool
 has_fields parts =
     is_some (given_or None parts.standard_fields) && is_some (given_or None parts.windows_fields)
 
--- the DOS stub of a file
 abbrev pub file_stub : Reading (List ℕ)
 file_stub = dos_header >>= λ h. stub_at h.pe_pointer
 
@@ -101,7 +99,6 @@ AreOfLayout bytes parts =
 abbrev pub is_replaced : PeOptions → HeaderParts → Result DosStub ErrorOf → Bool
 is_replaced o parts stub = o.is_permissive && (is_ok parts.dos_header && is_err stub)
 
--- the record of these parts
 abbrev pub partial_image : PeOptions → HeaderParts → Result DosStub ErrorOf
     → Result (Option RichHeader) ErrorOf → PeImage → PeImage
 partial_image o parts stub rich image =
@@ -118,7 +115,6 @@ partial_image o parts stub rich image =
       rich_header = rich_of (option_map rich_value (given_or None rich));
     }
 
--- the faults of these parts
 abbrev pub faults_of : HeaderParts → Result DosStub ErrorOf → Result (Option RichHeader) ErrorOf
     → PeFault × PeFault → PeHeaderFaults
 faults_of parts stub rich table = record {

@@ -1,9 +1,12 @@
 -- A whole file as walks give it, and the bytes on which that depends.
 use Rattle.std.specs.Prelude.{◌≡◌, ◌<◌, ◌^◌, ℕ, false, true, length, List, [], Option, Some, None}
-use Rattle.std.specs.Prelude.{IsSomeAnd}
+use Rattle.std.specs.Prelude.{IsSomeAnd, ◌-◌, map, Result, Ok, Err}
 use Rattle.std.proofs.Common.{◌∙◌, ap}
 use Rattle.goblin_base.specs.Bytes.{IsBytes}
-use Rattle.goblin_base.specs.Footprints.{Agree}
+use Rattle.goblin_base.specs.Footprints.{Agree, Range}
+use Rattle.goblin_base.specs.Marks.{joined}
+use Rattle.goblin_base.specs.Answers.{IsMemory}
+use Rattle.goblin_base.specs.declared.error.ErrorOf.{ErrorOf}
 use Rattle.goblin_base.specs.declared.permissive.ParseMode.TheVariants.{Permissive, Strict}
 use Rattle.goblin_base.specs.Reading.{Reading}
 use Rattle.goblin_base.proofs.Footprints.{agree-left}
@@ -30,6 +33,8 @@ use Rattle.goblin_pe_c_tables.specs.Batches.{exports_in, import_table, part_or}
 use Rattle.goblin_pe_c_tables.specs.Places.{map_at, places_record, places_from_c}
 use Rattle.goblin_pe_c_headers.specs.Places.{placed_sections, image_places}
 use Rattle.goblin_pe_c_tables.specs.declared.next.PeImportCursor.{PeImportCursor}
+use Rattle.goblin_pe_c_tables.specs.declared.ranges.PeFootprint.{PeFootprint}
+use Rattle.goblin_pe_c_tables.specs.declared.ranges.PeRange.{PeRange}
 use Rattle.goblin_pe_c_tables.specs.Damages.{IsDamagedBy, damage_record, mode_map}
 use Rattle.goblin_pe_c_tables.specs.ReadImages.{image_of}
 use Rattle.goblin_pe_c_headers.specs.Onward.{unrefused}
@@ -87,6 +92,17 @@ walked_in o = record {
   is_inside = λ bytes. (walked_file (view_of o) (options_in o bytes)).is_inside bytes;
   not_memory = λ bytes. (walked_file (view_of o) (options_in o bytes)).not_memory bytes;
 }
+
+-- the record of a range: its first position, and how many there are
+abbrev pub range_record_of : Range → PeRange
+range_record_of range = record { offset = range.0; length = range.1 - range.0 }
+
+-- A call lists the ranges of a footprint of a file, in order and joined; or memory was refused, and
+-- everything is unchanged.
+abbrev pub Lists : List ℕ → List Range → PeFootprint → PeFootprint → Result Unit ErrorOf → Type 0
+Lists bytes reached old new (Ok x) =
+    new.ranges.now ≡ map range_record_of (joined (length bytes) reached)
+Lists bytes reached old new (Err e) = IsMemory e × (new ≡ old)
 
 -- ---- what walks give of it
 

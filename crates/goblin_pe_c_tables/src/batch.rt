@@ -75,7 +75,8 @@ pub fn walk<'a, T: Batched<'a>>(
     ensures given { let old = batch_at position.old records.old in
         let new = batch_at position.new records.new in
         let allowed = steps.old - section_steps image.now (length records.old) in
-        WalksOver refusal result image.now (T.gives allowed steps.new) T.is_fault old new batch.new }
+        WalksOver refusal result image.now (T.gives allowed steps.new) T.is_fault old new
+        batch.new }
     ensures kept { result.status ≢ 0 → steps.new ≡ steps.old }
 {
     *batch = ended(0);

@@ -76,6 +76,7 @@ fn address_record(entry: Entry, ordinal: usize, address_map: &AddressMap) -> PeE
 }
 
 // The record of an export directory; zeros if none is read.
+#[tactic(auto, unfolding(goblin_base::specs::Bytes::number))]
 fn directory_record<'a>(bytes: &'a [u8], exports: &Part<Exports<'a, '_>>) -> PeExportDirectory<'a>
     ensures { directory_model result
         ≡ part_or no_export_directory directory_for_c (part_map walked_tables exports.now) }

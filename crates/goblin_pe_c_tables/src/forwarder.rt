@@ -3,8 +3,8 @@
 ghost use Rattle.std.specs.Prelude.{◌≡◌, None, Some};
 ghost use Rattle.goblin_pe_export.specs.Forwarders.{forwarder_value};
 ghost use Rattle.goblin_pe_c_headers.specs.Calls.{ReadsWithout};
-ghost use Rattle.goblin_pe_c_tables.specs.Exports.{forwarder_for_c, forwarder_model};
-ghost use Rattle.goblin_pe_c_tables.specs.ForwardersAt.{forwarder_at_address};
+ghost use Rattle.goblin_pe_c_tables.specs.Exports.{forwarder_at_address, forwarder_for_c};
+ghost use Rattle.goblin_pe_c_tables.specs.Exports.{forwarder_model};
 
 use goblin_pe::export::Reexport;
 use goblin_pe::{Cause, Error, Result};

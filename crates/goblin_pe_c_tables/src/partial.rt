@@ -129,7 +129,8 @@ fn count_given(parts: &HeaderParts) -> u16
 
 // Tests that the file has all section headers that its COFF header counts.
 fn test_table(bytes: &[u8], coff_header: CoffHeader, section_table: usize) -> Result<()>
-    ensures { Tests (unnamed_sections coff_header.number_of_sections section_table) bytes.now result }
+    ensures { Tests (unnamed_sections coff_header.number_of_sections section_table) bytes.now
+        result }
 {
     unnamed_records(bytes, section_table, coff_header.number_of_sections)?;
     Ok(())

@@ -4,8 +4,7 @@ ghost use Rattle.std.specs.Prelude.{◌≡◌, ◌<◌, IfErr, IfOk, length, map
 ghost use Rattle.goblin_base.specs.Answers.{IsMemory};
 ghost use Rattle.goblin_base.specs.Marks.{joined};
 ghost use Rattle.goblin_pe.specs.Whole.{whole_in};
-ghost use Rattle.goblin_pe_c_tables.specs.Footprints.{Lists, range_record_of};
-ghost use Rattle.goblin_pe_c_tables.specs.Walked.{WalksGive, walked_in};
+ghost use Rattle.goblin_pe_c_tables.specs.Walked.{Lists, WalksGive, range_record_of, walked_in};
 
 use goblin_pe::added::mark_whole;
 use goblin_pe::options::{ParseOptions, View};

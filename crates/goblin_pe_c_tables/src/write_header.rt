@@ -1,7 +1,7 @@
 //! A header, written from the record of an image.
 
 ghost use Rattle.goblin_pe_c_headers.specs.Written.{Output, WritesHeader};
-ghost use Rattle.goblin_pe_c_tables.specs.Written.{ImageWritesBack};
+ghost use Rattle.goblin_pe_c_tables.specs.ReadImages.{ImageWritesBack};
 
 use goblin_pe::{Endian, Result};
 use goblin_pe_c_headers::given_header::{header_from_c, stub_of};

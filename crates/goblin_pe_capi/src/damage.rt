@@ -4,8 +4,7 @@ ghost use Rattle.std.specs.Prelude.{◌≡◌};
 ghost use Rattle.goblin_pe_c_headers.specs.Calls.{ReportedAfter};
 ghost use Rattle.goblin_pe_c_headers.specs.Faults.{image_fault};
 ghost use Rattle.goblin_pe_c_tables.specs.Damages.{ReadsDamage};
-ghost use Rattle.goblin_pe_c_tables.specs.Footprints.{Lists};
-ghost use Rattle.goblin_pe_c_tables.specs.Walked.{SoundIsWalkedAlike, WalksGive, walked_in};
+ghost use Rattle.goblin_pe_c_tables.specs.Walked.{Lists, SoundIsWalkedAlike, WalksGive, walked_in};
 
 use goblin_pe_c_headers::fault::{PeFault, refused_image, status_of};
 use goblin_pe_c_headers::image::PeImage;

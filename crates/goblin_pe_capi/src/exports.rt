@@ -8,8 +8,8 @@ ghost use Rattle.goblin_pe_c_tables.specs.Batches.{GivesAddresses, GivesBatch, G
 ghost use Rattle.goblin_pe_c_tables.specs.Batches.{IsAddressesFault, IsExportBatchFault};
 ghost use Rattle.goblin_pe_c_tables.specs.Batches.{SaysDirectory, WalksOver, batch_at};
 ghost use Rattle.goblin_pe_c_tables.specs.ExportDirectories.{directory_model};
-ghost use Rattle.goblin_pe_c_tables.specs.Exports.{forwarder_for_c, forwarder_model};
-ghost use Rattle.goblin_pe_c_tables.specs.ForwardersAt.{forwarder_at_address};
+ghost use Rattle.goblin_pe_c_tables.specs.Exports.{forwarder_at_address, forwarder_for_c};
+ghost use Rattle.goblin_pe_c_tables.specs.Exports.{forwarder_model};
 ghost use Rattle.goblin_pe_c_tables.specs.Steps.{section_steps, walk_fault};
 
 use goblin_pe_c_headers::batch::PeBatch;

@@ -5,7 +5,7 @@ ghost use Rattle.goblin_pe_sect.specs.SectionReadings.{SectionWritesBack};
 ghost use Rattle.goblin_pe_c_headers.specs.Calls.{Reported, ReportedAfter};
 ghost use Rattle.goblin_pe_c_headers.specs.Faults.{kind_fault};
 ghost use Rattle.goblin_pe_c_headers.specs.Written.{Output, SetsName, WritesHeader, WritesSection};
-ghost use Rattle.goblin_pe_c_tables.specs.Written.{ImageWritesBack};
+ghost use Rattle.goblin_pe_c_tables.specs.ReadImages.{ImageWritesBack};
 
 use goblin_pe_c_headers::fault::{PeFault, refused_kind, status_of};
 use goblin_pe_c_headers::image::PeImage;
