@@ -378,6 +378,7 @@ fn cause_of(fault: &PeFault) -> Option<Cause>
     item_at(&causes(fault.first, fault.second), index)
 }
 
+// What a file is too short for, by the numbers of `Counted`.
 fn word_of(number: u32) -> Option<&'static str>
     ensures { option_map (λ s. s.now) result ≡ word_of number }
 {
@@ -390,6 +391,7 @@ fn word_of(number: u32) -> Option<&'static str>
     }
 }
 
+// Why a read was refused, by the numbers of `ReadRefusal`.
 fn read_fault_of(number: u32) -> Option<ReadFault>
     ensures { result ≡ read_fault_of number }
 {
@@ -413,6 +415,7 @@ fn call_text(status: u32) -> Option<&'static str>
     }
 }
 
+// The refusal with these numbers: those of `Status`, and by it of a cause.
 fn error_of(fault: &PeFault) -> Option<Error>
     ensures { option_map error_text result ≡ file_text fault.now }
 {

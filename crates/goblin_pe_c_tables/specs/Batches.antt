@@ -43,22 +43,19 @@ use Rattle.goblin_pe_c_headers.specs.declared.fault.PeFault.{PeFault}
 use Rattle.goblin_pe_c_headers.specs.declared.image.PeImage.{PeImage}
 use Rattle.goblin_pe_c_headers.specs.Calls.{ReportedAfter}
 
--- What is said of a batch of a file, as its caller passes it and as it is filled, and of the
--- answer; and of why one is refused.
+-- what is said of a batch of a file, as its caller passes it and as it is filled, and of the answer
 abbrev pub SaysBatch : Type 0 → Type 0 → Type 1
 SaysBatch P R = MapOfAddresses → TablePlaces → List ℕ → Batch P R → Batch P R → PeBatch → Type 0
 
+-- what is said of why a batch of a file is refused
 abbrev pub SaysRefused : Type 0 → Type 0 → Type 1
 SaysRefused P R = MapOfAddresses → TablePlaces → List ℕ → Batch P R → ErrorOf → Type 0
 
--- what a table gives that was read, and the others
+-- what is made of a table that was read, or `other` if none was
 abbrev pub part_or : {A B : Type 0} → B → (A → B) → Part A → B
 part_or other of_read part.Absent = other
 part_or other of_read (part.Read table) = of_read table
 part_or other of_read part.Refused = other
-
-abbrev pub batch_at : {P R : Type 0} → P → List R → Batch P R
-batch_at position records = record { position = position; records = records }
 
 -- what a call says that gave `count` records: without room it does not say that it is done
 abbrev pub at_room : ℕ → ℕ → Bool → PeBatch

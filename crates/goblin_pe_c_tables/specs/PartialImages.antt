@@ -70,6 +70,7 @@ stub_size (Err e) is_replaced = if is_replaced then length default_stub else 0
 abbrev pub Tests : {A : Type 0} → Reading A → List ℕ → Result Unit ErrorOf → Type 0
 Tests reading bytes r = MatchResult r (λ _. IsSome (reading.value bytes)) (IsRefused reading bytes)
 
+-- the fault is that of such an answer
 abbrev pub Tells : {A : Type 0} → Reading A → List ℕ → PeFault → Type 0
 Tells reading bytes fault =
     (r : Result Unit ErrorOf) × (fault ≡ status_of r) × Tests reading bytes r

@@ -4,7 +4,7 @@ ghost use Rattle.std.specs.Prelude.{◌≡◌, ◌≢◌, ◌-◌, IfErr, MatchR
 ghost use Rattle.goblin_base.specs.Answers.{IsMemory};
 ghost use Rattle.goblin_pe.specs.added.Layouts.{layout_bytes, layout_map, layout_places};
 ghost use Rattle.goblin_pe_c_tables.specs.Batches.{SaysBatch, SaysRefused, WalksOver, at_room};
-ghost use Rattle.goblin_pe_c_tables.specs.Batches.{batch_at};
+ghost use Rattle.goblin_pe_c_headers.specs.Onward.{batch_at};
 ghost use Rattle.goblin_pe_c_tables.specs.Steps.{section_steps};
 
 use crate::places::layout_of;
@@ -21,8 +21,8 @@ pub trait Batched<'a>: Sized {
     /// Where the next batch begins.
     type Position;
 
-    /// What a batch holds, as its caller passes it and as it is filled, where the next one begins,
-    /// how many steps there were and are left, and what is said of it.
+    /// How many steps there were and are left, what a batch holds, as its caller passes it and as
+    /// it is filled, where the next one begins, and what is said of it.
     ghost gives: { ℕ → ℕ → SaysBatch Self.Position Self };
 
     /// Why a batch is refused.

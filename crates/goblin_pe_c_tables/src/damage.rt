@@ -194,15 +194,15 @@ fn steps_left(layout: &Layout, steps: usize) -> Option<usize>
 }
 
 // The damage of an image within a number of steps, and how many are left; `None` if they run out.
-// A strict walk looks at the entries of a library before it misses the address table, without which
-// permissive mode skips the library.
+// They must also suffice for a strict walk, which looks at the entries of a library before it
+// misses the address table; permissive mode skips such a library. (Of two layouts with an index of
+// many sections, only one is there at a time.)
 fn damage_within(alloc: Global, image: &PeImage, steps: usize) -> Result<Option<(PeDamage, usize)>>
     ensures { AnswersDamage image.now steps result }
 {
     let mut options = image.options;
     options.is_permissive = false;
-    let strict = layout_of(alloc, &PeImage { options, ..*image })?;
-    if steps_after(&strict, steps).is_none() {
+    if steps_after(&layout_of(alloc, &PeImage { options, ..*image })?, steps).is_none() {
         return Ok(None);
     }
     options.is_permissive = true;

@@ -9,7 +9,8 @@ ghost use Rattle.goblin_pe_export.specs.added.ExportWalks.{KeepsOver, exports_le
 ghost use Rattle.goblin_pe_export.specs.added.ExportWalks.{exports_position, pointer_count};
 ghost use Rattle.goblin_pe_c_tables.specs.Batches.{Fills, GivesExports, GivesImports, GivesInFile};
 ghost use Rattle.goblin_pe_c_tables.specs.Batches.{GoesOn, IsExportBatchFault, IsImportsFault};
-ghost use Rattle.goblin_pe_c_tables.specs.Batches.{batch_at, cursor_for_c, cursor_from_c, is_over};
+ghost use Rattle.goblin_pe_c_tables.specs.Batches.{cursor_for_c, cursor_from_c, is_over};
+ghost use Rattle.goblin_pe_c_headers.specs.Onward.{batch_at};
 ghost use Rattle.goblin_pe_c_tables.specs.Batches.{exports_table, import_cursor};
 ghost use Rattle.goblin_pe_c_tables.specs.Imports.{GivesHere};
 ghost use Rattle.goblin_pe_c_headers.specs.Onward.{FillsFrom, IsRefusedNext, unrefused};
@@ -113,7 +114,7 @@ pub(crate) fn is_over(at: &ImportCursor) -> bool
     at.place.is_none() && at.next_record.is_none() && at.pending.is_none()
 }
 
-// Where so many steps from `first` on end, or already before, at `end`.
+// How far so many steps from `first` on lead, at most to `end`.
 fn end_within(end: usize, first: usize, steps: usize) -> usize
     ensures within { result ≤ end }
     ensures limit { result ≤ first + steps }
@@ -250,7 +251,7 @@ impl<'a> Batched<'a> for PeImport<'a> {
 
 // Fills records with the exports that come next of the name pointers before `end`, as far as there
 // is room, and answers how many. Those that `next_ascii` gives come by a loop of their own, in
-// which all goes in line.
+// which all goes in line, and each record is a step.
 fn fill_exports<'a, 'm>(
     bytes: &'a [u8],
     exports: &mut Exports<'a, 'm>,
@@ -275,6 +276,7 @@ fn fill_exports<'a, 'm>(
         };
         put_export(&mut records[count], bytes, &export);
         count += 1;
+        // (By the type's name, since iterators have a `position`, too.)
         let left = end.saturating_sub(Exports::position(exports));
         let stop = end_within(records.len(), count, left);
         'ascii: while count < stop {

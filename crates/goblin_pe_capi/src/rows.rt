@@ -12,7 +12,7 @@ ghost use Rattle.goblin_pe_c_headers.specs.Sections.{ReadsSections};
 ghost use Rattle.goblin_pe_c_headers.specs.Symbols.{FindsTables, GivesSymbols, NamesOfText};
 ghost use Rattle.goblin_pe_c_headers.specs.Symbols.{found_tables, name_in_piece};
 ghost use Rattle.goblin_pe_c_headers.specs.Words.{GivesWords};
-ghost use Rattle.goblin_pe_c_tables.specs.Batches.{batch_at};
+ghost use Rattle.goblin_pe_c_headers.specs.Onward.{batch_at};
 
 use goblin_pe::header::RichMetadata;
 use goblin_pe::relocation::Relocation;

@@ -1,7 +1,7 @@
 use Rattle.std.proofs.Common.{arith, rules, subst}
 use Rattle.goblin_pe_sect.specs.declared.address_map.AddressMap.{AddressMap}
 use Rattle.goblin_pe_c_headers.specs.Onward.{GivesOnward}
-use Rattle.goblin_pe_c_tables.specs.Batches.{batch_at}
+use Rattle.goblin_pe_c_headers.specs.Onward.{batch_at}
 use Rattle.goblin_pe_export.specs.added.ExportWalks.{walked_tables}
 use Rattle.goblin_pe_sect.specs.Addresses.{map_of}
 use Rattle.goblin_pe_c_tables.specs.ExportDirectories.{addresses_for_c}

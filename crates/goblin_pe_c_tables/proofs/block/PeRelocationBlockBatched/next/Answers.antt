@@ -4,7 +4,7 @@ use Rattle.goblin_pe_sect.specs.declared.relocation.base.RelocationData.{Relocat
 use Rattle.goblin_pe.specs.added.Layouts.{layout_map, layout_places}
 use Rattle.goblin_pe.specs.Whole.{part_map}
 use Rattle.goblin_pe.specs.declared.whole.Part.{Part}
-use Rattle.goblin_pe_c_tables.specs.Batches.{batch_at}
+use Rattle.goblin_pe_c_headers.specs.Onward.{batch_at}
 use Rattle.goblin_pe_c_tables.proofs.BlockBatches.{blocks-answered, blocks-none, directory-inside, directory-read}
 use Rattle.goblin_pe_c_tables.proofs.block.PeRelocationBlockBatched.next.Goals as goal
 

@@ -1,5 +1,5 @@
 use Rattle.goblin_pe.specs.added.Layouts.{layout_map, layout_places}
-use Rattle.goblin_pe_c_tables.specs.Batches.{batch_at}
+use Rattle.goblin_pe_c_headers.specs.Onward.{batch_at}
 use Rattle.goblin_pe_c_tables.proofs.AddressBatches.{addresses-none}
 use Rattle.goblin_pe_c_tables.proofs.export_directory.PeExportAddressBatched.next.Goals as goal
 
