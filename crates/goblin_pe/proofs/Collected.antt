@@ -1,15 +1,12 @@
 -- What is made of a file's imports and of its exports is made of the file's own tables.
 use Rattle.std.proofs.Common.{◌≡◌, ◌∙◌, ℕ, List, Some, refl, ap}
-use Rattle.goblin_base.specs.declared.error.ErrorOf.{ErrorOf}
-use Rattle.goblin_base.specs.Reading.{IsRefused, Reading}
+use Rattle.goblin_base.specs.{declared.error.ErrorOf.ErrorOf, Reading.IsRefused, Reading.Reading}
 use Rattle.goblin_base.proofs.Steps as steps
 use Rattle.readings.specs.Reads.{mapped}
-use Rattle.goblin_pe_sect.specs.declared.options.ParseOptions.{ParseOptions}
-use Rattle.goblin_pe_sect.specs.Addresses.{Addressing}
+use Rattle.goblin_pe_sect.specs.{declared.options.ParseOptions.ParseOptions, Addresses.Addressing}
 use Rattle.goblin_pe_export.specs.ExportRecords.{ExportTables, NumberedExport}
 use Rattle.goblin_pe_import.specs.ImportRecords.{NumberedLibrary}
-use Rattle.goblin_pe.specs.declared.whole.Part.{Part}
-use Rattle.goblin_pe.specs.Whole.{TableParts, TablePlaces, collected_tables, export_part, numbered_data_part, relocation_part, table_parts}
+use Rattle.goblin_pe.specs.Whole.{Part, TableParts, TablePlaces, collected_tables, export_part, numbered_data_part, relocation_part, table_parts}
 
 -- ---- the tables, of whose imports and exports something is made
 

@@ -1,24 +1,18 @@
 -- The imports of a file as a part of it: permissive mode refuses no import data, and the part has what a walk over them collects.
 use Rattle.std.proofs.Common.{◌≡◌, ℕ, Bool, true, false, List, Option, Some, None, refl, sym, ap, ◌∙◌, length, map, ◌<◌, ◌^◌, option_map, map-id, flat_map, ◌++◌, ◌∷◌, [], unwrap_or}
-use Rattle.std.proofs.lemmas.List.{map-append}
-use Rattle.std.proofs.lemmas.Simd.{map-map}
-use Rattle.goblin_base.specs.declared.error.ErrorOf.{ErrorOf}
-use Rattle.goblin_base.specs.Bytes.{IsBytes}
-use Rattle.goblin_base.specs.Reading.{IsRefused}
+use Rattle.std.proofs.{lemmas.List.map-append, lemmas.Simd.map-map}
+use Rattle.goblin_base.specs.{declared.error.ErrorOf.ErrorOf, Bytes.IsBytes, Reading.IsRefused}
 use Rattle.goblin_base.proofs.Steps.{same_value, unmapped, mapped as mapped_of}
 use Rattle.readings.specs.Reads.{given, pick}
 use Rattle.goblin_pe_sect.specs.declared.data_directories.DataDirectory.{DataDirectory}
-use Rattle.goblin_pe_sect.specs.declared.options.ParseOptions.{ParseOptions}
-use Rattle.goblin_pe_sect.specs.Options.{is_strict}
+use Rattle.goblin_pe_sect.specs.{declared.options.ParseOptions.ParseOptions, Options.is_strict}
 use Rattle.goblin_pe_sect.specs.Addresses.{Addressing}
 use Rattle.goblin_pe_import.specs.ImportReadings.{import_data, numbered_data}
 use Rattle.goblin_pe_import.specs.ImportRecords.{ImportedLibrary, NumberedLibrary}
 use Rattle.goblin_pe_import.specs.Imports.{ImportValue, NumberedImport, at_library, kept_imports, library_imports, numbered_imports}
 use Rattle.goblin_pe_import.proofs.LibraryIndexes.{unnumbered, unnumbered-cause}
-use Rattle.goblin_pe.specs.declared.whole.Part.{Part}
-use Rattle.goblin_pe.specs.declared.whole.Part.TheVariants.{Absent, Refused}
+use Rattle.goblin_pe.specs.Whole.{Part, Absent, Refused, TablePlaces, both_lists, directory_at, entry_format, import_data_part, imports_in, listed_imports_part, numbered_data_part, part_at, part_map, part_of, without_indexes, without_numbers}
 use Rattle.goblin_pe.specs.declared.whole.Part.TheVariants as part
-use Rattle.goblin_pe.specs.Whole.{TablePlaces, both_lists, directory_at, entry_format, import_data_part, imports_in, listed_imports_part, numbered_data_part, part_at, part_map, part_of, without_indexes, without_numbers}
 use Rattle.goblin_pe.proofs.KeptImports.{listed_imports, part-kept, data-listed}
 use Rattle.goblin_pe.proofs.Parts.{part_of-mapped}
 

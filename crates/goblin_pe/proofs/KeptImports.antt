@@ -1,24 +1,16 @@
 -- Of the import data of a file a list of imports can be made, and what is kept of each library's imports is what is kept of the list.
 use Rattle.std.proofs.Common.{◌≡◌, ◌∙◌, ◌≤◌, ◌++◌, ◌∷◌, ℕ, zero, suc, List, [], Bool, true, false, IsSome, None, Option, Some, ap, append-nil, arith, length, map, refl, sym, take_all, get_or, slice_get, take, unwrap_or, take-suc, flat_map, ◌<◌, ◌^◌}
-use Rattle.std.proofs.lemmas.List.{map-append}
-use Rattle.std.proofs.lemmas.List.Concat.{flat_map-append}
+use Rattle.std.proofs.{lemmas.List.map-append, lemmas.List.Concat.flat_map-append}
 use Rattle.std.proofs.lemmas.Option.{get_or_from_slice_get}
-use Rattle.goblin_base.specs.Tables.{each_below}
-use Rattle.goblin_base.proofs.Below.{join-parts}
-use Rattle.goblin_base.proofs.Steps.{same_value, step}
-use Rattle.goblin_pe_sect.specs.declared.options.ParseOptions.{ParseOptions}
-use Rattle.goblin_pe_sect.specs.Options.{is_strict}
-use Rattle.goblin_pe_import.specs.ImportRecords.{ImportedLibrary}
-use Rattle.goblin_pe_import.specs.Imports.{ImportValue, imports_of, kept_imports, library_imports}
-use Rattle.goblin_pe_import.proofs.Imports.{imported_at}
-use Rattle.goblin_pe.specs.declared.whole.Part.{Part}
-use Rattle.goblin_pe.specs.declared.whole.Part.TheVariants.{Absent, Refused}
-use Rattle.goblin_pe.specs.declared.whole.Part.TheVariants as part
-use Rattle.goblin_pe.specs.Whole.{TablePlaces, entry_format, listed_imports_part, part_map, part_of, directory_at, import_data_part}
-use Rattle.goblin_base.specs.Bytes.{IsBytes}
+use Rattle.goblin_base.specs.{Tables.each_below, Bytes.IsBytes}
+use Rattle.goblin_base.proofs.{Below.join-parts, Steps.same_value, Steps.step}
+use Rattle.goblin_pe_sect.specs.{declared.options.ParseOptions.ParseOptions, Options.is_strict}
 use Rattle.goblin_pe_sect.specs.Addresses.{Addressing}
-use Rattle.goblin_pe_import.specs.ImportReadings.{import_data}
-use Rattle.goblin_pe_import.proofs.ListedImports.{imports_of-there}
+use Rattle.goblin_pe_import.specs.{ImportRecords.ImportedLibrary, ImportReadings.import_data}
+use Rattle.goblin_pe_import.specs.Imports.{ImportValue, imports_of, kept_imports, library_imports}
+use Rattle.goblin_pe_import.proofs.{Imports.imported_at, ListedImports.imports_of-there}
+use Rattle.goblin_pe.specs.Whole.{Part, Absent, Refused, TablePlaces, entry_format, listed_imports_part, part_map, part_of, directory_at, import_data_part}
+use Rattle.goblin_pe.specs.declared.whole.Part.TheVariants as part
 use Rattle.goblin_pe.proofs.Parts.{read_from}
 
 -- the imports of import data that a list can be made from

@@ -7,10 +7,8 @@ use Rattle.goblin_base.specs.Answers.{Answers, AnswersOrMemory, IsMemory}
 use Rattle.goblin_base.specs.Reading.{Reading, Reads, ReadsOrMemory}
 use Rattle.readings.specs.Reads.{given, mapped, pick, turned}
 use Rattle.goblin_pe_sect.specs.declared.data_directories.DataDirectory.{DataDirectory}
-use Rattle.goblin_pe.specs.declared.whole.Part.{Part}
-use Rattle.goblin_pe.specs.declared.whole.Part.TheVariants.{Absent, Refused}
+use Rattle.goblin_pe.specs.Whole.{Part, Absent, Refused, BecomesPart, part_at, part_map, part_of}
 use Rattle.goblin_pe.specs.declared.whole.Part.TheVariants as part
-use Rattle.goblin_pe.specs.Whole.{BecomesPart, part_at, part_map, part_of}
 
 abbrev IsNoMemory : {X : Type 0} → Result X ErrorOf → Type 0
 IsNoMemory (Ok x) = Unit {0}

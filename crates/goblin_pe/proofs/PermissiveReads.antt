@@ -1,37 +1,29 @@
 -- What strict mode reads of tables and of whole files, permissive mode reads, too.
 use Rattle.std.proofs.Common.{◌≡◌, ℕ, Bool, true, false, cond, List, [], Option, Some, None, Result, ap, refl, sym, nat_eq, map, flat_map}
-use Rattle.goblin_base.specs.declared.error.ErrorOf.{ErrorOf}
+use Rattle.goblin_base.specs.{declared.error.ErrorOf.ErrorOf, Answers.◌>>=◌, Tables.Format}
 use Rattle.goblin_base.specs.declared.permissive.ParseMode.TheVariants.{Permissive, Strict}
-use Rattle.goblin_base.specs.Answers.{◌>>=◌}
 use Rattle.goblin_base.specs.Reading.{InModes, Reading, Reads, ReadsOrMemory, Repeats, RepeatsAs}
-use Rattle.goblin_base.specs.Tables.{Format}
-use Rattle.goblin_base.proofs.Kept.{Keeps}
-use Rattle.goblin_base.proofs.Steps.{same_value}
+use Rattle.goblin_base.proofs.{Kept.Keeps, Steps.same_value}
 use Rattle.readings.specs.Reads as reads
 use Rattle.readings.specs.Reads.{given, in_its_place}
 use Rattle.readings.proofs.Modes.{as-beside, as-mapped, as-then, repeats-same}
 use Rattle.goblin_pe_sect.specs.declared.data_directories.DataDirectory.{DataDirectory}
 use Rattle.goblin_pe_sect.specs.declared.options.ParseOptions.{ParseOptions}
 use Rattle.goblin_pe_sect.specs.AddressReadings.{relocation_data}
-use Rattle.goblin_pe_sect.specs.declared.options.View.TheVariants.{Sections}
-use Rattle.goblin_pe_sect.specs.SectionTable.{Section}
+use Rattle.goblin_pe_sect.specs.{declared.options.View.TheVariants.Sections, SectionTable.Section}
 use Rattle.goblin_pe_sect.specs.Addresses.{Addressing}
-use Rattle.goblin_pe_head.specs.CoffHeader.{symbols_end}
-use Rattle.goblin_pe_head.specs.HeaderReadings.{pe_header}
+use Rattle.goblin_pe_head.specs.{CoffHeader.symbols_end, HeaderReadings.pe_header}
 use Rattle.goblin_pe_head.specs.declared.header.pe_header.Header.{Header}
 use Rattle.goblin_pe_head.specs.PeHeader.{PeHeader, header_value}
 use Rattle.goblin_pe_head.proofs.PermissiveReads.{repeats-header, sections_at-kept}
-use Rattle.goblin_pe.specs.declared.whole.Part.{Part}
-use Rattle.goblin_pe.specs.declared.whole.Part.TheVariants.{Absent, Refused}
+use Rattle.goblin_pe.specs.Whole.{Part, Absent, Refused, ListedParts, NumberedTables, TablePlaces, WholeFile, directory_at, entry_format, export_part, imports_in, listed_tables, lists_of, mapped_in, numbered_data_part, addressing_by, part_at, part_map, part_of, places_in, relocation_part, section_table_offset, sections_after, table_parts, whole_file, whole_in, whole_of, whole_with}
 use Rattle.goblin_pe.specs.declared.whole.Part.TheVariants as part
 use Rattle.goblin_pe_export.specs.ExportReadings.{numbered_read}
-use Rattle.goblin_pe_import.specs.ImportEntries.{EntryValue}
-use Rattle.goblin_pe_import.specs.ImportReadings.{import_data, numbered_data, read_if, read_past_front}
-use Rattle.goblin_pe_import.specs.ImportRecords.{NumberedLibrary}
+use Rattle.goblin_pe_import.specs.{ImportEntries.EntryValue, ImportRecords.NumberedLibrary}
 use Rattle.goblin_pe_import.specs.Imports.{numbered_imports}
+use Rattle.goblin_pe_import.specs.ImportReadings.{import_data, numbered_data, read_if, read_past_front}
 use Rattle.goblin_pe_import.proofs.PermissiveReads.{libraries_at-repeats, numbered_libraries_at-repeats}
 use Rattle.goblin_pe.specs.Modes.{ReadsInModes, in_mode, in_permissive_mode, is_front, unless_front}
-use Rattle.goblin_pe.specs.Whole.{ListedParts, NumberedTables, TablePlaces, WholeFile, directory_at, entry_format, export_part, imports_in, listed_tables, lists_of, mapped_in, numbered_data_part, addressing_by, part_at, part_map, part_of, places_in, relocation_part, section_table_offset, sections_after, table_parts, whole_file, whole_in, whole_of, whole_with}
 
 -- ---- answers
 

@@ -2,28 +2,22 @@
 -- repeats strict mode.
 use Rattle.std.proofs.Common.{◌≡◌, ℕ, Bool, true, false, List, map, None, Option, Some, ap, subst}
 use Rattle.std.specs.Prelude.{option_map}
-use Rattle.goblin_base.specs.declared.endian.Endian.{Endian}
-use Rattle.goblin_base.specs.declared.error.ErrorOf.{ErrorOf}
-use Rattle.goblin_base.specs.declared.permissive.ParseMode.{ParseMode}
+use Rattle.goblin_base.specs.{declared.endian.Endian.Endian, declared.error.ErrorOf.ErrorOf}
+use Rattle.goblin_base.specs.{declared.permissive.ParseMode.ParseMode, Tables.Format}
 use Rattle.goblin_base.specs.Reading.{Reading, Repeats}
-use Rattle.goblin_base.specs.Tables.{Format}
 use Rattle.goblin_base.proofs.Footprints.{alike_answers, alike_or_memory_answers}
 use Rattle.readings.specs.Reads.{mapped}
 use Rattle.readings.proofs.Modes.{repeats-or_else, repeats-same}
 use Rattle.goblin_pe_sect.specs.AddressReadings.{data_at, name_at, name_or_none, relocation_data}
 use Rattle.goblin_pe_sect.specs.BaseRelocations.{relocation_bytes}
-use Rattle.goblin_pe_sect.specs.declared.options.ParseOptions.{ParseOptions}
-use Rattle.goblin_pe_sect.specs.Mapping.{file_offset}
-use Rattle.goblin_pe_sect.specs.Options.{mapping_by, is_strict}
-use Rattle.goblin_pe_sect.specs.SectionTable.{Section}
+use Rattle.goblin_pe_sect.specs.{declared.options.ParseOptions.ParseOptions, Mapping.file_offset}
+use Rattle.goblin_pe_sect.specs.{Options.mapping_by, Options.is_strict, SectionTable.Section}
 use Rattle.goblin_pe_sect.specs.Addresses.{Addressing, with_whole_names}
 use Rattle.goblin_pe.specs.declared.laws.order.Request.{Request}
 use Rattle.goblin_pe.specs.declared.laws.order.TablesOf.{TablesOf}
-use Rattle.goblin_pe_export.specs.ExportReadings.{export_read}
-use Rattle.goblin_pe_export.specs.Exports.{export_read_model}
+use Rattle.goblin_pe_export.specs.{ExportReadings.export_read, Exports.export_read_model}
 use Rattle.goblin_pe_import.specs.ImportLookup.{EntryValue, entry_model}
-use Rattle.goblin_pe_import.specs.ImportReadings.{import_data}
-use Rattle.goblin_pe_import.specs.LookupReadings.{lookup_table}
+use Rattle.goblin_pe_import.specs.{ImportReadings.import_data, LookupReadings.lookup_table}
 use Rattle.goblin_pe_import.proofs.PermissiveReads.{lookup_table-repeats}
 use Rattle.goblin_pe.specs.Modes.{in_mode, unless_front}
 use Rattle.goblin_pe.specs.TableRuns.{AreAlike, AreInModes, AreTables}

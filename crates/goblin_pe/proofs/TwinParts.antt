@@ -1,16 +1,13 @@
 -- The readers of headers and of single tables have the same values, and answer alike, for files
 -- that agree on what each reaches.
 use Rattle.std.proofs.Common.{ℕ, Bool, List, Option, option_map}
-use Rattle.goblin_base.specs.declared.endian.Endian.{Endian}
-use Rattle.goblin_base.specs.declared.error.ErrorOf.{ErrorOf}
+use Rattle.goblin_base.specs.{declared.endian.Endian.Endian, declared.error.ErrorOf.ErrorOf}
 use Rattle.goblin_base.proofs.Readings.{twins, twins_or_memory}
 use Rattle.goblin_pe_sect.specs.AddressReadings.{data_at, relocation_data}
-use Rattle.goblin_pe_sect.specs.BaseRelocations.{relocation_bytes}
-use Rattle.goblin_pe_sect.specs.Addresses.{Addressing}
+use Rattle.goblin_pe_sect.specs.{BaseRelocations.relocation_bytes, Addresses.Addressing}
 use Rattle.goblin_pe_symbol.specs.Symbols.{symbol_bytes}
 use Rattle.goblin_pe_head.specs.CoffReadings.{strings_of, symbols_of}
-use Rattle.goblin_pe_head.specs.HeaderReadings.{header_without_dos}
-use Rattle.goblin_pe_head.specs.PeHeader.{header_value}
+use Rattle.goblin_pe_head.specs.{HeaderReadings.header_without_dos, PeHeader.header_value}
 use Rattle.goblin_pe_head.specs.TeHeader.{te_image}
 use Rattle.goblin_pe.specs.declared.laws.parts.PartsOf.{PartsOf}
 use Rattle.goblin_pe.specs.TwinParts.{AreParts, AreTwinParts, PartsAsked, sections_asked, te_model}

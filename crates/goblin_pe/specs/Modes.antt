@@ -3,8 +3,7 @@
 use Rattle.std.specs.Prelude.{◌≡◌, ℕ, ◌==◌, Bool, false, if◌then◌else◌, List, [], Option, None}
 use Rattle.std.specs.Prelude.{Some, Result}
 use Rattle.goblin_base.specs.declared.error.ErrorOf.{ErrorOf}
-use Rattle.goblin_base.specs.declared.permissive.ParseMode.{ParseMode}
-use Rattle.goblin_base.specs.Answers.{◌>>=◌}
+use Rattle.goblin_base.specs.{declared.permissive.ParseMode.ParseMode, Answers.◌>>=◌}
 use Rattle.goblin_base.specs.Reading.{Reading, Reads}
 use Rattle.goblin_pe_sect.specs.declared.options.ParseOptions.{ParseOptions}
 use Rattle.goblin_pe_sect.specs.declared.options.View.TheVariants.{Sections}

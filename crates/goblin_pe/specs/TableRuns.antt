@@ -1,21 +1,16 @@
 -- The six readers that map addresses by a table of sections: what they return, and how the answers
 -- of two runs compare.
 use Rattle.std.specs.Prelude.{ℕ, Bool, true, false, List, map, Option, option_map}
-use Rattle.goblin_base.specs.declared.endian.Endian.{Endian}
-use Rattle.goblin_base.specs.declared.error.ErrorOf.{ErrorOf}
-use Rattle.goblin_base.specs.Footprints.{Alike, AlikeOrMemory}
+use Rattle.goblin_base.specs.{declared.endian.Endian.Endian, declared.error.ErrorOf.ErrorOf}
+use Rattle.goblin_base.specs.{Footprints.Alike, Footprints.AlikeOrMemory, Tables.Format}
 use Rattle.goblin_base.specs.Reading.{InModes, Reads, ReadsOrMemory}
-use Rattle.goblin_base.specs.Tables.{Format}
 use Rattle.goblin_pe_sect.specs.AddressReadings.{data_at, name_or_none, relocation_data}
-use Rattle.goblin_pe_sect.specs.BaseRelocations.{relocation_bytes}
+use Rattle.goblin_pe_sect.specs.{BaseRelocations.relocation_bytes, Addresses.Addressing}
 use Rattle.goblin_pe.specs.declared.laws.order.Request.{Request}
 use Rattle.goblin_pe.specs.declared.laws.order.TablesOf.{TablesOf}
-use Rattle.goblin_pe_sect.specs.Addresses.{Addressing}
-use Rattle.goblin_pe_export.specs.ExportReadings.{export_read}
-use Rattle.goblin_pe_export.specs.Exports.{export_read_model}
+use Rattle.goblin_pe_export.specs.{ExportReadings.export_read, Exports.export_read_model}
 use Rattle.goblin_pe_import.specs.ImportLookup.{EntryValue, entry_model}
-use Rattle.goblin_pe_import.specs.ImportReadings.{import_data}
-use Rattle.goblin_pe_import.specs.LookupReadings.{lookup_table}
+use Rattle.goblin_pe_import.specs.{ImportReadings.import_data, LookupReadings.lookup_table}
 use Rattle.goblin_pe.specs.Modes.{ReadsInModes, unless_front}
 
 -- Each answer is its reader's own, over a map of addresses to file offsets.

@@ -2,22 +2,18 @@
 -- what they return for a file, and for another that agrees with it.
 use Rattle.std.specs.Prelude.{ℕ, Bool, List, Option, Vec, option_map}
 use Rattle.std.specs.Global.{Global}
-use Rattle.goblin_base.specs.declared.endian.Endian.{Endian}
-use Rattle.goblin_base.specs.declared.error.ErrorOf.{ErrorOf}
+use Rattle.goblin_base.specs.{declared.endian.Endian.Endian, declared.error.ErrorOf.ErrorOf}
 use Rattle.goblin_base.specs.Reading.{Reading, Reads, ReadsOrMemory, Twins, TwinsOrMemory}
 use Rattle.goblin_pe_sect.specs.declared.data_directories.DataDirectory.{DataDirectory}
-use Rattle.goblin_pe_sect.specs.AddressReadings.{data_at, relocation_data}
-use Rattle.goblin_pe_sect.specs.BaseRelocations.{relocation_bytes}
-use Rattle.goblin_pe_sect.specs.SectionTable.{Section}
+use Rattle.goblin_pe_sect.specs.{BaseRelocations.relocation_bytes, SectionTable.Section}
 use Rattle.goblin_pe_sect.specs.Addresses.{Addressing}
+use Rattle.goblin_pe_sect.specs.AddressReadings.{data_at, relocation_data}
 use Rattle.goblin_pe_symbol.specs.Symbols.{symbol_bytes}
 use Rattle.goblin_pe_head.specs.declared.header.coff.CoffHeader.{CoffHeader}
-use Rattle.goblin_pe_head.specs.declared.header.te.TeHeader.{TeHeader}
-use Rattle.goblin_pe_head.specs.CoffHeader.{symbols_end}
-use Rattle.goblin_pe_head.specs.CoffReadings.{sections_at, strings_of, symbols_of}
-use Rattle.goblin_pe_head.specs.HeaderReadings.{header_without_dos}
-use Rattle.goblin_pe_head.specs.PeHeader.{header_value}
+use Rattle.goblin_pe_head.specs.{declared.header.te.TeHeader.TeHeader, CoffHeader.symbols_end}
+use Rattle.goblin_pe_head.specs.{HeaderReadings.header_without_dos, PeHeader.header_value}
 use Rattle.goblin_pe_head.specs.TeHeader.{te_image}
+use Rattle.goblin_pe_head.specs.CoffReadings.{sections_at, strings_of, symbols_of}
 use Rattle.goblin_pe.specs.declared.laws.parts.PartsOf.{PartsOf}
 
 -- what contracts see of a Terse Executable's header and its sections

@@ -4,27 +4,23 @@ use Rattle.std.specs.Prelude.{Some, None, Result, Err, Vec, map, flat_map}
 use Rattle.std.specs.Prelude.{◌&&◌, option_and_then, replicate, slice_get}
 use Rattle.std.specs.Global.{Global}
 use Rattle.goblin_base.specs.declared.error.ErrorOf.{ErrorOf}
-use Rattle.goblin_base.specs.declared.error.ErrorOf.TheVariants.{Memory}
-use Rattle.goblin_base.specs.Reading.{Reading}
+use Rattle.goblin_base.specs.{declared.error.ErrorOf.TheVariants.Memory, Reading.Reading}
 use Rattle.goblin_base.specs.Tables.{Format}
 use Rattle.readings.specs.Reads.{◌>>=◌, ◌beside◌, given, mapped, pick, turned}
 use Rattle.goblin_pe_sect.specs.declared.data_directories.DataDirectory.{DataDirectory}
 use Rattle.goblin_pe_sect.specs.declared.options.ParseOptions.{ParseOptions}
 use Rattle.goblin_pe_sect.specs.declared.options.View.{View}
 use Rattle.goblin_pe_sect.specs.declared.options.View.TheVariants.{Sections}
-use Rattle.goblin_pe_sect.specs.AddressReadings.{relocation_data}
-use Rattle.goblin_pe_sect.specs.BaseRelocations.{relocation_bytes}
+use Rattle.goblin_pe_sect.specs.{AddressReadings.relocation_data, BaseRelocations.relocation_bytes}
 use Rattle.goblin_pe_sect.specs.DataDirectories.{directory_or_zeros, no_directory}
 use Rattle.goblin_pe_sect.specs.Addresses.{table_offset, Addressing, with_whole_names}
 use Rattle.goblin_pe_sect.specs.Options.{front_of, is_strict, mapping_in}
 use Rattle.goblin_pe_sect.specs.SectionTable.{MappedSections, Section}
 use Rattle.goblin_pe_head.specs.declared.optional_header.OptionalHeader.{OptionalHeader}
-use Rattle.goblin_pe_head.specs.HeaderReadings.{pe_header}
-use Rattle.goblin_pe_head.specs.PeHeader.{PeHeader}
-use Rattle.goblin_pe_head.specs.CoffHeader.{symbols_end}
-use Rattle.goblin_pe_head.specs.CoffReadings.{sections_at}
-use Rattle.goblin_pe.specs.declared.whole.Part.{Part}
-use Rattle.goblin_pe.specs.declared.whole.Part.TheVariants.{Absent, Refused}
+use Rattle.goblin_pe_head.specs.{HeaderReadings.pe_header, PeHeader.PeHeader}
+use Rattle.goblin_pe_head.specs.{CoffHeader.symbols_end, CoffReadings.sections_at}
+pub use Rattle.goblin_pe.specs.declared.whole.Part.{Part}
+pub use Rattle.goblin_pe.specs.declared.whole.Part.TheVariants.{Absent, Refused}
 use Rattle.goblin_pe.specs.declared.whole.Part.TheVariants as part
 use Rattle.goblin_pe.specs.declared.whole.listed.ListedTables.{ListedTables}
 use Rattle.goblin_pe.specs.declared.whole.places.Places.{Places}

@@ -2,10 +2,8 @@
 
 ghost use Rattle.std.specs.Prelude.{◌≡◌, ◌<◌, ◌/◌, IfOk, IfSome, IsErrAnd, Some, length};
 ghost use Rattle.goblin_base.specs.Reading.{Reads, ReadsOrMemory};
-ghost use Rattle.goblin_pe_sect.specs.AddressReadings.{text_at_address};
-ghost use Rattle.goblin_pe_sect.specs.Options.{is_strict};
-ghost use Rattle.goblin_pe_head.specs.HeaderReadings.{pe_header};
-ghost use Rattle.goblin_pe_head.specs.CoffHeader.{IsTooManySections};
+ghost use Rattle.goblin_pe_sect.specs.{AddressReadings.text_at_address, Options.is_strict};
+ghost use Rattle.goblin_pe_head.specs.{HeaderReadings.pe_header, CoffHeader.IsTooManySections};
 ghost use Rattle.goblin_pe_sect.specs.Addresses.{map_by, offset_of};
 ghost use Rattle.goblin_pe.specs.Whole.{import_data_part, listed_imports_part, places_in};
 ghost use Rattle.goblin_pe.specs.Whole.{file_table, whole_file};

@@ -1,11 +1,9 @@
 -- A loop that fills records with what comes next of a table.
 use Rattle.std.proofs.Common.{◌≡◌, ◌≢◌, ◌⊎◌, ◌==◌, ◌&&◌, not, ℕ, ◌+◌, ◌<◌, ◌≤◌, List, [], ◌∷◌, ◌++◌, length, map, min, take, drop, set, ap, subst, sym, refl, arith, ◌∙◌, inl, inr, Option, None, Some, IsSomeAnd, MatchResult, Result, Ok, Err, append-nil, Bool, true, false}
-use Rattle.std.proofs.lemmas.Bool.Decides.{nat_tests}
+use Rattle.std.proofs.{lemmas.Bool.Decides.nat_tests, lemmas.Grind.drop_more_same}
 use Rattle.std.proofs.Math.Seq.{drop-append_seam, take-append_seam}
 use Rattle.std.proofs.lemmas.List.{append_assoc, drop-set-lt, length-append, length-map, length-set, map-append, take_all, take_more_set}
-use Rattle.std.proofs.lemmas.Grind.{drop_more_same}
-use Rattle.goblin_base.specs.declared.error.ErrorOf.{ErrorOf}
-use Rattle.goblin_base.specs.Reading.{Reading}
+use Rattle.goblin_base.specs.{declared.error.ErrorOf.ErrorOf, Reading.Reading}
 use Rattle.goblin_pe_c_headers.specs.Filled.{Filled}
 use Rattle.goblin_pe_c_headers.specs.Onward.{AtBatch, Batch, FillsFrom, FillsNext, IsNextFault, IsRefusedNext, Table, TellsEnd, unrefused, values_before}
 

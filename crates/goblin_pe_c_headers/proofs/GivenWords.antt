@@ -1,14 +1,12 @@
 -- The base relocations of a block from a cursor on.
 use Rattle.std.proofs.Common.{append-nil, ◌≡◌, ◌∙◌, ◌≤◌, ℕ, zero, suc, ◌+◌, ◌*◌, ◌/◌, List, [], drop, length, min, take, refl, ap, arith, subst, sym, Option, Some, length-drop, length-take}
 use Rattle.std.proofs.lemmas.List.{drop-drop}
-use Rattle.goblin_base.specs.declared.endian.Endian.TheVariants.{Little}
-use Rattle.goblin_base.specs.Tables.{records_in}
+use Rattle.goblin_base.specs.{declared.endian.Endian.TheVariants.Little, Tables.records_in}
 use Rattle.goblin_base.proofs.RecordItems.{records_in-more, records_in-none}
 use Rattle.goblin_pe_sect.specs.BaseRelocations.{word_record}
-use Rattle.goblin_pe_c_headers.specs.declared.batch.PeBatch.{PeBatch}
+use Rattle.goblin_pe_c_headers.specs.Onward.{PeBatch, GivesOnward, unrefused, values_before}
 use Rattle.goblin_pe_c_headers.specs.declared.cursor.PeBaseRelocationCursor.{PeBaseRelocationCursor}
 use Rattle.goblin_pe_c_headers.specs.declared.word.PeBaseRelocation.{PeBaseRelocation}
-use Rattle.goblin_pe_c_headers.specs.Onward.{GivesOnward, unrefused, values_before}
 use Rattle.goblin_pe_c_headers.specs.Words.{GivesWords, block_words, word_for_c, word_table, words_for_c}
 use Rattle.goblin_pe_c_headers.proofs.Batches.{before-all, fills-by}
 

@@ -1,28 +1,20 @@
 -- The rows of sections that were read have their names from the string table.
 use Rattle.std.proofs.Common.{◌≡◌, ◌∙◌, ℕ, zero, suc, ◌+◌, ◌*◌, ◌/◌, ◌<◌, ◌≤◌, ◌==◌, Bool, true, false, not, List, [], ◌∷◌, length, map, refl, ap, arith, subst, sym, Option, None, Some, slice_get, slice_range, take, min, IsSomeAnd, ne_eqb, length-take, take-take}
-use Rattle.std.specs.List.{prefix_len, range_with_len}
-use Rattle.std.specs.Str.{is_utf8}
-use Rattle.std.proofs.lemmas.List.{take_all}
-use Rattle.std.proofs.lemmas.Simd.{map-map}
-use Rattle.std.proofs.lemmas.Option.{cond_some}
-use Rattle.goblin_base.specs.declared.endian.Endian.TheVariants.{Little}
-use Rattle.goblin_base.specs.Record.{record_at}
-use Rattle.goblin_base.specs.Answers.{all_at, all_of}
+use Rattle.std.specs.{List.prefix_len, List.range_with_len, Str.is_utf8}
+use Rattle.std.proofs.{lemmas.List.take_all, lemmas.Simd.map-map, lemmas.Option.cond_some}
+use Rattle.goblin_base.specs.{declared.endian.Endian.TheVariants.Little, Record.record_at}
+use Rattle.goblin_base.specs.{Answers.all_at, Answers.all_of, Tables.records_in}
 use Rattle.goblin_base.specs.Bytes.{before_nul, slice_at, text_at, text_of}
-use Rattle.goblin_base.specs.Tables.{records_in}
 use Rattle.goblin_base.proofs.RecordItems.{length-records_in}
 use Rattle.goblin_base.proofs.Steps.{mapped, same_value, step}
-use Rattle.goblin_pe_sect.specs.Options.{is_strict}
-use Rattle.goblin_pe_sect.specs.SectionName.{name_value}
-use Rattle.goblin_pe_sect.specs.SectionReadings.{named_section_at, text_in_table}
+use Rattle.goblin_pe_sect.specs.{Options.is_strict, SectionName.name_value}
 use Rattle.goblin_pe_sect.specs.declared.section_table.records.SectionRecords.{SectionRecords}
+use Rattle.goblin_pe_sect.specs.SectionReadings.{named_section_at, text_in_table}
 use Rattle.goblin_pe_sect.specs.SectionTable.{Section, recorded_sections, section_record, sections_in, unnamed}
-use Rattle.goblin_pe_head.specs.CoffHeader.{symbols_end}
-use Rattle.goblin_pe_head.specs.added.HeaderParts.{sections_there}
+use Rattle.goblin_pe_head.specs.{CoffHeader.symbols_end, added.HeaderParts.sections_there}
 use Rattle.goblin_pe_head.specs.TeHeader.{section_adjusted, section_moved}
-use Rattle.goblin_pe_c_headers.specs.declared.image.PeImage.{PeImage}
+use Rattle.goblin_pe_c_headers.specs.{Images.PeImage, Places.headers_there}
 use Rattle.goblin_pe_c_headers.specs.Options.{header_options, longest_of}
-use Rattle.goblin_pe_c_headers.specs.Places.{headers_there}
 use Rattle.goblin_pe_c_headers.specs.Sections.{RowsHold, SectionRow, displacement_of, long_name, real_name_in, row_of, section_rows}
 use Rattle.goblin_pe_c_headers.proofs.GivenOnward.{record_inside}
 use Rattle.goblin_pe_c_headers.proofs.PlacedSections.{placed, value}

@@ -1,7 +1,6 @@
 -- Sections of an object that were read have their names from its string table.
 use Rattle.std.proofs.Common.{◌≡◌, ◌+◌, ◌∙◌, ap, subst, None}
-use Rattle.goblin_base.specs.declared.endian.Endian.TheVariants.{Little}
-use Rattle.goblin_base.specs.Record.{record_at}
+use Rattle.goblin_base.specs.{declared.endian.Endian.TheVariants.Little, Record.record_at}
 use Rattle.goblin_base.proofs.Steps.{mapped, step}
 use Rattle.goblin_pe_sect.specs.Options.{is_strict}
 use Rattle.goblin_pe_head.specs.CoffHeader.{coff_header, symbols_end}

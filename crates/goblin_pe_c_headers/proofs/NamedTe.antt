@@ -1,8 +1,7 @@
 -- Sections of a Terse Executable that were read have their names from the front of the file.
 use Rattle.std.proofs.Common.{◌≡◌, ◌∙◌, ℕ, true, List, map, ap, subst, Some, option_map, sym}
 use Rattle.std.specs.List.{range_with_len}
-use Rattle.std.proofs.lemmas.Option.{cond_some}
-use Rattle.std.proofs.lemmas.Simd.{map-map}
+use Rattle.std.proofs.{lemmas.Option.cond_some, lemmas.Simd.map-map}
 use Rattle.goblin_base.specs.Answers.{all_at, all_of}
 use Rattle.goblin_base.proofs.Steps.{all_of-map, mapped, step}
 use Rattle.goblin_pe_sect.specs.SectionTable.{Section}
@@ -10,8 +9,7 @@ use Rattle.goblin_pe_head.specs.declared.header.te.TeHeader.{TeHeader}
 use Rattle.goblin_pe_head.specs.TeHeader.{displacement, section_moved, te_header, te_image, te_sections_at}
 use Rattle.goblin_pe_c_headers.specs.Sections.{RowsHold, displacement_of}
 use Rattle.goblin_pe_c_headers.specs.TeImages.{TeRowsAreRead, te_file, te_record_of}
-use Rattle.goblin_pe_c_headers.proofs.Named.{read_sections, rows_hold}
-use Rattle.goblin_pe_c_headers.proofs.PlacedSections.{value}
+use Rattle.goblin_pe_c_headers.proofs.{Named.read_sections, Named.rows_hold, PlacedSections.value}
 
 pub te_rows : TeRowsAreRead
 unfolding TeRowsAreRead te_file te_image te_sections_at

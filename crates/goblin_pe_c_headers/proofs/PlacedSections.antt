@@ -1,8 +1,7 @@
 -- The section headers that sections are read from.
 use Rattle.std.proofs.Common.{◌≡◌, ◌≢◌, ◌∙◌, ℕ, zero, suc, ◌+◌, ◌-◌, ◌*◌, ◌/◌, ◌≤◌, false, Bool, List, Option, None, Some, ap, arith, length, map, refl, subst, sym, ◌==◌, option_map, ne_eqb, min}
 use Rattle.goblin_base.specs.Answers.{all_at}
-use Rattle.goblin_base.proofs.Numbers.{slice_at-inside}
-use Rattle.goblin_base.proofs.Steps.{all_at-each, all_at-zero}
+use Rattle.goblin_base.proofs.{Numbers.slice_at-inside, Steps.all_at-each, Steps.all_at-zero}
 use Rattle.goblin_pe_sect.specs.SectionReadings.{named_section_at}
 use Rattle.goblin_pe_sect.specs.SectionTable.{Section, unnamed}
 use Rattle.goblin_pe_head.specs.added.HeaderParts.{sections_there, whole_sections}

@@ -8,8 +8,7 @@ use Rattle.goblin_base.specs.Tables.{record_items, records_in, rest_item}
 use Rattle.goblin_base.proofs.RecordItems.{length-records_in}
 use Rattle.goblin_pe_head.specs.declared.header.rich.RichMetadata.{RichMetadata}
 use Rattle.goblin_pe_head.specs.RichMetadata.{metadata_at, metadata_items}
-use Rattle.goblin_pe_c_headers.specs.Items.{without_causes}
-use Rattle.goblin_pe_c_headers.specs.Onward.{unrefused}
+use Rattle.goblin_pe_c_headers.specs.{Items.without_causes, Onward.unrefused}
 use Rattle.goblin_pe_c_headers.specs.RichHeaders.{entries_from, is_rest}
 use Rattle.goblin_pe_c_headers.proofs.GivenOnward.{from-item, past-end}
 

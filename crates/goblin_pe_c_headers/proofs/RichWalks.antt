@@ -1,17 +1,13 @@
 -- The walk over the entries of a Rich header that was read gives its own.
 use Rattle.std.proofs.Common.{◌≡◌, ◌∙◌, ℕ, ◌+◌, ◌-◌, ◌*◌, ◌/◌, ◌%◌, ◌^◌, ◌<◌, ◌≤◌, ◌==◌, ◌&&◌, Bool, true, false, cond, List, [], drop, take, length, refl, ap, sym, subst, arith, Option, Some, None, IfSome, nat_le, nat_lt, slice_range, length-take, length-drop, leb-true, drop_of_length-le}
 use Rattle.std.proofs.lemmas.Bool.{and_parts, ltb-true}
-use Rattle.std.proofs.lemmas.Bool.Decides.{nat_tests}
-use Rattle.std.proofs.lemmas.Option.{cond_some}
+use Rattle.std.proofs.{lemmas.Bool.Decides.nat_tests, lemmas.Option.cond_some}
 use Rattle.goblin_base.specs.declared.endian.Endian.TheVariants.{Little}
 use Rattle.goblin_base.specs.Bytes.{IsBytes, number, slice_at}
 use Rattle.goblin_base.proofs.Numbers.{rest_is_drop, slice-of_slice, slice_at-inside}
-use Rattle.goblin_base.proofs.Parts.{find_is}
+use Rattle.goblin_base.proofs.{Parts.find_is, Records.record_at-some, Steps.same_value, Steps.step}
 use Rattle.goblin_base.proofs.RecordRoundTrip.{IsBytes-slice, length-slice, number-lt}
-use Rattle.goblin_base.proofs.Records.{record_at-some}
-use Rattle.goblin_base.proofs.Steps.{same_value, step}
-use Rattle.goblin_pe_head.specs.declared.header.dos.DosHeader.{DosHeader}
-use Rattle.goblin_pe_head.specs.DosHeader.{dos_record}
+use Rattle.goblin_pe_head.specs.{declared.header.dos.DosHeader.DosHeader, DosHeader.dos_record}
 use Rattle.goblin_pe_head.specs.HeaderReadings.{dos_header, rich_header}
 use Rattle.goblin_pe_head.specs.RichHeader.{Rich, leading_words, marker_place, other_place, word_at, rich_at}
 use Rattle.goblin_pe_head.proofs.PeHeaderRoundTrip.{dos_of, parts_of}

@@ -1,15 +1,12 @@
 -- What is in memory where an address has an offset inside the file.
 use Rattle.std.proofs.Common.{◌≡◌, ℕ, IsSomeAnd, IsTrue, ◌+◌, ◌-◌, ◌<◌, ◌^◌, Bool, true, false, cond, List, Option, Some, None, find, length, max, min, nat_lt, refl, arith, rules, tests, option_and_then, option_map, slice_range}
 use Rattle.std.proofs.lemmas.Bool.{false_from_ne_true}
-use Rattle.std.specs.Int.{is_power_of_two}
-use Rattle.std.specs.Option.{unwrap_or}
-use Rattle.goblin_base.proofs.RecordRoundTrip.{length-slice}
-use Rattle.goblin_base.proofs.Steps.{same_value}
+use Rattle.std.specs.{Int.is_power_of_two, Option.unwrap_or}
+use Rattle.goblin_base.proofs.{RecordRoundTrip.length-slice, Steps.same_value}
 use Rattle.goblin_pe_sect.specs.Mapping.{InWindow, file_offset, is_in_window, offset_in, raw_begin, read_size}
 use Rattle.goblin_pe_sect.specs.SectionTable.{Section}
 use Rattle.goblin_pe_sect.proofs.Mapped.{found_in_window}
-use Rattle.goblin_pe_c_headers.specs.declared.options.PeOptions.{PeOptions}
-use Rattle.goblin_pe_c_headers.specs.declared.places.PePlaces.{PePlaces}
+use Rattle.goblin_pe_c_headers.specs.{Options.PeOptions, Places.PePlaces}
 use Rattle.goblin_pe_c_headers.specs.Addresses.{MappedImage, mapped_image, mapped_offset}
 use Rattle.goblin_pe_c_headers.specs.Memory.{Memory, SeesFile, front_at, holder, holder_index, is_unstored, memory_at, memory_by, memory_in_file, memory_length, memory_mapped, stored_in_memory, stored_size, window_size}
 

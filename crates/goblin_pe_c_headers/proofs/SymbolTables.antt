@@ -1,15 +1,12 @@
 -- Where a symbol table and its string table lie.
 use Rattle.std.proofs.Common.{◌≡◌, ℕ, ◌+◌, ◌-◌, ◌*◌, Bool, true, false, cond, List, [], length, refl, ap, sym, subst, ◌∙◌, arith, inl, inr, ◌==◌, drop, Option, Some, None, nat_le, nat_lt, slice_range, le-leb, leb-true, length-drop, length-take}
-use Rattle.std.proofs.lemmas.Option.{cond_some}
-use Rattle.std.proofs.lemmas.Bool.{cases_Bool}
+use Rattle.std.proofs.{lemmas.Option.cond_some, lemmas.Bool.cases_Bool}
 use Rattle.std.specs.Option.{unwrap_or}
-use Rattle.goblin_base.specs.declared.endian.Endian.TheVariants.{Little}
-use Rattle.goblin_base.specs.Bytes.{number_at, slice_at, text_of}
-use Rattle.goblin_base.specs.Parts.{bytes_between}
+use Rattle.goblin_base.specs.{declared.endian.Endian.TheVariants.Little, Parts.bytes_between}
 use Rattle.goblin_base.specs.Strtab.{string_table}
+use Rattle.goblin_base.specs.Bytes.{number_at, slice_at, text_of}
 use Rattle.goblin_base.proofs.Steps.{mapped, same_value, step}
-use Rattle.goblin_base.proofs.TextEnds.{cond_some_by}
-use Rattle.goblin_base.proofs.Kept.{without_test}
+use Rattle.goblin_base.proofs.{TextEnds.cond_some_by, Kept.without_test}
 use Rattle.goblin_pe_head.specs.declared.header.coff.CoffHeader.{CoffHeader}
 use Rattle.goblin_pe_head.specs.CoffHeader.{string_table_offset, symbols_end}
 use Rattle.goblin_pe_head.specs.CoffReadings.{strings_at, strings_of, symbols_of}

@@ -2,9 +2,8 @@
 use Rattle.std.proofs.Common.{◌≡◌, ◌<◌, ◌≤◌, ℕ, suc, ◌+◌, ◌/◌, List, length, take, set, true, arith, ap, refl, Option, Some, take_all}
 use Rattle.goblin_pe_symbol.specs.Symbols.{SymbolItem, aux, symbol_of}
 use Rattle.goblin_pe_symbol.proofs.SymbolHeads.{symbols_next, symbols_past}
-use Rattle.goblin_pe_c_headers.specs.declared.symbol.PeSymbol.{PeSymbol}
+use Rattle.goblin_pe_c_headers.specs.{declared.symbol.PeSymbol.PeSymbol, Onward.unrefused}
 use Rattle.goblin_pe_c_headers.specs.Symbols.{GivesSymbols, index_after, named_symbol, named_symbol_table, named_symbol_model, next_index, symbols_onward}
-use Rattle.goblin_pe_c_headers.specs.Onward.{unrefused}
 use Rattle.goblin_pe_c_headers.proofs.GivenOnward.{AtIndex, index-end, index-more, index-start}
 
 -- all bytes are fewer than were asked for

@@ -2,21 +2,16 @@
 use Rattle.std.specs.Prelude.{ℕ, ◌^◌, nat_lt, if◌then◌else◌, List, [], Option, Some, None, find}
 use Rattle.std.specs.Prelude.{option_and_then, option_map}
 use Rattle.std.specs.Option.{is_some}
-use Rattle.goblin_base.specs.Answers.{◌>>=◌}
-use Rattle.goblin_base.specs.Reading.{Reading}
+use Rattle.goblin_base.specs.{Answers.◌>>=◌, Reading.Reading}
 use Rattle.readings.specs.Reads.{text_within}
-use Rattle.goblin_pe_sect.specs.AddressReadings.{at_address}
-use Rattle.goblin_pe_sect.specs.declared.options.Mapping.{Mapping}
-use Rattle.goblin_pe_sect.specs.Mapping.{file_offset}
-use Rattle.goblin_pe_sect.specs.added.Backward.{is_at, rva_in}
+use Rattle.goblin_pe_sect.specs.{AddressReadings.at_address, declared.options.Mapping.Mapping}
+use Rattle.goblin_pe_sect.specs.{Mapping.file_offset, added.Backward.is_at, added.Backward.rva_in}
 use Rattle.goblin_pe_sect.specs.Options.{front_of, mapping_in}
 use Rattle.goblin_pe_sect.specs.SectionTable.{Section, mapped_sections, with_front}
 use Rattle.goblin_pe_c_headers.specs.declared.address.Mapped.{Mapped}
-use Rattle.goblin_pe_c_headers.specs.declared.options.PeOptions.{PeOptions}
-use Rattle.goblin_pe_c_headers.specs.declared.places.PePlaces.{PePlaces}
-use Rattle.goblin_pe_c_headers.specs.Options.{are_known, longest_of, maps_addresses, options_at}
-use Rattle.goblin_pe_c_headers.specs.Options.{view_of}
-use Rattle.goblin_pe_c_headers.specs.Places.{placed_sections}
+use Rattle.goblin_pe_c_headers.specs.Options.{PeOptions, are_known, longest_of, maps_addresses}
+use Rattle.goblin_pe_c_headers.specs.Options.{options_at, view_of}
+use Rattle.goblin_pe_c_headers.specs.Places.{PePlaces, placed_sections}
 
 -- What maps the addresses of an image: its sections and, if it is mapped, the file's front after
 -- them, the file alignment, and how they are mapped.

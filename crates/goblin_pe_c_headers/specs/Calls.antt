@@ -1,9 +1,7 @@
 -- What a call that reads a file reports.
 use Rattle.std.specs.Prelude.{◌≡◌, ◌≢◌, List, ℕ, None, IsSomeAnd, Result, Ok, Err}
-use Rattle.goblin_base.specs.declared.error.ErrorOf.{ErrorOf}
-use Rattle.goblin_base.specs.Reading.{Reading}
-use Rattle.goblin_pe_c_headers.specs.declared.fault.PeFault.{PeFault}
-use Rattle.goblin_pe_c_headers.specs.Faults.{status_of}
+use Rattle.goblin_base.specs.{declared.error.ErrorOf.ErrorOf, Reading.Reading}
+use Rattle.goblin_pe_c_headers.specs.{declared.fault.PeFault.PeFault, Faults.status_of}
 
 -- A call has read the value of a reading, and the records hold it; or there is no value, the cause
 -- is true, and everything is unchanged. It takes no memory.

@@ -4,16 +4,14 @@ use Rattle.std.specs.Prelude.{length, if◌then◌else◌, Option, Some, None, R
 use Rattle.std.specs.Prelude.{option_map, ⊤, bytes_eq}
 use Rattle.std.specs.Option.{option_or}
 use Rattle.goblin_base.specs.ErrorText.{cause_text, fault_text, magic_text, memory_text, short_text}
-use Rattle.goblin_base.specs.declared.error.CauseOf.{CauseOf}
-use Rattle.goblin_base.specs.declared.error.ReadFault.{ReadFault}
+use Rattle.goblin_base.specs.{declared.error.CauseOf.CauseOf, declared.error.ReadFault.ReadFault}
 use Rattle.goblin_base.specs.declared.error.ErrorOf.{ErrorOf}
 use Rattle.goblin_base.specs.declared.error.ErrorOf.TheVariants.{Malformed, BadMagic}
 use Rattle.goblin_base.specs.declared.error.ErrorOf.TheVariants.{BufferTooShort, Read, Memory}
 use Rattle.goblin_base.specs.declared.error.ReadFault.TheVariants.{BadOffset, TooBig, BadInput}
 use Rattle.goblin_base.specs.declared.error.CauseOf.TheVariants as cause
 use Rattle.goblin_pe_c_headers.specs.declared.fault.PeFault.{PeFault}
-use Rattle.goblin_pe_c_headers.specs.declared.options.PeOptions.{PeOptions}
-use Rattle.goblin_pe_c_headers.specs.Options.{are_known}
+use Rattle.goblin_pe_c_headers.specs.Options.{PeOptions, are_known}
 
 abbrev pub fault : ℕ → ℕ → ℕ → ℕ → PeFault
 fault status cause first second = record {

@@ -2,10 +2,8 @@
 use Rattle.std.specs.Prelude.{◌≡◌, ℕ, List, [], ◌∷◌, false, replicate}
 use Rattle.goblin_pe_head.specs.added.HeaderParts.{no_windows_fields}
 use Rattle.goblin_pe_head.specs.PeHeader.{zero_coff_header, zero_dos_header}
-use Rattle.goblin_pe_c_headers.specs.declared.image.PeImage.{PeImage}
-use Rattle.goblin_pe_c_headers.specs.declared.image.PeRichHeader.{PeRichHeader}
-use Rattle.goblin_pe_c_headers.specs.declared.options.PeOptions.{PeOptions}
-use Rattle.goblin_pe_c_headers.specs.Headers.{no_standard_fields}
+use Rattle.goblin_pe_c_headers.specs.{Images.PeImage, declared.image.PeRichHeader.PeRichHeader}
+use Rattle.goblin_pe_c_headers.specs.{Options.PeOptions, Headers.no_standard_fields}
 use Rattle.goblin_pe_sect.specs.DataDirectories.{no_directory}
 
 abbrev pub no_rich_header : PeRichHeader

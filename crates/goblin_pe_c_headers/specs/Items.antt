@@ -1,6 +1,5 @@
 -- Items whose last one may be a refusal.
-use Rattle.std.specs.Prelude.{List, map, Option, Result}
-use Rattle.std.specs.Result.{result_ok}
+use Rattle.std.specs.{Prelude.List, Prelude.map, Prelude.Option, Prelude.Result, Result.result_ok}
 use Rattle.goblin_base.specs.declared.error.ErrorOf.{ErrorOf}
 
 -- each refusal without its cause

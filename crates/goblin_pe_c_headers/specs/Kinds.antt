@@ -2,8 +2,7 @@
 use Rattle.std.specs.List.{list_any}
 use Rattle.std.specs.Prelude.{ℕ, Bool, false, ◌==◌, ◌&&◌, if◌then◌else◌, nat_eq, nat_le, List, []}
 use Rattle.std.specs.Prelude.{◌∷◌, option_map, unwrap_or}
-use Rattle.goblin_base.specs.declared.endian.Endian.TheVariants.{Little}
-use Rattle.goblin_base.specs.Bytes.{number_at}
+use Rattle.goblin_base.specs.{declared.endian.Endian.TheVariants.Little, Bytes.number_at}
 use Rattle.goblin_pe_c_headers.specs.declared.kind.Kind.{Kind}
 use Rattle.goblin_pe_c_headers.specs.declared.kind.Kind.TheVariants as kind
 

@@ -2,19 +2,14 @@
 use Rattle.std.specs.Prelude.{ℕ, ◌+◌, ◌-◌, ◌==◌, ◌≡◌, ◌<◌, ◌&&◌, Bool, IsTrue, bit_and, max, min}
 use Rattle.std.specs.Prelude.{not, nat_le, nat_lt, if◌then◌else◌, List, [], find, position, Option}
 use Rattle.std.specs.Prelude.{Some, None, IsSomeAnd, length, option_and_then, slice_range}
-use Rattle.std.specs.Int.{is_power_of_two}
-use Rattle.std.specs.Option.{option_or, unwrap_or}
-use Rattle.goblin_pe_sect.specs.declared.options.Mapping.{Mapping}
-use Rattle.goblin_pe_sect.specs.Mapping.{raw_begin, read_size}
-use Rattle.goblin_pe_sect.specs.Options.{mapping_in}
-use Rattle.goblin_pe_sect.specs.SectionTable.{Section}
+use Rattle.std.specs.{Int.is_power_of_two, Option.option_or, Option.unwrap_or}
+use Rattle.goblin_pe_sect.specs.{declared.options.Mapping.Mapping, Mapping.raw_begin}
+use Rattle.goblin_pe_sect.specs.{Mapping.read_size, Options.mapping_in, SectionTable.Section}
 use Rattle.goblin_pe_c_headers.specs.declared.memory.PeMemory.{PeMemory}
-use Rattle.goblin_pe_c_headers.specs.declared.memory.Region.{Region}
+use Rattle.goblin_pe_c_headers.specs.{declared.memory.Region.Region, Places.PePlaces}
 use Rattle.goblin_pe_c_headers.specs.declared.memory.Region.TheVariants as region
-use Rattle.goblin_pe_c_headers.specs.declared.options.PeOptions.{PeOptions}
-use Rattle.goblin_pe_c_headers.specs.declared.places.PePlaces.{PePlaces}
+use Rattle.goblin_pe_c_headers.specs.Options.{PeOptions, are_known, options_at, view_of}
 use Rattle.goblin_pe_c_headers.specs.Addresses.{MappedImage, image_map, mapped_image}
-use Rattle.goblin_pe_c_headers.specs.Options.{are_known, options_at, view_of}
 
 -- Source: PE Format, "Section Table (Section Headers)", on the virtual size, the raw size and the
 -- raw pointer, and "Section Flags", on uninitialized data. Loaders map whole file blocks: where a

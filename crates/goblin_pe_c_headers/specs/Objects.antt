@@ -1,18 +1,12 @@
 -- What a call reports of an object.
 use Rattle.std.specs.Prelude.{◌≡◌, ◌+◌, Bool, List, None, Some}
-use Rattle.goblin_base.specs.declared.endian.Endian.TheVariants.{Little}
-use Rattle.goblin_base.specs.Reading.{Reading}
+use Rattle.goblin_base.specs.{declared.endian.Endian.TheVariants.Little, Reading.Reading}
 use Rattle.readings.specs.Reads.{◌>>=◌, mapped, record_at}
-use Rattle.goblin_pe_sect.specs.Options.{is_strict}
-use Rattle.goblin_pe_sect.specs.SectionTable.{Section}
-use Rattle.goblin_pe_head.specs.declared.header.coff.CoffHeader.{CoffHeader}
-use Rattle.goblin_pe_head.specs.CoffHeader.{coff_header, symbols_end}
-use Rattle.goblin_pe_head.specs.CoffReadings.{sections_at}
-use Rattle.goblin_pe_c_headers.specs.declared.image.PeImage.{PeImage}
-use Rattle.goblin_pe_c_headers.specs.declared.options.PeOptions.{PeOptions}
-use Rattle.goblin_pe_c_headers.specs.ImageRecords.{zero_image}
-use Rattle.goblin_pe_c_headers.specs.Options.{header_options, longest_of}
-use Rattle.goblin_pe_c_headers.specs.Sections.{RowsHold}
+use Rattle.goblin_pe_sect.specs.{Options.is_strict, SectionTable.Section}
+use Rattle.goblin_pe_head.specs.{declared.header.coff.CoffHeader.CoffHeader, CoffHeader.coff_header}
+use Rattle.goblin_pe_head.specs.{CoffHeader.symbols_end, CoffReadings.sections_at}
+use Rattle.goblin_pe_c_headers.specs.{Images.PeImage, ImageRecords.zero_image, Sections.RowsHold}
+use Rattle.goblin_pe_c_headers.specs.Options.{PeOptions, header_options, longest_of}
 
 pub record ObjectFile : Type 0 where
   pub header : CoffHeader

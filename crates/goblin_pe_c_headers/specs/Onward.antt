@@ -2,11 +2,9 @@
 -- fewer where it is cut.
 use Rattle.std.specs.Prelude.{◌≡◌, ◌⊎◌, ℕ, ◌+◌, ◌<◌, ◌≤◌, ⊤, List, [], ◌∷◌, map, take, drop, length}
 use Rattle.std.specs.Prelude.{min, Bool, true, false, Option, Some, None, IsSomeAnd}
-use Rattle.goblin_base.specs.declared.error.ErrorOf.{ErrorOf}
-use Rattle.goblin_base.specs.Answers.{FirstFault}
-use Rattle.goblin_base.specs.Reading.{Reading}
+use Rattle.goblin_base.specs.{declared.error.ErrorOf.ErrorOf, Answers.FirstFault, Reading.Reading}
 use Rattle.goblin_pe_c_headers.specs.Filled.{Filled}
-use Rattle.goblin_pe_c_headers.specs.declared.batch.PeBatch.{PeBatch}
+pub use Rattle.goblin_pe_c_headers.specs.declared.batch.PeBatch.{PeBatch}
 
 -- what a caller passes, to be gone on with
 pub record Batch (P R : Type 0) : Type 0 where

@@ -9,9 +9,8 @@ use Rattle.goblin_pe_sect.specs.declared.options.View.{View}
 use Rattle.goblin_pe_sect.specs.declared.options.View.TheVariants.{LoadedSections, Loader, Sections}
 use Rattle.goblin_pe_sect.specs.Options.{default_options, is_strict, rule_by_alignment}
 use Rattle.goblin_pe_head.specs.declared.optional_header.OptionalHeader.{OptionalHeader}
-use Rattle.goblin_pe_head.specs.HeaderReadings.{pe_header}
-use Rattle.goblin_pe_head.specs.PeHeader.{PeHeader}
-use Rattle.goblin_pe_c_headers.specs.declared.options.PeOptions.{PeOptions}
+use Rattle.goblin_pe_head.specs.{HeaderReadings.pe_header, PeHeader.PeHeader}
+pub use Rattle.goblin_pe_c_headers.specs.declared.options.PeOptions.{PeOptions}
 
 -- the options are known: the mapping has a number of its own, and zeros follow
 abbrev pub are_known : PeOptions → Bool

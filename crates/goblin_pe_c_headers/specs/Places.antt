@@ -4,8 +4,8 @@ use Rattle.goblin_base.specs.Reading.{Reading}
 use Rattle.readings.specs.Reads.{given, pick, slice_at}
 use Rattle.goblin_pe_head.specs.added.HeaderParts.{sections_there}
 use Rattle.goblin_pe_sect.specs.SectionTable.{Section}
-use Rattle.goblin_pe_c_headers.specs.declared.image.PeImage.{PeImage}
-use Rattle.goblin_pe_c_headers.specs.declared.places.PePlaces.{PePlaces}
+use Rattle.goblin_pe_c_headers.specs.Images.{PeImage}
+pub use Rattle.goblin_pe_c_headers.specs.declared.places.PePlaces.{PePlaces}
 
 -- a number of the optional header; 0 without one
 abbrev pub number_if : Bool → ℕ → ℕ

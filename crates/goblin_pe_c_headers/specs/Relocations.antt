@@ -1,11 +1,9 @@
 -- The relocations of a section of an object, as a call gives them.
 use Rattle.std.specs.Prelude.{ℕ, ◌*◌, ◌==◌, ◌&&◌, List, [], bit_and, not}
-use Rattle.goblin_base.specs.declared.endian.Endian.TheVariants.{Little}
-use Rattle.goblin_base.specs.Reading.{Reading}
+use Rattle.goblin_base.specs.{declared.endian.Endian.TheVariants.Little, Reading.Reading}
 use Rattle.readings.specs.Reads.{◌>>=◌, given, mapped, number_at, pick, slice_at}
 use Rattle.goblin_pe_sect.specs.declared.relocation.Relocation.{Relocation}
-use Rattle.goblin_pe_sect.specs.Relocations.{relocations_in}
-use Rattle.goblin_pe_sect.specs.SectionTable.{Section}
+use Rattle.goblin_pe_sect.specs.{Relocations.relocations_in, SectionTable.Section}
 use Rattle.goblin_pe_c_headers.specs.declared.cursor.PeCoffRelocationCursor.{PeCoffRelocationCursor}
 
 -- Where the walk over the relocations of a section begins. If they are more than its header can

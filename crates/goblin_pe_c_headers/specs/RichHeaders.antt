@@ -4,21 +4,15 @@ use Rattle.std.specs.Prelude.{[], drop, ◌∷◌, ◌^◌, length, None, Option
 use Rattle.std.specs.Prelude.{Result, Ok, Err, true}
 use Rattle.goblin_base.specs.declared.error.ErrorOf.{ErrorOf}
 use Rattle.goblin_base.specs.declared.error.ErrorOf.TheVariants.{Read}
-use Rattle.goblin_base.specs.declared.error.ReadFault.TheVariants.{TooBig}
-use Rattle.goblin_base.specs.Answers.{FirstFault}
-use Rattle.goblin_base.specs.Bytes.{IsBytes}
-use Rattle.goblin_base.specs.Reading.{Reading}
+use Rattle.goblin_base.specs.{declared.error.ReadFault.TheVariants.TooBig, Answers.FirstFault}
+use Rattle.goblin_base.specs.{Bytes.IsBytes, Reading.Reading}
 use Rattle.readings.specs.Reads.{given, pick, slice_at}
-use Rattle.goblin_pe_head.specs.declared.header.rich.RichMetadata.{RichMetadata}
+use Rattle.goblin_pe_head.specs.{declared.header.rich.RichMetadata.RichMetadata, PeHeader.PeHeader}
+use Rattle.goblin_pe_head.specs.{RichHeader.Rich, RichMetadata.metadata_items}
 use Rattle.goblin_pe_head.specs.HeaderReadings.{pe_header, rich_header}
-use Rattle.goblin_pe_head.specs.PeHeader.{PeHeader}
-use Rattle.goblin_pe_head.specs.RichHeader.{Rich}
-use Rattle.goblin_pe_head.specs.RichMetadata.{metadata_items}
-use Rattle.goblin_pe_c_headers.specs.declared.batch.PeBatch.{PeBatch}
-use Rattle.goblin_pe_c_headers.specs.declared.image.PeImage.{PeImage}
-use Rattle.goblin_pe_c_headers.specs.declared.image.PeRichHeader.{PeRichHeader}
-use Rattle.goblin_pe_c_headers.specs.ImageRecords.{no_rich_header}
-use Rattle.goblin_pe_c_headers.specs.Items.{without_causes}
+use Rattle.goblin_pe_c_headers.specs.Onward.{PeBatch}
+use Rattle.goblin_pe_c_headers.specs.{Images.PeImage, declared.image.PeRichHeader.PeRichHeader}
+use Rattle.goblin_pe_c_headers.specs.{ImageRecords.no_rich_header, Items.without_causes}
 use Rattle.goblin_pe_c_headers.specs.Onward.{Batch, FillsNext, IsRefusedNext, Table, no_batch}
 
 -- the entries, as stored: what lies between the padding and the marker Rich

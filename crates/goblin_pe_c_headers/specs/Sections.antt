@@ -4,23 +4,17 @@ use Rattle.std.specs.Prelude.{Result, ◌+◌, ◌*◌, ◌/◌, ◌==◌, map, 
 use Rattle.std.specs.Prelude.{slice_range, take, unwrap_or}
 use Rattle.std.specs.List.{range_with_len}
 use Rattle.goblin_base.specs.declared.error.ErrorOf.{ErrorOf}
-use Rattle.goblin_base.specs.declared.endian.Endian.TheVariants.{Little}
-use Rattle.goblin_base.specs.Bytes.{before_nul}
+use Rattle.goblin_base.specs.{declared.endian.Endian.TheVariants.Little, Bytes.before_nul}
 use Rattle.readings.specs.Reads.{◌>>=◌, taken, text_within}
-use Rattle.goblin_pe_sect.specs.Options.{is_strict}
-use Rattle.goblin_pe_sect.specs.SectionName.{name_value}
+use Rattle.goblin_pe_sect.specs.{Options.is_strict, SectionName.name_value}
 use Rattle.goblin_pe_sect.specs.SectionTable.{Section, section_record}
-use Rattle.goblin_pe_head.specs.CoffHeader.{symbols_end}
-use Rattle.goblin_pe_head.specs.TeHeader.{section_moved}
-use Rattle.goblin_pe_c_headers.specs.declared.batch.PeBatch.{PeBatch}
+use Rattle.goblin_pe_head.specs.{CoffHeader.symbols_end, TeHeader.section_moved}
+use Rattle.goblin_pe_c_headers.specs.Onward.{PeBatch, Batch, GivesRows, no_batch}
 use Rattle.goblin_pe_c_headers.specs.declared.cursor.PeCoffRelocationCursor.{PeCoffRelocationCursor}
-use Rattle.goblin_pe_c_headers.specs.declared.image.PeImage.{PeImage}
-use Rattle.goblin_pe_c_headers.specs.declared.section.PeSection.{PeSection}
-use Rattle.goblin_pe_c_headers.specs.Calls.{ReadsWithout}
-use Rattle.goblin_pe_c_headers.specs.Onward.{Batch, GivesRows, no_batch}
-use Rattle.goblin_pe_c_headers.specs.Options.{header_options, longest_of}
-use Rattle.goblin_pe_c_headers.specs.Places.{headers_there}
+use Rattle.goblin_pe_c_headers.specs.{Images.PeImage, declared.section.PeSection.PeSection}
+use Rattle.goblin_pe_c_headers.specs.{Calls.ReadsWithout, Places.headers_there}
 use Rattle.goblin_pe_c_headers.specs.Relocations.{relocations_begin}
+use Rattle.goblin_pe_c_headers.specs.Options.{header_options, longest_of}
 
 -- the name that the eight bytes of a name lead to in the string table, whole or, where there is a
 -- limit, cut there

@@ -1,13 +1,10 @@
 -- The symbols of a table from one of its records on, and what a call gives of them.
 use Rattle.std.specs.Prelude.{◌≡◌, ℕ, zero, suc, ◌+◌, ◌-◌, ◌*◌, ◌/◌, ◌==◌, if◌then◌else◌, List, []}
 use Rattle.std.specs.Prelude.{length, nat_lt, take, drop, slice_index, true, Option, Some, None}
-use Rattle.std.specs.Option.{unwrap_or}
-use Rattle.std.specs.Str.{is_utf8}
-use Rattle.goblin_base.specs.declared.endian.Endian.TheVariants.{Little}
+use Rattle.std.specs.{Option.unwrap_or, Str.is_utf8}
+use Rattle.goblin_base.specs.{declared.endian.Endian.TheVariants.Little, Answers.◌>>=◌}
+use Rattle.goblin_base.specs.{Bytes.text_within, Reading.Reading}
 use Rattle.goblin_base.specs.declared.error.CauseOf.TheVariants.{CoffLength, StringTable}
-use Rattle.goblin_base.specs.Answers.{◌>>=◌}
-use Rattle.goblin_base.specs.Bytes.{text_within}
-use Rattle.goblin_base.specs.Reading.{Reading}
 use Rattle.goblin_base.specs.Strtab.{is_in_piece, rest_at}
 use Rattle.readings.specs.Reads as reads
 use Rattle.readings.specs.Reads.{because, bytes_between, given, mapped, needs, number_at}
@@ -18,11 +15,9 @@ use Rattle.goblin_pe_symbol.specs.Symbols.{symbols_from}
 use Rattle.goblin_pe_head.specs.declared.header.coff.CoffHeader.{CoffHeader}
 use Rattle.goblin_pe_head.specs.CoffHeader.{string_table_offset, symbols_end}
 use Rattle.goblin_pe_head.specs.CoffReadings.{strings_of, symbols_of}
-use Rattle.goblin_pe_c_headers.specs.declared.symbol.PeSymbol.{PeSymbol}
-use Rattle.goblin_pe_c_headers.specs.Onward.{Batch, FillsNext, Table, unrefused}
-use Rattle.goblin_pe_c_headers.specs.declared.batch.PeBatch.{PeBatch}
-use Rattle.goblin_pe_c_headers.specs.declared.image.PeImage.{PeImage}
+use Rattle.goblin_pe_c_headers.specs.{declared.symbol.PeSymbol.PeSymbol, Images.PeImage}
 use Rattle.goblin_pe_c_headers.specs.Options.{longest_of}
+use Rattle.goblin_pe_c_headers.specs.Onward.{Batch, FillsNext, Table, unrefused, PeBatch}
 
 -- The name at an offset of the bytes of a string table: what is left of the piece there, where that
 -- is UTF-8, whatever the other bytes are, whole or, where there is a limit, cut there. At the end

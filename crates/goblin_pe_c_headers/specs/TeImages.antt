@@ -1,16 +1,12 @@
 -- What a call reports of a Terse Executable.
 use Rattle.std.specs.Prelude.{◌≡◌, ℕ, ◌-◌, List, None, Some, true}
 use Rattle.goblin_base.specs.Reading.{Reading}
-use Rattle.goblin_pe_sect.specs.Options.{is_strict}
-use Rattle.goblin_pe_sect.specs.SectionTable.{Section}
-use Rattle.goblin_pe_head.specs.declared.header.te.TeHeader.{TeHeader}
-use Rattle.goblin_pe_head.specs.TeHeader.{te_image}
-use Rattle.goblin_pe_c_headers.specs.declared.image.PeImage.{PeImage}
-use Rattle.goblin_pe_c_headers.specs.declared.options.PeOptions.{PeOptions}
+use Rattle.goblin_pe_sect.specs.{Options.is_strict, SectionTable.Section}
+use Rattle.goblin_pe_head.specs.{declared.header.te.TeHeader.TeHeader, TeHeader.te_image}
 use Rattle.goblin_pe_head.specs.PeHeader.{zero_coff_header}
+use Rattle.goblin_pe_c_headers.specs.{Images.PeImage, Sections.RowsHold}
+use Rattle.goblin_pe_c_headers.specs.Options.{PeOptions, header_options, longest_of}
 use Rattle.goblin_pe_c_headers.specs.ImageRecords.{IsImage, zero_image}
-use Rattle.goblin_pe_c_headers.specs.Options.{header_options, longest_of}
-use Rattle.goblin_pe_c_headers.specs.Sections.{RowsHold}
 
 -- the header and the sections of a Terse Executable: the header is at the front of the file, and
 -- the section table follows it

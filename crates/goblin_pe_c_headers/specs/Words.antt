@@ -1,13 +1,11 @@
 -- The base relocations of a block, as a call gives them.
 use Rattle.std.specs.Prelude.{◌≡◌, ℕ, ◌+◌, ◌*◌, ◌/◌, ◌%◌, ◌^◌, List, drop, length, min, take, Some}
-use Rattle.goblin_base.specs.declared.endian.Endian.TheVariants.{Little}
-use Rattle.goblin_base.specs.Tables.{records_in}
+use Rattle.goblin_base.specs.{declared.endian.Endian.TheVariants.Little, Tables.records_in}
 use Rattle.goblin_pe_sect.specs.BaseRelocations.{word_record}
 use Rattle.goblin_pe_sect.specs.declared.relocation.base.RelocationWord.{RelocationWord}
-use Rattle.goblin_pe_c_headers.specs.declared.batch.PeBatch.{PeBatch}
+use Rattle.goblin_pe_c_headers.specs.Onward.{PeBatch, Batch, FillsNext, Table, unrefused}
 use Rattle.goblin_pe_c_headers.specs.declared.cursor.PeBaseRelocationCursor.{PeBaseRelocationCursor}
 use Rattle.goblin_pe_c_headers.specs.declared.word.PeBaseRelocation.{PeBaseRelocation}
-use Rattle.goblin_pe_c_headers.specs.Onward.{Batch, FillsNext, Table, unrefused}
 
 -- the row of a word of a block for the page at this address: its type in the high four bits, and in
 -- the low twelve the offset in the page

@@ -2,11 +2,9 @@
 use Rattle.std.specs.Prelude.{◌≡◌, ◌==◌, if◌then◌else◌, ℕ, Bool, List, [], length, map}
 use Rattle.std.specs.Prelude.{IsSomeAnd, Option, None, Some, Result, Ok, Err, option_and_then}
 use Rattle.goblin_base.specs.declared.endian.Endian.TheVariants.{Little}
-use Rattle.goblin_base.specs.declared.error.ErrorOf.{ErrorOf}
-use Rattle.goblin_base.specs.Answers.{FirstFault, IsSliceFault}
-use Rattle.goblin_base.specs.Bytes.{overwritten}
-use Rattle.goblin_base.specs.Reading.{Reading}
+use Rattle.goblin_base.specs.{declared.error.ErrorOf.ErrorOf, Bytes.overwritten, Reading.Reading}
 use Rattle.goblin_base.specs.Record.{encoding}
+use Rattle.goblin_base.specs.Answers.{FirstFault, IsSliceFault}
 use Rattle.readings.specs.Reads.{given, pick, slice_at}
 use Rattle.goblin_pe_head.specs.DosStub.{default_stub}
 use Rattle.goblin_pe_sect.specs.declared.data_directories.DataDirectory.{DataDirectory}
@@ -14,8 +12,7 @@ use Rattle.goblin_pe_sect.specs.SectionName.{IsNameOffsetFault, indirect_name, n
 use Rattle.goblin_pe_sect.specs.SectionTable.{section_fields}
 use Rattle.goblin_pe_head.specs.declared.optional_header.OptionalHeader.{OptionalHeader}
 use Rattle.goblin_pe_head.specs.PeHeader.{IsUnwrittenPart, PeHeader, header_bytes}
-use Rattle.goblin_pe_c_headers.specs.declared.image.PeImage.{PeImage}
-use Rattle.goblin_pe_c_headers.specs.declared.section.PeSection.{PeSection}
+use Rattle.goblin_pe_c_headers.specs.{Images.PeImage, declared.section.PeSection.PeSection}
 use Rattle.goblin_pe_c_headers.specs.Sections.{section_model}
 
 -- ---- what records say

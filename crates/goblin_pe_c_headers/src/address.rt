@@ -4,8 +4,7 @@ ghost use Rattle.std.specs.Prelude.{◌≡◌, option_map};
 ghost use Rattle.goblin_pe_c_headers.specs.Addresses.{first_address, image_address, image_map};
 ghost use Rattle.goblin_pe_c_headers.specs.Addresses.{mapped_image, mapped_offset};
 ghost use Rattle.goblin_pe_c_headers.specs.Addresses.{mapped_model, text_at};
-ghost use Rattle.goblin_pe_c_headers.specs.Calls.{ReadsWithout};
-ghost use Rattle.goblin_pe_c_headers.specs.Images.{slice_model};
+ghost use Rattle.goblin_pe_c_headers.specs.{Calls.ReadsWithout, Images.slice_model};
 
 use crate::image::PeSlice;
 use crate::options::{PeOptions, are_known, longest_of, maps_addresses, options_at, view_of};

@@ -1,8 +1,7 @@
 //! The record of an image, which all calls on it take.
 
 ghost use Rattle.std.specs.Prelude.{◌≡◌, option_map};
-ghost use Rattle.goblin_pe_c_headers.specs.ImageRecords.{zero_image};
-ghost use Rattle.goblin_pe_c_headers.specs.Images.{slice_model};
+ghost use Rattle.goblin_pe_c_headers.specs.{ImageRecords.zero_image, Images.slice_model};
 ghost use Rattle.goblin_pe_c_headers.specs.Places.{image_places, number_if};
 
 use crate::headers::PeOptionalHeader;

@@ -2,7 +2,7 @@
 
 ghost use Rattle.std.specs.Prelude.{◌≡◌, ◌+◌, ◌^◌, ◌<◌, ◌≤◌, Some, length, option_map};
 ghost use Rattle.std.specs.Option.{unwrap_or};
-ghost use Rattle.goblin_pe_c_headers.specs.Addresses.{mapped_model};
+ghost use Rattle.goblin_pe_c_headers.specs.{Addresses.mapped_model, Sections.section_model};
 ghost use Rattle.goblin_pe_c_headers.specs.Memory.{SeesFile, available, front_at, holder};
 ghost use Rattle.goblin_pe_c_headers.specs.Memory.{holder_index, is_among, is_unstored, known};
 ghost use Rattle.goblin_pe_c_headers.specs.Memory.{memory_at, memory_by, memory_in_file};
@@ -10,7 +10,6 @@ ghost use Rattle.goblin_pe_c_headers.specs.Memory.{memory_length, memory_model, 
 ghost use Rattle.goblin_pe_c_headers.specs.Memory.{memory_size, region_in, section_data};
 ghost use Rattle.goblin_pe_c_headers.specs.Memory.{stored_in_memory, stored_size, unknown};
 ghost use Rattle.goblin_pe_c_headers.specs.Memory.{window_size};
-ghost use Rattle.goblin_pe_c_headers.specs.Sections.{section_model};
 
 use crate::address::{Mapped, mapped_by};
 use crate::options::{PeOptions, are_known, options_at, view_of};

@@ -2,10 +2,9 @@
 
 ghost use Rattle.std.specs.Prelude.{◌≡◌};
 ghost use Rattle.goblin_pe_sect.specs.Options.{is_strict};
-ghost use Rattle.goblin_pe_c_headers.specs.Calls.{ReadsWithout};
-ghost use Rattle.goblin_pe_c_headers.specs.ImageRecords.{IsImage};
-ghost use Rattle.goblin_pe_c_headers.specs.Objects.{ObjectRowsAreRead, object_file, object_image};
+ghost use Rattle.goblin_pe_c_headers.specs.{Calls.ReadsWithout, ImageRecords.IsImage};
 ghost use Rattle.goblin_pe_c_headers.specs.Options.{header_options};
+ghost use Rattle.goblin_pe_c_headers.specs.Objects.{ObjectRowsAreRead, object_file, object_image};
 
 use crate::image::{PeImage, zero_image};
 use crate::kind::Kind;

@@ -1,8 +1,7 @@
 //! The entries of the Rich header, in batches.
 
 ghost use Rattle.std.specs.Prelude.{◌≡◌, ◌<◌, ◌^◌, IfOk, MatchResult, length, slice_get};
-ghost use Rattle.goblin_base.specs.Reading.{Reads};
-ghost use Rattle.goblin_base.specs.Tables.{records_in};
+ghost use Rattle.goblin_base.specs.{Reading.Reads, Tables.records_in};
 ghost use Rattle.goblin_pe_head.specs.RichMetadata.{metadata_at};
 ghost use Rattle.goblin_pe_c_headers.specs.Onward.{batch_at};
 ghost use Rattle.goblin_pe_c_headers.specs.RichHeaders.{GivesEntries, GivesEntriesOf};

@@ -1,8 +1,7 @@
 //! The rows of sections, and their headers written back.
 
 ghost use Rattle.std.specs.Prelude.{◌≡◌, ◌+◌, ◌*◌, ◌<◌, ◌/◌, length, option_map, slice_range, take};
-ghost use Rattle.goblin_base.specs.declared.endian.Endian.TheVariants.{Little};
-ghost use Rattle.goblin_base.specs.Bytes.{before_nul};
+ghost use Rattle.goblin_base.specs.{declared.endian.Endian.TheVariants.Little, Bytes.before_nul};
 ghost use Rattle.goblin_pe_sect.specs.SectionReadings.{SectionWritesBack};
 ghost use Rattle.goblin_pe_sect.specs.SectionTable.{section_record, unnamed};
 ghost use Rattle.goblin_pe_head.specs.TeHeader.{section_moved};

@@ -1,14 +1,12 @@
 //! The symbols of an image or an object.
 
 ghost use Rattle.std.specs.Prelude.{◌≡◌, ◌+◌, ◌/◌, ◌<◌, ◌≤◌, IfSome, None, length, option_map};
-ghost use Rattle.goblin_base.specs.Reading.{Reads};
-ghost use Rattle.goblin_base.specs.Strtab.{is_in_piece};
+ghost use Rattle.goblin_base.specs.{Reading.Reads, Strtab.is_in_piece};
 ghost use Rattle.goblin_pe_head.specs.CoffHeader.{symbols_end};
 ghost use Rattle.goblin_pe_symbol.specs.Symbols.{name_and_symbol, named_value, record_of};
 ghost use Rattle.goblin_pe_symbol.specs.Symbols.{symbol_of};
-ghost use Rattle.goblin_pe_c_headers.specs.Calls.{ReadsWithout};
+ghost use Rattle.goblin_pe_c_headers.specs.{Calls.ReadsWithout, Options.longest_of};
 ghost use Rattle.goblin_pe_c_headers.specs.Onward.{no_batch, batch_at};
-ghost use Rattle.goblin_pe_c_headers.specs.Options.{longest_of};
 ghost use Rattle.goblin_pe_c_headers.specs.Symbols.{FindsTables, GivesSymbols, NamesOfText};
 ghost use Rattle.goblin_pe_c_headers.specs.Symbols.{auxiliary_of, found_tables, name_in};
 ghost use Rattle.goblin_pe_c_headers.specs.Symbols.{name_in_piece, named_symbol};

@@ -6,13 +6,12 @@ use Rattle.std.proofs.lemmas.List.FromFn.{get_or-enumerate_from, length-enumerat
 use Rattle.std.proofs.lemmas.Option.{slice_get-get_or, slice_get-map, slice_get_cases, slice_get_past}
 use Rattle.goblin_pe_sect.specs.Addresses.{Addressing, MapOfAddresses}
 use Rattle.goblin_pe_export.specs.declared.export.tables.ExportAddressTableEntry.{ExportAddressTableEntry}
-use Rattle.goblin_pe_c_tables.specs.declared.export_directory.PeExportAddress.{PeExportAddress}
+use Rattle.goblin_pe_c_tables.specs.ExportDirectories.{PeExportAddress}
 use Rattle.goblin_pe_export.specs.declared.added.exports.Exports.{Exports}
 use Rattle.goblin_pe_export.specs.ExportRecords.{ExportTables}
 use Rattle.goblin_pe_export.specs.added.ExportWalks.{walked_tables}
-use Rattle.goblin_pe.specs.added.Layouts.{address_part}
+use Rattle.goblin_pe.specs.{added.Layouts.address_part, declared.whole.Part.Part}
 use Rattle.goblin_pe.specs.Whole.{TablePlaces, part_map}
-use Rattle.goblin_pe.specs.declared.whole.Part.{Part}
 use Rattle.goblin_pe.specs.declared.whole.Part.TheVariants.{Absent, Refused}
 use Rattle.goblin_pe_c_headers.specs.Onward.{GivesOnward, row_table, unrefused, Batch}
 use Rattle.goblin_pe_c_headers.specs.declared.batch.PeBatch.{PeBatch}

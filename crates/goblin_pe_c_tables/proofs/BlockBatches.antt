@@ -1,32 +1,26 @@
 -- A loop that fills records with the blocks of a directory from an offset on.
 use Rattle.std.proofs.Common.{◌≡◌, ◌≢◌, ◌⊎◌, ℕ, ◌+◌, ◌-◌, ◌<◌, Bool, true, false, cond, nat_lt, IfErr, ◌≤◌, List, [], ◌∷◌, ◌++◌, length, set, take, ap, refl, subst, sym, arith, ◌∙◌, inl, inr, zero, suc, MatchResult, sum_by, unwrap_or, Option, None, Some, Result, Ok, Err}
 use Rattle.std.proofs.lemmas.List.Sums.{sum_by_push}
-use Rattle.goblin_base.specs.declared.error.ErrorOf.{ErrorOf}
-use Rattle.goblin_base.specs.Reading.{Reads}
+use Rattle.goblin_base.specs.{declared.error.ErrorOf.ErrorOf, Reading.Reads}
 use Rattle.goblin_base.specs.declared.endian.Endian.TheVariants.{Little}
 use Rattle.goblin_base.specs.declared.error.CauseOf.TheVariants.{BlockSize}
-use Rattle.goblin_base.specs.declared.error.ErrorOf.TheVariants.{Malformed}
-use Rattle.goblin_base.specs.Answers.{IsMemory}
+use Rattle.goblin_base.specs.{declared.error.ErrorOf.TheVariants.Malformed, Answers.IsMemory}
 use Rattle.goblin_base.specs.Bytes.{number, slice_at}
 use Rattle.goblin_pe_sect.specs.declared.relocation.base.RelocationBlock.{RelocationBlock}
 use Rattle.goblin_pe_sect.specs.declared.relocation.base.RelocationData.{RelocationData}
-use Rattle.goblin_pe_sect.specs.BaseRelocations.{Block, FindsItem, block_at, block_items, block_value, first_items, relocation_bytes, then_items, with_head, with_words}
-use Rattle.goblin_pe_sect.specs.Addresses.{MapOfAddresses}
-use Rattle.goblin_pe.specs.Whole.{TablePlaces, directory_at, offset_in, part_at, part_map, part_of, relocation_part}
-use Rattle.goblin_base.proofs.Numbers.{slice_at-some}
-use Rattle.goblin_base.proofs.RecordRoundTrip.{length-slice}
-use Rattle.goblin_pe_sect.specs.Options.{is_strict}
+use Rattle.goblin_pe_sect.specs.{Addresses.MapOfAddresses, Options.is_strict}
 use Rattle.goblin_pe_sect.specs.AddressReadings.{relocation_data}
 use Rattle.goblin_pe_sect.specs.declared.data_directories.DataDirectory.{DataDirectory}
+use Rattle.goblin_pe_sect.specs.BaseRelocations.{Block, FindsItem, block_at, block_items, block_value, first_items, relocation_bytes, then_items, with_head, with_words}
+use Rattle.goblin_pe.specs.Whole.{TablePlaces, directory_at, offset_in, part_at, part_map, part_of, relocation_part}
+use Rattle.goblin_base.proofs.{Numbers.slice_at-some, RecordRoundTrip.length-slice}
 use Rattle.goblin_pe.specs.declared.whole.Part.{Part}
 use Rattle.goblin_pe.specs.declared.whole.Part.TheVariants.{Absent, Refused}
 use Rattle.goblin_pe.specs.declared.whole.Part.TheVariants as part
-use Rattle.goblin_pe_c_headers.specs.declared.batch.PeBatch.{PeBatch}
+use Rattle.goblin_pe_c_headers.specs.{declared.batch.PeBatch.PeBatch, Items.without_causes}
 use Rattle.goblin_pe_c_tables.specs.declared.block.PeRelocationBlock.{PeRelocationBlock}
-use Rattle.goblin_pe_c_headers.specs.Items.{without_causes}
-use Rattle.goblin_pe_c_headers.specs.Onward.{IsRefusedNext, values_before, Batch}
+use Rattle.goblin_pe_c_headers.specs.Onward.{IsRefusedNext, values_before, Batch, batch_at}
 use Rattle.goblin_pe_c_tables.specs.Batches.{GivesBlocksIn, GivesBlocks, IsBlockCause, IsBlocksFault, at_room, block_for_c, block_table, blocks_from, placed, relocations_begin}
-use Rattle.goblin_pe_c_headers.specs.Onward.{batch_at}
 use Rattle.goblin_pe_c_headers.proofs.Batches.{AtItems, items-end, items-fault, items-full, items-more, items-refused, items-start, items-stay, items-taken, items-then, done-end, done-full, done-refused, none-given}
 
 -- ---- a refusal is never Memory

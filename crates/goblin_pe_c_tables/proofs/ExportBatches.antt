@@ -14,9 +14,8 @@ use Rattle.goblin_pe.specs.Whole.{IfRead, TablePlaces, export_part, part_map}
 use Rattle.goblin_pe.specs.declared.whole.Part.{Part}
 use Rattle.goblin_pe.specs.declared.whole.Part.TheVariants.{Absent, Refused}
 use Rattle.goblin_pe.specs.declared.whole.Part.TheVariants as part
-use Rattle.goblin_pe_c_tables.specs.declared.export.PeExport.{PeExport}
+use Rattle.goblin_pe_c_tables.specs.Exports.{PeExport, export_for_c, export_model}
 use Rattle.goblin_pe_c_tables.specs.Batches.{GivesExports, LooksAtPointers, at_room, exports_in, exports_table}
-use Rattle.goblin_pe_c_tables.specs.Exports.{export_for_c, export_model}
 use Rattle.goblin_pe_c_headers.specs.Onward.{FillsFrom, IsRefusedNext, unrefused}
 use Rattle.goblin_pe_c_headers.proofs.Batches.{AtItems, fills-by, items-cut, items-end, items-more, done-at_room, none-given}
 

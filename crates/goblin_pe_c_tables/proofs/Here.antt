@@ -2,12 +2,11 @@
 use Rattle.std.proofs.Common.{◌≡◌, ◌∙◌, List, [], ◌∷◌, ◌++◌, Some, Ok, refl, suc, arith}
 use Rattle.std.proofs.lemmas.List.{length-append}
 use Rattle.goblin_base.specs.Tables.{Format}
-use Rattle.goblin_pe_import.specs.ImportEntries.{EntryValue}
-use Rattle.goblin_pe_import.specs.Imports.{NumberedImport}
-use Rattle.goblin_pe_import.specs.added.ImportWalks.{GivesImport, IsImportsCause, imports_left, walked_value}
+use Rattle.goblin_pe_import.specs.{ImportEntries.EntryValue, Imports.NumberedImport}
 use Rattle.goblin_pe_import.specs.added.StepsAhead.{imports_ahead}
 use Rattle.goblin_pe_import.specs.declared.added.imports.Imports.{Imports}
 use Rattle.goblin_pe_import.specs.declared.added.imports.WalkedImport.{WalkedImport}
+use Rattle.goblin_pe_import.specs.added.ImportWalks.{GivesImport, IsImportsCause, imports_left, walked_value}
 use Rattle.goblin_pe_c_tables.specs.Imports.{GivesHere}
 use Rattle.readings.proofs.Walked.{AtWalk, walk-more}
 

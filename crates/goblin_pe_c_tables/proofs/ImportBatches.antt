@@ -1,26 +1,21 @@
 -- A loop that fills records with the imports of a file from a position on.
 use Rattle.std.proofs.Common.{◌≡◌, ◌≢◌, append-nil, ℕ, ◌+◌, ◌<◌, ◌≤◌, List, [], ◌∷◌, ◌++◌, length, drop, set, ap, subst, sym, refl, arith, ◌∙◌, inl, inr, is_none, is_some, Bool, true, false, ◌&&◌, Option, None, Some, Ok, Err, unwrap_or}
 use Rattle.std.specs.Bool.{then_some}
-use Rattle.std.proofs.lemmas.Bool.{and_parts}
-use Rattle.std.proofs.lemmas.List.{append_assoc, length-append}
+use Rattle.std.proofs.{lemmas.Bool.and_parts, lemmas.List.append_assoc, lemmas.List.length-append}
 use Rattle.goblin_base.specs.declared.error.ErrorOf.{ErrorOf}
 use Rattle.goblin_pe_import.specs.declared.added.imports.ImportCursor.{ImportCursor}
 use Rattle.goblin_pe_import.specs.declared.added.imports.WalkedImport.{WalkedImport}
+use Rattle.goblin_pe_import.specs.{Imports.NumberedImport, KeptEntries.entries_from}
+use Rattle.goblin_pe_import.specs.Steps.{AreCounted}
 use Rattle.goblin_pe_sect.specs.Addresses.{MapOfAddresses}
-use Rattle.goblin_pe_import.specs.Imports.{NumberedImport}
-use Rattle.goblin_pe_import.specs.KeptEntries.{entries_from}
 use Rattle.goblin_pe_import.specs.added.ImportWalks.{imports_next, walked_value}
 use Rattle.goblin_pe.specs.added.Layouts.{GivesFileWithin, IsImportWalk, file_ahead, file_bytes, file_cursor, file_cursor_ahead, file_cursor_left, file_imports_left}
-use Rattle.goblin_pe_import.specs.Steps.{AreCounted}
 use Rattle.goblin_pe_import.specs.added.StepsAhead.{AtSteps, HaveRunOut}
 use Rattle.goblin_pe.proofs.added.ImportStarts.{walk-ahead, walk-left}
-use Rattle.goblin_pe.specs.Whole.{TablePlaces}
-use Rattle.goblin_pe.specs.declared.added.file_imports.FileImports.{FileImports}
+use Rattle.goblin_pe.specs.{Whole.TablePlaces, declared.added.file_imports.FileImports.FileImports}
 use Rattle.goblin_pe.specs.declared.added.file_imports.FileImports.TheVariants.{Narrow, Wide}
-use Rattle.goblin_pe_c_tables.specs.declared.import.PeImport.{PeImport}
-use Rattle.goblin_pe_c_tables.specs.declared.next.PeImportCursor.{PeImportCursor}
-use Rattle.goblin_pe_c_tables.specs.Batches.{Fills, GivesImports, GivesInFile, GoesOn, cursor_for_c, cursor_from_c, import_table, is_over, position_ahead}
-use Rattle.goblin_pe_c_tables.specs.Imports.{import_for_c, import_model}
+use Rattle.goblin_pe_c_tables.specs.Imports.{PeImport, import_for_c, import_model}
+use Rattle.goblin_pe_c_tables.specs.Batches.{PeImportCursor, Fills, GivesImports, GivesInFile, GoesOn, cursor_for_c, cursor_from_c, import_table, is_over, position_ahead}
 use Rattle.goblin_pe_c_headers.specs.Onward.{AtBatch, TellsEnd, unrefused}
 use Rattle.goblin_pe_c_headers.proofs.Batches.{AtItems, batch-more, items-cut, items-end, items-full, items-gives, items-refused, items-then, done-cut, done-end, done-full, done-refused}
 

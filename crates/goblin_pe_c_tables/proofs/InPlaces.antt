@@ -1,17 +1,12 @@
 -- What is read of a file by the places that a caller says.
 use Rattle.std.proofs.Common.{◌≡◌, ℕ, List, Some, subst, IsSomeAnd}
-use Rattle.goblin_base.specs.declared.error.ErrorOf.{ErrorOf}
-use Rattle.goblin_base.specs.Answers.{FirstFault}
-use Rattle.goblin_base.specs.Reading.{IsRefused}
-use Rattle.goblin_pe_sect.specs.SectionTable.{Section}
-use Rattle.goblin_pe.specs.declared.added.layout.Layout.{Layout}
-use Rattle.goblin_pe_sect.specs.Addresses.{MapOfAddresses}
+use Rattle.goblin_base.specs.{declared.error.ErrorOf.ErrorOf, Answers.FirstFault, Reading.IsRefused}
+use Rattle.goblin_pe_sect.specs.{SectionTable.Section, Addresses.MapOfAddresses}
+use Rattle.goblin_pe.specs.{declared.added.layout.Layout.Layout, Whole.TablePlaces}
 use Rattle.goblin_pe.specs.added.Layouts.{layout_bytes, layout_map, layout_places, layout_sections}
-use Rattle.goblin_pe.specs.Whole.{TablePlaces}
 use Rattle.goblin_pe_c_headers.specs.declared.options.PeOptions.{PeOptions}
-use Rattle.goblin_pe_c_headers.specs.declared.places.PePlaces.{PePlaces}
+use Rattle.goblin_pe_c_headers.specs.{declared.places.PePlaces.PePlaces, Places.placed_sections}
 use Rattle.goblin_pe_c_tables.specs.Places.{map_at, places_from_c}
-use Rattle.goblin_pe_c_headers.specs.Places.{placed_sections}
 
 -- The layout by these places.
 pub record IsAt (o : PeOptions) (p : PePlaces) (bytes : List ℕ) (l : Layout) : Type 0 where

@@ -2,18 +2,15 @@
 use Rattle.std.proofs.Common.{◌≡◌, ◌≢◌, if◌then◌else◌, ℕ, ◌+◌, List, [], ◌∷◌, ◌++◌, ap, arith, sym, refl, ◌∙◌, ◌<◌, ◌≤◌, length, drop, take, set, Bool, true, false, Option, None, Some, Ok, Err}
 use Rattle.goblin_pe_import.specs.declared.added.imports.ImportCursor.{ImportCursor}
 use Rattle.goblin_pe_import.specs.declared.added.library_walk.Libraries.{Libraries}
-use Rattle.goblin_pe_import.specs.ImportEntries.{EntryValue}
-use Rattle.goblin_base.specs.Tables.{Format}
-use Rattle.goblin_base.specs.declared.error.ErrorOf.{ErrorOf}
+use Rattle.goblin_pe_import.specs.{ImportEntries.EntryValue, added.ImportWalks.no_imports}
+use Rattle.goblin_pe_import.specs.declared.added.library_walk.WalkedLibrary.{WalkedLibrary}
+use Rattle.goblin_base.specs.{Tables.Format, declared.error.ErrorOf.ErrorOf}
 use Rattle.goblin_pe_sect.specs.Addresses.{MapOfAddresses}
-use Rattle.goblin_pe_import.specs.added.ImportWalks.{no_imports}
 use Rattle.goblin_pe_import.specs.added.Libraries.{AreLibrariesOver, GivesNextLibrary, LibraryValue, after_library, cursor_libraries, libraries_bytes, libraries_cursor, libraries_format, libraries_left, libraries_map, libraries_next, library_value}
 use Rattle.goblin_pe.specs.Whole.{TablePlaces, entry_format}
-use Rattle.goblin_pe_c_tables.specs.declared.next.PeImportCursor.{PeImportCursor}
-use Rattle.goblin_pe_c_tables.specs.Batches.{cursor_for_c}
+use Rattle.goblin_pe_c_tables.specs.Batches.{PeImportCursor, cursor_for_c}
 use Rattle.goblin_pe_c_tables.specs.Libraries.{GivesLibraries, library_for_c, library_table, library_model, position_after}
 use Rattle.goblin_pe_c_headers.specs.Onward.{TellsEnd, values_before}
-use Rattle.goblin_pe_import.specs.declared.added.library_walk.WalkedLibrary.{WalkedLibrary}
 use Rattle.goblin_pe_c_tables.specs.declared.library.PeLibrary.{PeLibrary}
 use Rattle.goblin_pe_c_headers.proofs.Batches.{AtItems, items-end, items-full, items-gives, items-more, items-refused, items-start, items-taken, items-then, done-end, done-full, done-refused}
 use Rattle.goblin_pe_c_tables.proofs.ImportBatches.{cursor-from_for}

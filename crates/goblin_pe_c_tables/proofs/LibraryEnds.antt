@@ -1,8 +1,7 @@
 -- The imports of a library, from the cursor of its row on.
 use Rattle.std.proofs.Common.{◌≡◌, ◌∙◌, ℕ, Bool, true, false, ◌&&◌, ◌||◌, ◌==◌, not, is_none, List, [], Option, None, Some, IsSome, ap, append-nil, refl, sym, unwrap_or}
 use Rattle.goblin_base.specs.Tables.{Format}
-use Rattle.readings.specs.Reads.{in_its_place}
-use Rattle.readings.specs.Walks.{refusal_of, until_refused}
+use Rattle.readings.specs.{Reads.in_its_place, Walks.refusal_of, Walks.until_refused}
 use Rattle.goblin_pe_sect.specs.AddressReadings.{name_at}
 use Rattle.goblin_pe_sect.specs.Addresses.{MapOfAddresses, reads_strictly}
 use Rattle.goblin_pe_import.specs.ImportEntries.{EntryValue}
@@ -14,8 +13,7 @@ use Rattle.goblin_pe_import.specs.added.Libraries.{LibraryValue, inside_library,
 use Rattle.goblin_pe_import.specs.declared.import.directory_entry.ImportDirectoryEntry.{ImportDirectoryEntry}
 use Rattle.goblin_pe_import.specs.declared.added.imports.ImportCursor.{ImportCursor}
 use Rattle.goblin_pe_import.proofs.added.LeftOutLibraries.{library_left_out}
-use Rattle.goblin_pe.specs.added.Layouts.{file_cursor_left}
-use Rattle.goblin_pe.specs.Whole.{TablePlaces, entry_format}
+use Rattle.goblin_pe.specs.{added.Layouts.file_cursor_left, Whole.TablePlaces, Whole.entry_format}
 use Rattle.goblin_pe_c_tables.specs.Libraries.{LibrariesEnd}
 use Rattle.goblin_pe_c_tables.proofs.ImportBatches.{cursor-from_for}
 

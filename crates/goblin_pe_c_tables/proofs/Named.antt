@@ -1,14 +1,11 @@
 -- The sections of an image that was read have their names from its string table.
 use Rattle.std.proofs.Common.{◌≡◌, List, ap, refl, subst, None}
 use Rattle.goblin_base.proofs.Steps.{mapped, step}
-use Rattle.goblin_pe_sect.specs.Options.{is_strict}
-use Rattle.goblin_pe_sect.specs.SectionTable.{Section}
-use Rattle.goblin_pe_head.specs.CoffReadings.{sections_at}
-use Rattle.goblin_pe_head.specs.HeaderReadings.{pe_header}
+use Rattle.goblin_pe_sect.specs.{Options.is_strict, SectionTable.Section}
+use Rattle.goblin_pe_head.specs.{CoffReadings.sections_at, HeaderReadings.pe_header}
 use Rattle.goblin_pe_head.specs.PeHeader.{PeHeader}
 use Rattle.goblin_pe.specs.Whole.{layout, sections_after}
-use Rattle.goblin_pe_c_headers.specs.declared.image.PeImage.{PeImage}
-use Rattle.goblin_pe_c_headers.specs.Options.{header_options}
+use Rattle.goblin_pe_c_headers.specs.{declared.image.PeImage.PeImage, Options.header_options}
 use Rattle.goblin_pe_c_headers.specs.Sections.{RowsHold}
 use Rattle.goblin_pe_c_headers.proofs.Named.{rows_hold, unmoved}
 use Rattle.goblin_pe_c_tables.specs.ReadImages.{ImageRowsAreRead, image_of}

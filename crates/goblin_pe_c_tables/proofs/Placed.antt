@@ -1,37 +1,28 @@
 -- The places of a header lead back to the sections after it and to its tables.
 use Rattle.std.proofs.Common.{◌≡◌, ◌∙◌, ℕ, zero, suc, ◌-◌, ◌*◌, ◌/◌, Bool, false, List, [], Option, None, Some, Result, Ok, Err, ap, arith, length, map, refl, sym, ◌==◌, option_map, unwrap_or, ne_eqb, min}
-use Rattle.goblin_base.specs.declared.error.ErrorOf.{ErrorOf}
-use Rattle.goblin_base.specs.Bytes.{slice_at}
-use Rattle.goblin_base.specs.Reading.{Reads}
+use Rattle.goblin_base.specs.{declared.error.ErrorOf.ErrorOf, Bytes.slice_at, Reading.Reads}
 use Rattle.goblin_base.specs.declared.endian.Endian.TheVariants.{Little}
-use Rattle.goblin_base.proofs.Numbers.{slice_at-some}
-use Rattle.goblin_base.proofs.RecordItems.{length-records_in}
-use Rattle.goblin_base.proofs.RecordRoundTrip.{length-slice}
-use Rattle.goblin_base.proofs.Steps.{mapped, same_value}
+use Rattle.goblin_base.proofs.{Numbers.slice_at-some, RecordItems.length-records_in}
+use Rattle.goblin_base.proofs.{RecordRoundTrip.length-slice, Steps.mapped, Steps.same_value}
 use Rattle.goblin_pe_sect.specs.declared.section_table.records.SectionRecords.{SectionRecords}
+use Rattle.goblin_pe_sect.specs.{Options.front_of, Addresses.with_longest}
 use Rattle.goblin_pe_sect.specs.SectionTable.{Section, recorded_sections, section_record, sections_in, unnamed}
 use Rattle.goblin_pe_sect.proofs.added.UnnamedMaps.{unnamed_map_in}
-use Rattle.goblin_pe_head.specs.CoffHeader.{symbols_end}
-use Rattle.goblin_pe_head.specs.CoffReadings.{sections_at}
+use Rattle.goblin_pe_head.specs.{CoffHeader.symbols_end, CoffReadings.sections_at}
 use Rattle.goblin_pe_head.specs.declared.added.parts.HeaderParts.{HeaderParts}
 use Rattle.goblin_pe_head.specs.HeaderReadings.{pe_header}
-use Rattle.goblin_pe_head.specs.PeHeader.{PeHeader}
+use Rattle.goblin_pe_head.specs.declared.optional_header.OptionalHeader.{OptionalHeader}
+use Rattle.goblin_pe_head.specs.declared.header.coff.CoffHeader.{CoffHeader}
+use Rattle.goblin_pe_head.specs.PeHeader.{PeHeader, zero_coff_header}
 use Rattle.goblin_pe_c_headers.proofs.PlacedSections.{placed, whole}
 use Rattle.goblin_pe.specs.Whole.{places_in, section_table_offset, sections_after, size_of_headers}
-use Rattle.goblin_pe_sect.specs.Options.{front_of}
 use Rattle.goblin_pe_c_headers.specs.Options.{longest_of, options_at, view_of}
-use Rattle.goblin_pe_sect.specs.Addresses.{with_longest}
 use Rattle.std.specs.Option.{is_some}
-use Rattle.goblin_pe_head.specs.declared.optional_header.OptionalHeader.{OptionalHeader}
 use Rattle.goblin_pe_c_headers.specs.declared.image.PeImage.{PeImage}
-use Rattle.goblin_pe_c_headers.specs.declared.places.PePlaces.{PePlaces}
-use Rattle.goblin_pe_c_headers.specs.Headers.{optional_record}
+use Rattle.goblin_pe_c_headers.specs.{declared.places.PePlaces.PePlaces, Headers.optional_record}
 use Rattle.goblin_pe_c_headers.specs.Places.{number_if}
-use Rattle.goblin_pe_c_tables.specs.Places.{LeadsBack}
-use Rattle.goblin_pe_c_tables.specs.ReadImages.{ImageLeadsBack}
-use Rattle.goblin_pe_head.specs.PeHeader.{zero_coff_header}
+use Rattle.goblin_pe_c_tables.specs.{Places.LeadsBack, ReadImages.ImageLeadsBack}
 use Rattle.goblin_pe_c_tables.specs.PartialImages.{AreOfLayout, given_count, given_or, given_sections, sections_of}
-use Rattle.goblin_pe_head.specs.declared.header.coff.CoffHeader.{CoffHeader}
 use Rattle.goblin_pe_head.specs.added.HeaderParts.{ArePartsOf, coff_part, placed_coff, sections_part, sections_there, table_after, whole_sections}
 use Rattle.goblin_pe_head.proofs.added.WholeParts.{whole_placed}
 

@@ -1,15 +1,12 @@
 -- Both modes walk alike over an image without damage.
 use Rattle.std.proofs.Common.{◌≡◌, ◌∙◌, ◌<◌, ◌^◌, ℕ, true, List, Option, None, Some, IsSomeAnd, ap, arith, min, subst, eqb-true}
-use Rattle.std.proofs.Math.Nat.{min-eq_left}
-use Rattle.std.proofs.lemmas.Bool.{and_parts}
+use Rattle.std.proofs.{Math.Nat.min-eq_left, lemmas.Bool.and_parts}
 use Rattle.goblin_base.proofs.Steps.{mapped, step}
 use Rattle.goblin_pe_sect.specs.Addresses.{MapOfAddresses, with_longest}
-use Rattle.goblin_pe_sect.specs.Options.{is_strict}
-use Rattle.goblin_pe_sect.specs.SectionTable.{Section}
-use Rattle.goblin_pe_head.specs.CoffHeader.{symbols_end}
-use Rattle.goblin_pe_head.specs.CoffReadings.{sections_at}
-use Rattle.goblin_pe_head.specs.HeaderReadings.{pe_header, stub_at}
+use Rattle.goblin_pe_sect.specs.{Options.is_strict, SectionTable.Section}
+use Rattle.goblin_pe_head.specs.{CoffHeader.symbols_end, CoffReadings.sections_at}
 use Rattle.goblin_pe_head.specs.PeHeader.{PeHeader}
+use Rattle.goblin_pe_head.specs.HeaderReadings.{pe_header, stub_at}
 use Rattle.goblin_pe.specs.added.Damages.{IsDamage, IsDamaged, IsSound, left_out_of}
 use Rattle.goblin_pe.specs.Whole.{TablePlaces, layout, places_in, section_table_offset, sections_after}
 use Rattle.goblin_pe.specs.declared.added.damage.Damage.{Damage}

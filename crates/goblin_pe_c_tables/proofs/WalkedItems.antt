@@ -1,27 +1,21 @@
 -- What is read of a whole file is what walks over its tables give.
 use Rattle.std.proofs.Common.{◌≡◌, ◌∙◌, ℕ, ◌<◌, ◌≤◌, ◌^◌, ◌==◌, Bool, true, false, cond, List, [], ◌∷◌, flat_map, length, Option, None, Some, option_map, IsSome, IsSomeAnd, IfSome, ap, refl, subst, sym, lit≤}
-use Rattle.goblin_base.specs.Answers.{all_of}
-use Rattle.goblin_base.specs.Bytes.{IsBytes}
-use Rattle.goblin_base.specs.Tables.{Format}
+use Rattle.goblin_base.specs.{Answers.all_of, Bytes.IsBytes, Tables.Format}
 use Rattle.goblin_base.proofs.Steps.{mapped, same_value, step}
 use Rattle.readings.specs.Reads.{given, or_else, pair_of, pick}
-use Rattle.goblin_pe_sect.specs.AddressReadings.{offset_at}
-use Rattle.goblin_pe_sect.specs.Addresses.{MapOfAddresses, reads_strictly, with_longest}
-use Rattle.goblin_pe_sect.specs.Options.{is_strict}
-use Rattle.goblin_pe_sect.specs.SectionTable.{Section}
+use Rattle.goblin_pe_sect.specs.{AddressReadings.offset_at, Options.is_strict, SectionTable.Section}
 use Rattle.goblin_pe_sect.specs.declared.data_directories.DataDirectory.{DataDirectory}
-use Rattle.goblin_pe_head.specs.HeaderReadings.{pe_header}
-use Rattle.goblin_pe_head.specs.PeHeader.{PeHeader}
+use Rattle.goblin_pe_sect.specs.Addresses.{MapOfAddresses, reads_strictly, with_longest}
+use Rattle.goblin_pe_head.specs.{HeaderReadings.pe_header, PeHeader.PeHeader}
 use Rattle.goblin_pe_head.specs.declared.optional_header.OptionalHeader.{OptionalHeader}
 use Rattle.goblin_pe_import.specs.added.ImportCursors.{before_first, before_record, first_import}
-use Rattle.goblin_pe_import.specs.ImportEntries.{EntryValue}
-use Rattle.goblin_pe_import.specs.ImportLookup.{entries_32, entries_64}
-use Rattle.goblin_pe_import.specs.ImportReadings.{first_record_offset, numbered_data, numbered_libraries_at, read_if, read_past_front}
-use Rattle.goblin_pe_import.specs.ImportRecords.{NumberedLibrary}
-use Rattle.goblin_pe_import.specs.Imports.{NumberedImport, numbered_imports}
-use Rattle.goblin_pe_import.specs.added.ImportWalks.{cursor_left, imports_next, no_imports}
+use Rattle.goblin_pe_import.specs.{ImportEntries.EntryValue, ImportRecords.NumberedLibrary}
 use Rattle.goblin_pe_import.specs.KeptEntries.{entries_from}
 use Rattle.goblin_pe_import.specs.declared.added.imports.ImportCursor.{ImportCursor}
+use Rattle.goblin_pe_import.specs.ImportLookup.{entries_32, entries_64}
+use Rattle.goblin_pe_import.specs.ImportReadings.{first_record_offset, numbered_data, numbered_libraries_at, read_if, read_past_front}
+use Rattle.goblin_pe_import.specs.Imports.{NumberedImport, numbered_imports}
+use Rattle.goblin_pe_import.specs.added.ImportWalks.{cursor_left, imports_next, no_imports}
 use Rattle.goblin_pe_import.proofs.added.ImportsValue.{imports-value}
 use Rattle.goblin_pe_import.proofs.added.ImportsWalk.{imports-once}
 use Rattle.goblin_pe_export.specs.added.ExportAddresses.{export_addresses, without_names}
@@ -36,15 +30,13 @@ use Rattle.goblin_pe.specs.declared.whole.Part.{Part}
 use Rattle.goblin_pe.specs.declared.whole.Part.TheVariants.{Absent, Refused}
 use Rattle.goblin_pe.specs.declared.whole.Part.TheVariants as part
 use Rattle.goblin_pe.proofs.added.WalkedParts.{numbered-there}
-use Rattle.goblin_pe_c_headers.specs.Onward.{unrefused}
-use Rattle.goblin_pe_c_headers.specs.Options.{alignment_by, alignment_in, header_options, longest_of, options_at, options_in, view_of}
-use Rattle.goblin_pe_c_headers.specs.declared.options.PeOptions.{PeOptions}
-use Rattle.goblin_pe_c_tables.specs.Batches.{exports_in, import_table}
-use Rattle.goblin_pe_c_tables.specs.Places.{file_map_of, map_at, places_record, places_from_c}
+use Rattle.goblin_pe_c_headers.specs.{Onward.unrefused, declared.options.PeOptions.PeOptions}
 use Rattle.goblin_pe_c_headers.specs.Places.{placed_sections}
+use Rattle.goblin_pe_c_headers.specs.Options.{alignment_by, alignment_in, header_options, longest_of, options_at, options_in, view_of}
+use Rattle.goblin_pe_c_tables.specs.Batches.{exports_in, import_table, PeImportCursor}
+use Rattle.goblin_pe_c_tables.specs.Places.{file_map_of, map_at, places_record, places_from_c}
 use Rattle.goblin_pe_c_headers.proofs.Named.{some-weaker}
 use Rattle.goblin_pe_c_tables.specs.Walked.{AreItems, AreWalked, WalksGive, items_in, walked_of}
-use Rattle.goblin_pe_c_tables.specs.declared.next.PeImportCursor.{PeImportCursor}
 use Rattle.goblin_pe_c_tables.proofs.Placed.{leads_back}
 
 -- ---- items

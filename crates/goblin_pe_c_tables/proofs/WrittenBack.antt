@@ -1,26 +1,20 @@
 -- A header that strict mode read is written back from its record.
 use Rattle.std.proofs.Common.{◌≡◌, ◌∙◌, ◌++◌, ◌+◌, ◌-◌, ◌≤◌, ◌==◌, ◌&&◌, ℕ, zero, suc, true, false, length, List, [], ◌∷◌, map, drop, refl, sym, ap, arith, rules, tests, Option, Some, None, nat_le, nat_lt, slice_range, leb-true, length-drop, length-take, ne_eqb}
-use Rattle.std.proofs.lemmas.List.{nil_from_length}
-use Rattle.std.proofs.lemmas.Bool.{and_parts}
-use Rattle.std.proofs.lemmas.Option.{cond_some}
+use Rattle.std.proofs.{lemmas.List.nil_from_length, lemmas.Bool.and_parts, lemmas.Option.cond_some}
 use Rattle.std.specs.Option.{is_some}
-use Rattle.goblin_base.specs.declared.endian.Endian.TheVariants.{Little}
-use Rattle.goblin_base.specs.Parts.{bytes_between}
+use Rattle.goblin_base.specs.{declared.endian.Endian.TheVariants.Little, Parts.bytes_between}
 use Rattle.goblin_base.specs.Record.{FieldValue}
-use Rattle.goblin_base.proofs.Numbers.{slice_at-inside}
-use Rattle.goblin_base.proofs.Steps.{same_value}
+use Rattle.goblin_base.proofs.{Numbers.slice_at-inside, Steps.same_value}
 use Rattle.readings.specs.Reads.{given, pick, slice_at}
 use Rattle.goblin_pe_sect.specs.declared.data_directories.DataDirectory.{DataDirectory}
 use Rattle.goblin_pe_sect.specs.DataDirectories.{directory_fields, directory_or_zeros, entries_fields}
 use Rattle.goblin_pe_head.specs.declared.optional_header.OptionalHeader.{OptionalHeader}
-use Rattle.goblin_pe_head.specs.HeaderLaws.{HeaderWritesBack}
-use Rattle.goblin_pe_head.specs.HeaderReadings.{pe_header}
-use Rattle.goblin_pe_head.specs.PeHeader.{PeHeader, header_bytes, header_parts, written_part}
+use Rattle.goblin_pe_head.specs.{HeaderLaws.HeaderWritesBack, HeaderReadings.pe_header}
 use Rattle.goblin_pe_head.specs.OptionalHeader.{optional_bytes}
+use Rattle.goblin_pe_head.specs.PeHeader.{PeHeader, header_bytes, header_parts, written_part}
 use Rattle.goblin_pe_head.proofs.PeHeaderRoundTrip.{dos_of, header_back, parts_of, strict_stub}
 use Rattle.goblin_pe.specs.Whole.{places_in}
-use Rattle.goblin_pe_c_headers.specs.declared.image.PeImage.{PeImage}
-use Rattle.goblin_pe_c_headers.specs.Headers.{optional_record}
+use Rattle.goblin_pe_c_headers.specs.{declared.image.PeImage.PeImage, Headers.optional_record}
 use Rattle.goblin_pe_c_headers.specs.Written.{entry_from_c, header_from_c, image_stub, optional_from_c}
 use Rattle.goblin_pe_c_tables.specs.ReadImages.{ImageWritesBack, image_of}
 

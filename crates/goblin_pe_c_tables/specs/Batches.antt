@@ -3,45 +3,40 @@ use Rattle.std.specs.Prelude.{◌≡◌, ℕ, ◌≤◌, true, List, [], ◌∷�
 use Rattle.std.specs.Prelude.{not, ◌+◌, ◌++◌, take, length, max, Option, Some, None, Bool, is_some}
 use Rattle.std.specs.Prelude.{option_map, Result, Ok, Err, IsSomeAnd, sum_by, unwrap_or}
 use Rattle.std.specs.Bool.{then_some}
-use Rattle.goblin_base.specs.declared.error.ErrorOf.{ErrorOf}
-use Rattle.goblin_base.specs.Answers.{FirstFault, IsMemory}
+use Rattle.goblin_base.specs.{declared.error.ErrorOf.ErrorOf, Answers.FirstFault, Answers.IsMemory}
 use Rattle.goblin_base.specs.Reading.{IsRefused, Reading}
 use Rattle.goblin_pe_sect.specs.BaseRelocations.{Block, block_at, block_items}
 use Rattle.goblin_pe_import.specs.ImportLookup.{entries_32, entries_64}
 use Rattle.goblin_pe_import.specs.declared.added.imports.ImportCursor.{ImportCursor}
+use Rattle.goblin_pe_import.specs.{Imports.NumberedImport, TableSums.amount_of}
+use Rattle.goblin_pe_import.specs.added.StepsAhead.{AtSteps}
 use Rattle.goblin_pe_sect.specs.Addresses.{MapOfAddresses, Addressing}
 use Rattle.goblin_pe_export.specs.ExportRecords.{ExportTables}
 use Rattle.goblin_pe_export.specs.added.ExportWalks.{NumberedExport, numbered_from}
-use Rattle.goblin_pe_import.specs.Imports.{NumberedImport}
 use Rattle.goblin_pe.specs.added.Layouts.{IsFileCursorCause, IsImportWalk, file_cursor_left}
 use Rattle.goblin_pe.specs.added.Layouts.{file_ahead, file_cursor_ahead, import_begin}
-use Rattle.goblin_pe_import.specs.TableSums.{amount_of}
 use Rattle.readings.specs.Reads.{given, pick}
 use Rattle.goblin_pe.specs.added.Layouts.{address_part, file_imports_left}
-use Rattle.goblin_pe_import.specs.added.StepsAhead.{AtSteps}
 use Rattle.goblin_pe.specs.Whole.{TablePlaces, directory_offset, export_part, relocation_part}
 use Rattle.goblin_pe.specs.declared.whole.Part.{Part}
 use Rattle.goblin_pe.specs.declared.whole.Part.TheVariants as part
 use Rattle.goblin_pe.specs.declared.added.file_imports.FileImports.{FileImports}
 use Rattle.goblin_pe.specs.declared.added.file_imports.FileImports.TheVariants.{Narrow, Wide}
 use Rattle.goblin_pe_c_tables.specs.declared.block.PeRelocationBlock.{PeRelocationBlock}
-use Rattle.goblin_pe_c_tables.specs.declared.export.PeExport.{PeExport}
-use Rattle.goblin_pe_c_tables.specs.declared.export_directory.PeExportAddress.{PeExportAddress}
-use Rattle.goblin_pe_c_tables.specs.declared.import.PeImport.{PeImport}
-use Rattle.goblin_pe_c_tables.specs.declared.next.PeImportCursor.{PeImportCursor}
+use Rattle.goblin_pe_c_tables.specs.Exports.{PeExport, ExportModel, export_for_c, export_model}
+use Rattle.goblin_pe_c_tables.specs.ExportDirectories.{PeExportAddress}
+use Rattle.goblin_pe_c_tables.specs.Imports.{PeImport}
+pub use Rattle.goblin_pe_c_tables.specs.declared.next.PeImportCursor.{PeImportCursor}
 use Rattle.goblin_pe_c_tables.specs.ExportDirectories.{DirectoryModel, addresses_for_c}
 use Rattle.goblin_pe_c_tables.specs.ExportDirectories.{directory_for_c, no_export_directory}
-use Rattle.goblin_pe_c_tables.specs.Exports.{ExportModel, export_for_c, export_model}
 use Rattle.goblin_pe_c_tables.specs.Imports.{GivesHere, ImportModel, import_for_c, import_model}
 use Rattle.goblin_pe_c_tables.specs.Places.{TakesIndexAt, map_at, places_from_c}
 use Rattle.goblin_pe_c_headers.specs.Places.{placed_sections, image_places}
-use Rattle.goblin_pe_c_headers.specs.Items.{without_causes}
+use Rattle.goblin_pe_c_headers.specs.{Items.without_causes, declared.batch.PeBatch.PeBatch}
+use Rattle.goblin_pe_c_headers.specs.declared.fault.PeFault.{PeFault}
+use Rattle.goblin_pe_c_headers.specs.{declared.image.PeImage.PeImage, Calls.ReportedAfter}
 use Rattle.goblin_pe_c_headers.specs.Onward.{AtBatch, Batch, FillsNext, GivesOnward}
 use Rattle.goblin_pe_c_headers.specs.Onward.{IsNextFault, Table, no_batch, unrefused, values_before}
-use Rattle.goblin_pe_c_headers.specs.declared.batch.PeBatch.{PeBatch}
-use Rattle.goblin_pe_c_headers.specs.declared.fault.PeFault.{PeFault}
-use Rattle.goblin_pe_c_headers.specs.declared.image.PeImage.{PeImage}
-use Rattle.goblin_pe_c_headers.specs.Calls.{ReportedAfter}
 
 -- what is said of a batch of a file, as its caller passes it and as it is filled, and of the answer
 abbrev pub SaysBatch : Type 0 → Type 0 → Type 1

@@ -2,29 +2,23 @@
 use Rattle.std.specs.Prelude.{◌≡◌, ◌≢◌, ◌≤◌, ◌⊎◌, ℕ, ◌+◌, ◌-◌, ◌==◌, ◌&&◌, Bool, true, false, List}
 use Rattle.std.specs.Prelude.{[], ◌∷◌, length, min, Option, None, Some, is_none, Result, Ok, Err}
 use Rattle.std.specs.Prelude.{IsSomeAnd}
-use Rattle.goblin_base.specs.Answers.{IsMemory}
+use Rattle.goblin_base.specs.{Answers.IsMemory, declared.error.ErrorOf.ErrorOf}
 use Rattle.goblin_base.specs.Reading.{IsRefused, Reading}
-use Rattle.goblin_base.specs.declared.error.ErrorOf.{ErrorOf}
-use Rattle.goblin_pe_sect.specs.Addresses.{MapOfAddresses}
-use Rattle.goblin_pe_sect.specs.SectionTable.{Section}
-use Rattle.goblin_pe_head.specs.CoffHeader.{symbols_end}
-use Rattle.goblin_pe_head.specs.HeaderReadings.{stub_at}
+use Rattle.goblin_pe_sect.specs.{Addresses.MapOfAddresses, SectionTable.Section}
+use Rattle.goblin_pe_head.specs.{CoffHeader.symbols_end, HeaderReadings.stub_at}
 use Rattle.goblin_pe_head.specs.CoffReadings.{sections_at}
-use Rattle.goblin_pe_import.specs.added.ImportCursors.{before_record}
-use Rattle.goblin_pe_import.specs.TableSums.{amount_of}
+use Rattle.goblin_pe_import.specs.{added.ImportCursors.before_record, TableSums.amount_of}
 use Rattle.goblin_pe_import.specs.added.StepsAhead.{AtSteps}
 use Rattle.goblin_pe.specs.added.Damages.{AreDamaged, IsDamage, exports_left_out}
-use Rattle.goblin_pe.specs.added.Layouts.{file_cursor_ahead}
+use Rattle.goblin_pe.specs.{added.Layouts.file_cursor_ahead, declared.added.damage.Damage.Damage}
 use Rattle.goblin_pe.specs.Whole.{TablePlaces, directory_offset, export_part}
-use Rattle.goblin_pe.specs.declared.added.damage.Damage.{Damage}
 use Rattle.goblin_pe_c_headers.specs.Faults.{fault, fault_of, image_fault, no_fault}
 use Rattle.goblin_pe_c_headers.specs.Places.{image_places, placed_sections}
 use Rattle.goblin_pe_c_headers.specs.declared.fault.PeFault.{PeFault}
 use Rattle.goblin_pe_c_headers.specs.declared.image.PeImage.{PeImage}
-use Rattle.goblin_pe_c_tables.specs.Batches.{pointers_in}
+use Rattle.goblin_pe_c_tables.specs.{Batches.pointers_in, declared.damage.PeDamage.PeDamage}
 use Rattle.goblin_pe_c_tables.specs.Places.{TakesIndexAt, map_at, places_from_c}
 use Rattle.goblin_pe_c_tables.specs.Steps.{or_fault, section_steps, steps_fault}
-use Rattle.goblin_pe_c_tables.specs.declared.damage.PeDamage.{PeDamage}
 
 -- ---- the record
 

@@ -8,7 +8,7 @@ use Rattle.goblin_pe_export.specs.declared.export.tables.ExportAddressTableEntry
 use Rattle.goblin_pe_export.specs.declared.export.tables.ExportDirectoryTable.{ExportDirectoryTable}
 use Rattle.goblin_pe_export.specs.ExportRecords.{ExportTables, export_directory_record, rva_of}
 use Rattle.goblin_pe_sect.specs.Addresses.{Addressing}
-use Rattle.goblin_pe_c_tables.specs.declared.export_directory.PeExportAddress.{PeExportAddress}
+pub use Rattle.goblin_pe_c_tables.specs.declared.export_directory.PeExportAddress.{PeExportAddress}
 use Rattle.goblin_pe_c_tables.specs.declared.export_directory.PeExportDirectory.{PeExportDirectory}
 
 abbrev pub is_forwarder : ExportAddressTableEntry → Bool

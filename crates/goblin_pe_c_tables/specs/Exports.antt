@@ -3,13 +3,11 @@ use Rattle.std.specs.Prelude.{ℕ, Bool, List, [], ◌∷◌, Option, Some, None
 use Rattle.goblin_base.specs.Reading.{Reading}
 use Rattle.goblin_pe_sect.specs.AddressReadings.{at_address}
 use Rattle.goblin_pe_export.specs.added.ExportWalks.{NumberedExport}
-use Rattle.goblin_pe_c_headers.specs.Addresses.{image_map}
-use Rattle.goblin_pe_c_headers.specs.Options.{longest_of}
-use Rattle.goblin_pe_c_headers.specs.Places.{image_places}
+use Rattle.goblin_pe_c_headers.specs.{Addresses.image_map, Options.longest_of, Places.image_places}
 use Rattle.goblin_pe_c_headers.specs.declared.image.PeImage.{PeImage}
 use Rattle.goblin_pe_export.specs.Forwarders.{Forwarder, forwarder_within}
 use Rattle.goblin_pe_export.specs.Forwarders.Forwarder.{ByName, ByOrdinal}
-use Rattle.goblin_pe_c_tables.specs.declared.export.PeExport.{PeExport}
+pub use Rattle.goblin_pe_c_tables.specs.declared.export.PeExport.{PeExport}
 use Rattle.goblin_pe_c_tables.specs.declared.forwarder.PeForwarder.{PeForwarder}
 
 -- a record of a forwarder, its slices as lists

@@ -1,15 +1,12 @@
 -- The records of imports, as definitions.
 use Rattle.std.specs.Prelude.{◌≡◌, ℕ, Bool, List, [], ◌++◌, Some, if◌then◌else◌}
 use Rattle.std.specs.Prelude.{◌+◌, ◌==◌, length, map, not}
-use Rattle.goblin_base.specs.declared.error.ErrorOf.{ErrorOf}
-use Rattle.goblin_base.specs.Tables.{Format}
-use Rattle.goblin_pe_import.specs.ImportEntries.{EntryValue}
+use Rattle.goblin_base.specs.{declared.error.ErrorOf.ErrorOf, Tables.Format}
+use Rattle.goblin_pe_import.specs.{ImportEntries.EntryValue, added.StepsAhead.imports_ahead}
+use Rattle.goblin_pe_import.specs.{declared.added.imports.Imports.Imports, Imports.NumberedImport}
 use Rattle.goblin_pe_import.specs.added.ImportWalks.{AreImportsOver, HasName, IsImportsCause}
 use Rattle.goblin_pe_import.specs.added.ImportWalks.{imports_bytes, imports_left, imports_map}
-use Rattle.goblin_pe_import.specs.added.StepsAhead.{imports_ahead}
-use Rattle.goblin_pe_import.specs.declared.added.imports.Imports.{Imports}
-use Rattle.goblin_pe_import.specs.Imports.{NumberedImport}
-use Rattle.goblin_pe_c_tables.specs.declared.import.PeImport.{PeImport}
+pub use Rattle.goblin_pe_c_tables.specs.declared.import.PeImport.{PeImport}
 
 -- a record of an import, its slices as lists
 pub record ImportModel : Type 0 where

@@ -10,12 +10,10 @@ use Rattle.goblin_pe_import.specs.added.Libraries.{IsCursorEndCause, LibraryValu
 use Rattle.goblin_pe_import.specs.added.Libraries.{cursor_libraries, inside_library, library_at}
 use Rattle.goblin_pe.specs.Whole.{TablePlaces, entry_format}
 use Rattle.goblin_pe_c_tables.specs.declared.library.PeLibrary.{PeLibrary}
-use Rattle.goblin_pe_c_tables.specs.declared.next.PeImportCursor.{PeImportCursor}
-use Rattle.goblin_pe_c_tables.specs.Batches.{SaysBatch, SaysRefused, cursor_for_c, import_cursor}
-use Rattle.goblin_pe_c_tables.specs.Batches.{import_table}
+use Rattle.goblin_pe_c_tables.specs.Batches.{PeImportCursor, SaysBatch, SaysRefused, cursor_for_c}
+use Rattle.goblin_pe_c_tables.specs.Batches.{import_cursor, import_table}
 use Rattle.goblin_pe_c_headers.specs.Onward.{FillsNext, IsNextFault, Table, values_before}
-use Rattle.goblin_pe_c_headers.specs.Faults.{status_of}
-use Rattle.goblin_pe_c_headers.specs.declared.fault.PeFault.{PeFault}
+use Rattle.goblin_pe_c_headers.specs.{Faults.status_of, declared.fault.PeFault.PeFault}
 
 -- a record of a library, its slice as a list
 pub record LibraryModel : Type 0 where

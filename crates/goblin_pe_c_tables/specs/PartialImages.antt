@@ -12,25 +12,21 @@ use Rattle.goblin_pe_sect.specs.SectionTable.{Section, recorded_sections, unname
 use Rattle.goblin_pe_head.specs.declared.header.coff.CoffHeader.{CoffHeader}
 use Rattle.goblin_pe_head.specs.declared.added.parts.HeaderParts.{HeaderParts}
 use Rattle.goblin_pe_head.specs.declared.header.rich.RichHeader.{RichHeader}
-use Rattle.goblin_pe_head.specs.declared.header.stub.DosStub.{DosStub}
-use Rattle.goblin_pe_head.specs.CoffHeader.{symbols_end}
-use Rattle.goblin_pe_head.specs.CoffReadings.{sections_at}
+use Rattle.goblin_pe_head.specs.{declared.header.stub.DosStub.DosStub, CoffHeader.symbols_end}
+use Rattle.goblin_pe_head.specs.{CoffReadings.sections_at, RichHeader.rich_value}
 use Rattle.goblin_pe_head.specs.DosStub.{default_stub, stub_bytes}
 use Rattle.goblin_pe_head.specs.added.HeaderParts.{AreOfWhole, ArePartsOf, known_optional}
 use Rattle.goblin_pe_head.specs.added.HeaderParts.{unnamed_sections}
 use Rattle.goblin_pe_head.specs.HeaderReadings.{dos_header, pe_header, rich_header, stub_at}
 use Rattle.goblin_pe_head.specs.PeHeader.{PeHeader, zero_coff_header, zero_dos_header}
-use Rattle.goblin_pe_head.specs.RichHeader.{rich_value}
 use Rattle.goblin_pe.specs.Whole.{layout, places_in, sections_after}
 use Rattle.goblin_pe_c_headers.specs.declared.fault.PeFault.{PeFault}
 use Rattle.goblin_pe_c_headers.specs.declared.image.PeImage.{PeImage}
-use Rattle.goblin_pe_c_headers.specs.declared.options.PeOptions.{PeOptions}
+use Rattle.goblin_pe_c_headers.specs.{declared.options.PeOptions.PeOptions, Headers.optional_record}
+use Rattle.goblin_pe_c_headers.specs.{Options.header_options, RichHeaders.rich_of}
 use Rattle.goblin_pe_c_headers.specs.Faults.{fault_of, status_of}
-use Rattle.goblin_pe_c_headers.specs.Headers.{optional_record}
 use Rattle.goblin_pe_c_headers.specs.ImageRecords.{IsImage, zero_image}
-use Rattle.goblin_pe_c_headers.specs.Options.{header_options}
 use Rattle.goblin_pe_c_headers.specs.Places.{image_places, placed_sections}
-use Rattle.goblin_pe_c_headers.specs.RichHeaders.{rich_of}
 use Rattle.goblin_pe_c_tables.specs.declared.partial.PeHeaderFaults.{PeHeaderFaults}
 
 -- ---- the parts

@@ -1,15 +1,13 @@
 -- Where the sections and the tables of a file lie, as the record that a caller keeps.
 use Rattle.std.specs.Prelude.{◌≡◌, ℕ, Bool, List, length, Some, IsSomeAnd}
 use Rattle.goblin_pe_sect.specs.Addresses.{AreMany, MapOfAddresses, map_in, with_longest}
-use Rattle.goblin_pe_sect.specs.Options.{front_of}
-use Rattle.goblin_pe_sect.specs.SectionTable.{Section}
+use Rattle.goblin_pe_sect.specs.{Options.front_of, SectionTable.Section}
 use Rattle.goblin_pe_head.specs.PeHeader.{PeHeader}
 use Rattle.goblin_pe.specs.Whole.{TablePlaces, mapped_in, places_in}
 use Rattle.goblin_pe.specs.Whole.{section_table_offset, sections_after, size_of_headers}
 use Rattle.goblin_pe_c_headers.specs.declared.options.PeOptions.{PeOptions}
-use Rattle.goblin_pe_c_headers.specs.declared.places.PePlaces.{PePlaces}
+use Rattle.goblin_pe_c_headers.specs.{declared.places.PePlaces.PePlaces, Places.placed_sections}
 use Rattle.goblin_pe_c_headers.specs.Options.{longest_of, options_at, view_of}
-use Rattle.goblin_pe_c_headers.specs.Places.{placed_sections}
 
 -- ---- the record of a header
 

@@ -2,21 +2,16 @@
 use Rattle.std.specs.Prelude.{◌≡◌, ◌++◌, nat_lt, IsSomeAnd, List, length, Some, None, take, true}
 use Rattle.std.specs.Option.{is_some}
 use Rattle.goblin_pe_sect.specs.SectionTable.{Section}
-use Rattle.goblin_base.specs.declared.endian.Endian.TheVariants.{Little}
-use Rattle.goblin_base.specs.Bytes.{IsBytes}
+use Rattle.goblin_base.specs.{declared.endian.Endian.TheVariants.Little, Bytes.IsBytes}
 use Rattle.goblin_pe_head.specs.HeaderLaws.{filling_after, header_end}
-use Rattle.goblin_pe_head.specs.HeaderReadings.{pe_header}
-use Rattle.goblin_pe_head.specs.PeHeader.{PeHeader, header_bytes}
+use Rattle.goblin_pe_head.specs.{HeaderReadings.pe_header, PeHeader.PeHeader, PeHeader.header_bytes}
 use Rattle.goblin_pe_c_headers.specs.Written.{header_from_c, image_stub}
 use Rattle.goblin_pe.specs.Whole.{layout, places_in, section_table_offset}
 use Rattle.goblin_pe_c_headers.specs.declared.image.PeImage.{PeImage}
-use Rattle.goblin_pe_c_headers.specs.declared.options.PeOptions.{PeOptions}
-use Rattle.goblin_pe_c_headers.specs.Headers.{optional_record}
-use Rattle.goblin_pe_c_headers.specs.ImageRecords.{zero_image}
+use Rattle.goblin_pe_c_headers.specs.{declared.options.PeOptions.PeOptions, Headers.optional_record}
+use Rattle.goblin_pe_c_headers.specs.{ImageRecords.zero_image, Places.image_places}
+use Rattle.goblin_pe_c_headers.specs.{RichHeaders.rich_of, Sections.RowsHold}
 use Rattle.goblin_pe_c_headers.specs.Options.{header_options, longest_of}
-use Rattle.goblin_pe_c_headers.specs.Places.{image_places}
-use Rattle.goblin_pe_c_headers.specs.RichHeaders.{rich_of}
-use Rattle.goblin_pe_c_headers.specs.Sections.{RowsHold}
 use Rattle.goblin_pe_c_tables.specs.Places.{LeadsBack, places_record}
 
 -- the record of a file with this header

@@ -2,46 +2,35 @@
 use Rattle.std.specs.Prelude.{◌≡◌, ◌<◌, ◌^◌, ℕ, false, true, length, List, [], Option, Some, None}
 use Rattle.std.specs.Prelude.{IsSomeAnd, ◌-◌, map, Result, Ok, Err}
 use Rattle.std.proofs.Common.{◌∙◌, ap}
-use Rattle.goblin_base.specs.Bytes.{IsBytes}
+use Rattle.goblin_base.specs.{Bytes.IsBytes, Marks.joined, Answers.IsMemory}
+use Rattle.goblin_base.specs.{declared.error.ErrorOf.ErrorOf, Reading.Reading}
 use Rattle.goblin_base.specs.Footprints.{Agree, Range}
-use Rattle.goblin_base.specs.Marks.{joined}
-use Rattle.goblin_base.specs.Answers.{IsMemory}
-use Rattle.goblin_base.specs.declared.error.ErrorOf.{ErrorOf}
 use Rattle.goblin_base.specs.declared.permissive.ParseMode.TheVariants.{Permissive, Strict}
-use Rattle.goblin_base.specs.Reading.{Reading}
 use Rattle.goblin_base.proofs.Footprints.{agree-left}
 use Rattle.readings.specs.Reads.{mapped}
 use Rattle.goblin_pe_sect.specs.declared.options.ParseOptions.{ParseOptions}
-use Rattle.goblin_pe_sect.specs.declared.options.View.{View}
-use Rattle.goblin_pe_sect.specs.Options.{is_strict}
-use Rattle.goblin_pe_sect.specs.SectionTable.{Section}
-use Rattle.goblin_pe_head.specs.HeaderReadings.{pe_header}
-use Rattle.goblin_pe_head.specs.PeHeader.{PeHeader}
-use Rattle.goblin_pe_sect.specs.Addresses.{MapOfAddresses}
+use Rattle.goblin_pe_sect.specs.{declared.options.View.View, Options.is_strict}
+use Rattle.goblin_pe_sect.specs.{SectionTable.Section, Addresses.MapOfAddresses}
+use Rattle.goblin_pe_head.specs.{HeaderReadings.pe_header, PeHeader.PeHeader}
 use Rattle.goblin_pe_export.specs.added.ExportAddresses.{without_names}
-use Rattle.goblin_pe.specs.added.Layouts.{address_part}
-use Rattle.goblin_pe.specs.Modes.{in_mode}
-use Rattle.goblin_pe.specs.declared.added.damage.Damage.{Damage}
-use Rattle.goblin_pe.specs.declared.whole.Part.{Part}
+use Rattle.goblin_pe.specs.{added.Layouts.address_part, Modes.in_mode}
+use Rattle.goblin_pe.specs.{declared.added.damage.Damage.Damage, declared.whole.Part.Part}
 use Rattle.goblin_pe.specs.declared.whole.Part.TheVariants as part
 use Rattle.goblin_pe_export.specs.ExportRecords.{ExportTables, NumberedExport}
 use Rattle.goblin_pe_import.specs.Imports.{NumberedImport}
 use Rattle.goblin_pe.specs.Whole.{NumberedTables, TableParts, by_layout, collected_tables}
 use Rattle.goblin_pe.specs.Whole.{imports_in, IfRead, TablePlaces, export_part, layout, part_map}
 use Rattle.goblin_pe.specs.Whole.{places_in, relocation_part, tables_with}
-use Rattle.goblin_pe_c_tables.specs.Batches.{exports_in, import_table, part_or}
+use Rattle.goblin_pe_c_tables.specs.Batches.{exports_in, import_table, part_or, PeImportCursor}
 use Rattle.goblin_pe_c_tables.specs.Places.{map_at, places_record, places_from_c}
 use Rattle.goblin_pe_c_headers.specs.Places.{placed_sections, image_places}
-use Rattle.goblin_pe_c_tables.specs.declared.next.PeImportCursor.{PeImportCursor}
 use Rattle.goblin_pe_c_tables.specs.declared.ranges.PeFootprint.{PeFootprint}
-use Rattle.goblin_pe_c_tables.specs.declared.ranges.PeRange.{PeRange}
+use Rattle.goblin_pe_c_tables.specs.{declared.ranges.PeRange.PeRange, ReadImages.image_of}
 use Rattle.goblin_pe_c_tables.specs.Damages.{IsDamagedBy, damage_record, mode_map}
-use Rattle.goblin_pe_c_tables.specs.ReadImages.{image_of}
-use Rattle.goblin_pe_c_headers.specs.Onward.{unrefused}
-use Rattle.goblin_pe_c_headers.specs.declared.image.PeImage.{PeImage}
+use Rattle.goblin_pe_c_headers.specs.{Onward.unrefused, declared.image.PeImage.PeImage}
+use Rattle.goblin_pe_c_headers.specs.declared.options.PeOptions.{PeOptions}
 use Rattle.goblin_pe_c_headers.specs.Options.{alignment_in, alignment_of, header_options}
 use Rattle.goblin_pe_c_headers.specs.Options.{longest_of, options_at, options_in, view_of}
-use Rattle.goblin_pe_c_headers.specs.declared.options.PeOptions.{PeOptions}
 
 -- ---- a file
 

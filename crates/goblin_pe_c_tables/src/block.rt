@@ -5,10 +5,8 @@ ghost use Rattle.goblin_base.specs.Answers.{IsMemory};
 ghost use Rattle.goblin_pe_sect.specs.BaseRelocations.{block_value, relocation_bytes};
 ghost use Rattle.goblin_pe.specs.declared.whole.Part.TheVariants.{Read};
 ghost use Rattle.goblin_pe_c_tables.specs.Batches.{GivesBlocks, GivesBlocksIn, IsBlockCause};
-ghost use Rattle.goblin_pe_c_tables.specs.Batches.{IsBlocksFault, block_for_c};
-ghost use Rattle.goblin_pe_c_headers.specs.Onward.{batch_at};
-ghost use Rattle.goblin_pe_c_tables.specs.Batches.{blocks_from};
-ghost use Rattle.goblin_pe_c_headers.specs.Onward.{IsRefusedNext};
+ghost use Rattle.goblin_pe_c_tables.specs.Batches.{IsBlocksFault, block_for_c, blocks_from};
+ghost use Rattle.goblin_pe_c_headers.specs.Onward.{batch_at, IsRefusedNext};
 
 use crate::batch::{Batched, at_room};
 use goblin_pe::added::Layout;

@@ -7,10 +7,9 @@ ghost use Rattle.goblin_pe.specs.added.Layouts.{layout_bytes, layout_map, layout
 ghost use Rattle.goblin_pe_import.specs.added.Libraries.{AreLibrariesOver, IsLibrariesCause};
 ghost use Rattle.goblin_pe_import.specs.added.Libraries.{libraries_left, library_value};
 ghost use Rattle.goblin_pe.specs.Whole.{entry_format};
-ghost use Rattle.goblin_pe_c_headers.specs.Onward.{batch_at};
+ghost use Rattle.goblin_pe_c_headers.specs.Onward.{batch_at, IsRefusedNext};
 ghost use Rattle.goblin_pe_c_tables.specs.Libraries.{GivesLibraries, IsLibrariesFault};
 ghost use Rattle.goblin_pe_c_tables.specs.Libraries.{library_for_c, library_model, library_table};
-ghost use Rattle.goblin_pe_c_headers.specs.Onward.{IsRefusedNext};
 
 use crate::batch::Batched;
 use crate::next::{PeImportCursor, cursor_at, cursor_for_c};

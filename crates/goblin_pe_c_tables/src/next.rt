@@ -1,8 +1,7 @@
 //! Imports and exports in batches.
 
 ghost use Rattle.std.specs.Prelude.{◌≡◌, ◌⊎◌, ◌+◌, ◌<◌, ◌≤◌, IfErr, MatchResult, length, max, min};
-ghost use Rattle.goblin_base.specs.Answers.{IsMemory};
-ghost use Rattle.goblin_base.specs.Reading.{Reads};
+ghost use Rattle.goblin_base.specs.{Answers.IsMemory, Reading.Reads};
 ghost use Rattle.goblin_pe.specs.added.Layouts.{file_ahead, IsFileImportsCause, file_imports_left};
 ghost use Rattle.goblin_pe.specs.added.Layouts.{layout_map, layout_bytes, layout_places};
 ghost use Rattle.goblin_pe_export.specs.added.ExportWalks.{KeepsOver, exports_left};
@@ -10,10 +9,9 @@ ghost use Rattle.goblin_pe_export.specs.added.ExportWalks.{exports_position, poi
 ghost use Rattle.goblin_pe_c_tables.specs.Batches.{Fills, GivesExports, GivesImports, GivesInFile};
 ghost use Rattle.goblin_pe_c_tables.specs.Batches.{GoesOn, IsExportBatchFault, IsImportsFault};
 ghost use Rattle.goblin_pe_c_tables.specs.Batches.{cursor_for_c, cursor_from_c, is_over};
-ghost use Rattle.goblin_pe_c_headers.specs.Onward.{batch_at};
+ghost use Rattle.goblin_pe_c_headers.specs.Onward.{batch_at, FillsFrom, IsRefusedNext, unrefused};
 ghost use Rattle.goblin_pe_c_tables.specs.Batches.{exports_table, import_cursor};
 ghost use Rattle.goblin_pe_c_tables.specs.Imports.{GivesHere};
-ghost use Rattle.goblin_pe_c_headers.specs.Onward.{FillsFrom, IsRefusedNext, unrefused};
 
 use crate::batch::{Batched, at_room};
 use crate::export::{PeExport, export_record, put_export};

@@ -2,15 +2,11 @@
 
 ghost use Rattle.std.specs.Prelude.{◌≡◌, unwrap_or};
 ghost use Rattle.goblin_base.specs.Reading.{Reads};
-ghost use Rattle.goblin_pe_sect.specs.Options.{is_strict};
-ghost use Rattle.goblin_pe_sect.specs.SectionTable.{recorded_sections};
-ghost use Rattle.goblin_pe_head.specs.CoffHeader.{symbols_end};
-ghost use Rattle.goblin_pe_head.specs.CoffReadings.{sections_at};
-ghost use Rattle.goblin_pe_head.specs.DosStub.{stub_bytes};
-ghost use Rattle.goblin_pe_head.specs.added.HeaderParts.{unnamed_sections};
+ghost use Rattle.goblin_pe_sect.specs.{Options.is_strict, SectionTable.recorded_sections};
+ghost use Rattle.goblin_pe_head.specs.{CoffHeader.symbols_end, CoffReadings.sections_at};
+ghost use Rattle.goblin_pe_head.specs.{DosStub.stub_bytes, added.HeaderParts.unnamed_sections};
 ghost use Rattle.goblin_pe.specs.Whole.{layout as file_layout};
-ghost use Rattle.goblin_pe_c_headers.specs.Faults.{status_of};
-ghost use Rattle.goblin_pe_c_headers.specs.ImageRecords.{IsImage};
+ghost use Rattle.goblin_pe_c_headers.specs.{Faults.status_of, ImageRecords.IsImage};
 ghost use Rattle.goblin_pe_c_tables.specs.PartialImages.{AreTableFaults, SaysPartial, Tests};
 ghost use Rattle.goblin_pe_c_tables.specs.PartialImages.{faults_of, file_stub, given_count};
 ghost use Rattle.goblin_pe_c_tables.specs.PartialImages.{given_or, has_fields, is_replaced};

@@ -1,8 +1,7 @@
 //! What all tables of an image are read by.
 
 ghost use Rattle.std.specs.Prelude.{◌≡◌, ◌<◌, IfErr, IfOk};
-ghost use Rattle.goblin_base.specs.Answers.{IsMemory};
-ghost use Rattle.goblin_base.specs.Reading.{ReadsOrMemory};
+ghost use Rattle.goblin_base.specs.{Answers.IsMemory, Reading.ReadsOrMemory};
 ghost use Rattle.goblin_pe.specs.added.Layouts.{layout_bytes, layout_map, layout_places};
 ghost use Rattle.goblin_pe.specs.added.Layouts.{layout_sections};
 ghost use Rattle.goblin_pe.specs.Whole.{directory_offset, table_places};

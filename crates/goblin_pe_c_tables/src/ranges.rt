@@ -1,8 +1,7 @@
 //! On which bytes of a file a read of the whole file depends.
 
 ghost use Rattle.std.specs.Prelude.{◌≡◌, ◌<◌, IfErr, IfOk, length, map};
-ghost use Rattle.goblin_base.specs.Answers.{IsMemory};
-ghost use Rattle.goblin_base.specs.Marks.{joined};
+ghost use Rattle.goblin_base.specs.{Answers.IsMemory, Marks.joined};
 ghost use Rattle.goblin_pe.specs.Whole.{whole_in};
 ghost use Rattle.goblin_pe_c_tables.specs.Walked.{Lists, WalksGive, range_record_of, walked_in};
 

@@ -1,13 +1,10 @@
 //! The header of an image, in the record that all calls take.
 
 ghost use Rattle.std.specs.Prelude.{◌≡◌, option_map};
-ghost use Rattle.goblin_pe_head.specs.PeHeader.{header_value};
-ghost use Rattle.goblin_pe_head.specs.RichHeader.{rich_value};
+ghost use Rattle.goblin_pe_head.specs.{PeHeader.header_value, RichHeader.rich_value};
 ghost use Rattle.goblin_pe.specs.Whole.{layout as file_layout};
-ghost use Rattle.goblin_pe_c_headers.specs.Calls.{ReadsWithout};
-ghost use Rattle.goblin_pe_c_headers.specs.ImageRecords.{IsImage};
-ghost use Rattle.goblin_pe_c_headers.specs.Options.{header_options};
-ghost use Rattle.goblin_pe_c_headers.specs.RichHeaders.{rich_of};
+ghost use Rattle.goblin_pe_c_headers.specs.{Calls.ReadsWithout, ImageRecords.IsImage};
+ghost use Rattle.goblin_pe_c_headers.specs.{Options.header_options, RichHeaders.rich_of};
 ghost use Rattle.goblin_pe_c_tables.specs.ReadImages.{ImageLeadsBack, ImageRowsAreRead, image_of};
 
 use goblin_pe::added::section_records_of;

@@ -1,8 +1,7 @@
 //! The calls that read the damage and the footprint of an image.
 
 ghost use Rattle.std.specs.Prelude.{◌≡◌};
-ghost use Rattle.goblin_pe_c_headers.specs.Calls.{ReportedAfter};
-ghost use Rattle.goblin_pe_c_headers.specs.Faults.{image_fault};
+ghost use Rattle.goblin_pe_c_headers.specs.{Calls.ReportedAfter, Faults.image_fault};
 ghost use Rattle.goblin_pe_c_tables.specs.Damages.{ReadsDamage};
 ghost use Rattle.goblin_pe_c_tables.specs.Walked.{Lists, SoundIsWalkedAlike, WalksGive, walked_in};
 

@@ -3,11 +3,10 @@
 
 ghost use Rattle.std.specs.Prelude.{◌≡◌, ◌≢◌, ◌-◌, Some, length};
 ghost use Rattle.goblin_pe_c_headers.specs.Calls.{ReadsWithout, ReportedAfter};
-ghost use Rattle.goblin_pe_c_headers.specs.Faults.{options_fault};
+ghost use Rattle.goblin_pe_c_headers.specs.{Faults.options_fault, Onward.batch_at};
 ghost use Rattle.goblin_pe_c_tables.specs.Batches.{GivesAddresses, GivesBatch, GivesExports};
 ghost use Rattle.goblin_pe_c_tables.specs.Batches.{IsAddressesFault, IsExportBatchFault};
 ghost use Rattle.goblin_pe_c_tables.specs.Batches.{SaysDirectory, WalksOver};
-ghost use Rattle.goblin_pe_c_headers.specs.Onward.{batch_at};
 ghost use Rattle.goblin_pe_c_tables.specs.ExportDirectories.{directory_model};
 ghost use Rattle.goblin_pe_c_tables.specs.Exports.{forwarder_at_address, forwarder_for_c};
 ghost use Rattle.goblin_pe_c_tables.specs.Exports.{forwarder_model};

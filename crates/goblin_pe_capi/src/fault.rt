@@ -1,8 +1,7 @@
 //! The call that gives the text of a refusal.
 
 ghost use Rattle.std.specs.Prelude.{◌≡◌, ◌≤◌, List, ℕ, length};
-ghost use Rattle.goblin_pe_c_headers.specs.Faults.{IsTextOf};
-ghost use Rattle.goblin_pe_c_headers.specs.Filled.{Filled};
+ghost use Rattle.goblin_pe_c_headers.specs.{Faults.IsTextOf, Filled.Filled};
 
 use goblin_pe_c_headers::fault::{PeFault, put_text, text_of};
 

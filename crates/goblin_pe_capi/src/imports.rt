@@ -1,10 +1,8 @@
 //! The calls that walk over imports and libraries.
 
 ghost use Rattle.std.specs.Prelude.{◌≡◌, ◌≢◌, ◌-◌, length};
-ghost use Rattle.goblin_pe_c_headers.specs.Faults.{options_fault};
-ghost use Rattle.goblin_pe_c_tables.specs.Batches.{GivesImports, IsImportsFault};
-ghost use Rattle.goblin_pe_c_tables.specs.Batches.{WalksOver};
-ghost use Rattle.goblin_pe_c_headers.specs.Onward.{batch_at};
+ghost use Rattle.goblin_pe_c_headers.specs.{Faults.options_fault, Onward.batch_at};
+ghost use Rattle.goblin_pe_c_tables.specs.Batches.{GivesImports, IsImportsFault, WalksOver};
 ghost use Rattle.goblin_pe_c_tables.specs.Libraries.{GivesLibraries, IsLibrariesFault};
 ghost use Rattle.goblin_pe_c_tables.specs.Libraries.{LibrariesEnd};
 ghost use Rattle.goblin_pe_c_tables.specs.Steps.{section_steps, walk_fault};

@@ -7,12 +7,9 @@
 ghost use Rattle.std.specs.Prelude.{◌≡◌, ◌==◌};
 ghost use Rattle.goblin_pe_c_headers.specs.Addresses.{image_address, image_map, text_at};
 ghost use Rattle.goblin_pe_c_headers.specs.Calls.{ReadsWithout, ReportedAfter};
-ghost use Rattle.goblin_pe_c_headers.specs.Faults.{options_fault};
-ghost use Rattle.goblin_pe_c_headers.specs.Found.{Puts};
-ghost use Rattle.goblin_pe_c_headers.specs.Images.{slice_model};
+ghost use Rattle.goblin_pe_c_headers.specs.{Faults.options_fault, Found.Puts, Images.slice_model};
+ghost use Rattle.goblin_pe_c_headers.specs.{Places.image_places, Sections.section_model};
 ghost use Rattle.goblin_pe_c_headers.specs.Memory.{SeesFile, memory_at, memory_model, section_data};
-ghost use Rattle.goblin_pe_c_headers.specs.Places.{image_places};
-ghost use Rattle.goblin_pe_c_headers.specs.Sections.{section_model};
 
 use goblin_pe_c_headers::address::{offset_of, read_text, rva_of};
 use goblin_pe_c_headers::fault::{PeFault, refused_call, status_of};

@@ -1,8 +1,7 @@
 //! The call that walks over blocks of base relocations.
 
-ghost use Rattle.goblin_pe_c_headers.specs.Faults.{options_fault};
+ghost use Rattle.goblin_pe_c_headers.specs.{Faults.options_fault, Onward.batch_at};
 ghost use Rattle.goblin_pe_c_tables.specs.Batches.{GivesBlocks, IsBlocksFault, WalksOver};
-ghost use Rattle.goblin_pe_c_headers.specs.Onward.{batch_at};
 
 use goblin_pe_c_headers::batch::PeBatch;
 use goblin_pe_c_headers::cursor::PeRelocationBlockCursor;

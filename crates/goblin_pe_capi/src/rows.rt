@@ -2,17 +2,13 @@
 //! block. A row is a record of the file, so they look at as many as there is room for.
 
 ghost use Rattle.std.specs.Prelude.{◌≡◌};
-ghost use Rattle.goblin_pe_c_headers.specs.Calls.{ReadsWithout, Reported};
-ghost use Rattle.goblin_pe_c_headers.specs.Faults.{no_fault};
-ghost use Rattle.goblin_pe_c_headers.specs.Onward.{GivesOnward, no_batch};
-ghost use Rattle.goblin_pe_c_headers.specs.Options.{longest_of};
-ghost use Rattle.goblin_pe_c_headers.specs.Relocations.{all_relocations};
+ghost use Rattle.goblin_pe_c_headers.specs.{Calls.ReadsWithout, Calls.Reported, Faults.no_fault};
+ghost use Rattle.goblin_pe_c_headers.specs.{Options.longest_of, Relocations.all_relocations};
+ghost use Rattle.goblin_pe_c_headers.specs.{Sections.ReadsSections, Words.GivesWords};
+ghost use Rattle.goblin_pe_c_headers.specs.Onward.{GivesOnward, no_batch, batch_at};
 ghost use Rattle.goblin_pe_c_headers.specs.RichHeaders.{GivesEntries, HeaderIsWalked, RichIsWalked};
-ghost use Rattle.goblin_pe_c_headers.specs.Sections.{ReadsSections};
 ghost use Rattle.goblin_pe_c_headers.specs.Symbols.{FindsTables, GivesSymbols, NamesOfText};
 ghost use Rattle.goblin_pe_c_headers.specs.Symbols.{found_tables, name_in_piece};
-ghost use Rattle.goblin_pe_c_headers.specs.Words.{GivesWords};
-ghost use Rattle.goblin_pe_c_headers.specs.Onward.{batch_at};
 
 use goblin_pe::header::RichMetadata;
 use goblin_pe::relocation::Relocation;

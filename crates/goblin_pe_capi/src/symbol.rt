@@ -2,9 +2,7 @@
 
 ghost use Rattle.std.specs.Prelude.{◌≡◌};
 ghost use Rattle.goblin_pe_c_headers.specs.Auxiliary.{AuxiliaryModel, kind_number, kind_of};
-ghost use Rattle.goblin_pe_c_headers.specs.Found.{Puts};
-ghost use Rattle.goblin_pe_c_headers.specs.Images.{slice_model};
-ghost use Rattle.goblin_pe_c_headers.specs.Symbols.{string_at};
+ghost use Rattle.goblin_pe_c_headers.specs.{Found.Puts, Images.slice_model, Symbols.string_at};
 
 use goblin_pe_c_headers::auxiliary::{PeAuxiliary, read_auxiliary};
 use goblin_pe_c_headers::found::put_found;

@@ -2,8 +2,7 @@
 
 ghost use Rattle.std.specs.Prelude.{◌≡◌};
 ghost use Rattle.goblin_pe_sect.specs.SectionReadings.{SectionWritesBack};
-ghost use Rattle.goblin_pe_c_headers.specs.Calls.{Reported, ReportedAfter};
-ghost use Rattle.goblin_pe_c_headers.specs.Faults.{kind_fault};
+ghost use Rattle.goblin_pe_c_headers.specs.{Calls.Reported, Calls.ReportedAfter, Faults.kind_fault};
 ghost use Rattle.goblin_pe_c_headers.specs.Written.{Output, SetsName, WritesHeader, WritesSection};
 ghost use Rattle.goblin_pe_c_tables.specs.ReadImages.{ImageWritesBack};
 

@@ -2,7 +2,7 @@
 use Rattle.std.proofs.Common.{refl, arith}
 use Rattle.goblin_base.specs.Record.{FieldsFit, ReadsBack, WritesBack}
 use Rattle.goblin_base.proofs.RecordRoundTrip.{reads_back, writes_back}
-use Rattle.goblin_pe_export.specs.declared.export.tables.ExportDirectoryTable.{ExportDirectoryTable}
+use Rattle.goblin_pe_export.specs.ExportRecords.{ExportDirectoryTable}
 use Rattle.goblin_pe_export.specs.ExportRecords.{export_directory_fields, export_directory_record}
 
 pub export_directory_back : WritesBack 40 export_directory_record export_directory_fields

@@ -6,9 +6,8 @@ use Rattle.std.proofs.lemmas.List.Sums.{split_at_first, fails_before_first, pass
 use Rattle.std.proofs.lemmas.Str.Parse.{IsNumeralModel, numerals_by_value, tells_all_ascii_digits}
 use Rattle.std.proofs.Math.Seq.{take-append_seam, drop-append-add, get_or-append_seam}
 use Rattle.std.proofs.Math.ListN.{get_or-append}
-use Rattle.std.specs.Result.{result_ok}
+use Rattle.std.specs.{Result.result_ok, Str.all_ascii_digits}
 use Rattle.std.specs.List.{position_or_len, before_first, after_first}
-use Rattle.std.specs.Str.{all_ascii_digits}
 use Rattle.std.specs.Str.Parse.{IsNumeral, digits_value, without_leading_plus, ParsesUnsigned}
 use Rattle.goblin_pe_export.specs.Forwarders.{Forwarder, IsForwarder, is_dot, ordinal_of, export_of, forwarder_in_text, forwarder_of}
 use Rattle.goblin_pe_export.specs.Forwarders.Forwarder.{ByName, ByOrdinal}

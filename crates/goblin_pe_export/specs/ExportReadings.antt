@@ -3,8 +3,7 @@
 use Rattle.std.specs.Prelude.{ℕ, ◌==◌, if◌then◌else◌, nat_le, List, [], length, map, slice_get}
 use Rattle.std.specs.Prelude.{Option, Some, None, codes}
 use Rattle.goblin_base.specs.declared.endian.Endian.TheVariants.{Little}
-use Rattle.goblin_base.specs.declared.error.CauseOf.TheVariants.{ExportTable}
-use Rattle.goblin_base.specs.Answers.{IsTooShort}
+use Rattle.goblin_base.specs.{declared.error.CauseOf.TheVariants.ExportTable, Answers.IsTooShort}
 use Rattle.goblin_base.specs.Reading.{Reading}
 use Rattle.goblin_base.proofs.Picks.{by_cases-not_memory}
 use Rattle.readings.specs.Reads.{◌>>=◌, ◌beside◌, because, counted_if, each_kept, file_length}
@@ -13,12 +12,11 @@ use Rattle.goblin_pe_sect.specs.declared.data_directories.DataDirectory.{DataDir
 use Rattle.goblin_pe_export.specs.ExportRecords.{ExportRow, ExportTables, addresses, NumberedExport}
 use Rattle.goblin_pe_export.specs.ExportRecords.{name_pointers, numbered_by, read_rows}
 use Rattle.goblin_pe_export.specs.ExportRecords.{export_directory_record, ordinals, rva_of}
+use Rattle.goblin_pe_export.specs.ExportRecords.{ExportAddressTableEntry, ExportDirectoryTable}
 use Rattle.goblin_pe_export.specs.Forwarders.{Forwarder, forwarder_within}
 use Rattle.goblin_pe_sect.specs.AddressReadings.{at_address, name_at}
 use Rattle.goblin_pe_sect.specs.Addresses.{Addressing}
-use Rattle.goblin_pe_export.specs.declared.export.tables.ExportAddressTableEntry.{ExportAddressTableEntry}
 use Rattle.goblin_pe_export.specs.declared.export.tables.ExportAddressTableEntry.TheVariants as variant
-use Rattle.goblin_pe_export.specs.declared.export.tables.ExportDirectoryTable.{ExportDirectoryTable}
 
 -- ---- export data
 

@@ -5,15 +5,13 @@ use Rattle.std.specs.Prelude.{None, Option, Some, Vec, ◌*◌, ◌-◌, ◌/◌
 use Rattle.std.specs.Prelude.{slice_range}
 use Rattle.std.specs.Global.{Global}
 use Rattle.goblin_base.specs.declared.endian.Endian.{Endian}
-use Rattle.goblin_base.specs.declared.endian.Endian.TheVariants.{Little}
-use Rattle.goblin_base.specs.Bytes.{number}
-use Rattle.goblin_base.specs.Record.{FieldValue, uint}
-use Rattle.goblin_base.specs.Tables.{Format, records_in}
+use Rattle.goblin_base.specs.{declared.endian.Endian.TheVariants.Little, Bytes.number}
+use Rattle.goblin_base.specs.{Record.FieldValue, Record.uint, Tables.Format, Tables.records_in}
 use Rattle.goblin_pe_sect.specs.declared.data_directories.DataDirectory.{DataDirectory}
 use Rattle.goblin_pe_export.specs.declared.export.entries.TablesInFile.{TablesInFile}
-use Rattle.goblin_pe_export.specs.declared.export.tables.ExportAddressTableEntry.{ExportAddressTableEntry}
+pub use Rattle.goblin_pe_export.specs.declared.export.tables.ExportAddressTableEntry.{ExportAddressTableEntry}
 use Rattle.goblin_pe_export.specs.declared.export.tables.ExportAddressTableEntry.TheVariants as variant
-use Rattle.goblin_pe_export.specs.declared.export.tables.ExportDirectoryTable.{ExportDirectoryTable}
+pub use Rattle.goblin_pe_export.specs.declared.export.tables.ExportDirectoryTable.{ExportDirectoryTable}
 use Rattle.goblin_pe_export.specs.Forwarders.{Forwarder}
 
 -- Source: PE Format, "The .edata Section (Image Only)".

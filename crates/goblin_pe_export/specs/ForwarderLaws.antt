@@ -2,9 +2,7 @@
 use Rattle.std.proofs.Common.{ℕ, ◌+◌, ◌≤◌, List, length, Option, Some, None}
 use Rattle.std.specs.Prelude.{IfSome, min}
 use Rattle.std.proofs.Math.Nat.{min-le_right}
-use Rattle.goblin_base.specs.declared.endian.Endian.{Endian}
-use Rattle.goblin_base.specs.Answers.{◌>>=◌}
-use Rattle.goblin_base.specs.Bytes.{text_at}
+use Rattle.goblin_base.specs.{declared.endian.Endian.Endian, Answers.◌>>=◌, Bytes.text_at}
 use Rattle.goblin_pe_export.specs.Forwarders.{Forwarder, forwarder_in, forwarder_of}
 
 min_within : (n len : ℕ) (forwarder : Option Forwarder)

@@ -2,17 +2,13 @@
 use Rattle.std.specs.Prelude.{◌≡◌, ◌≢◌, ℕ, ◌+◌, ◌<◌, ◌^◌, ◌==◌, ◌&&◌, nat_lt, if◌then◌else◌, Bool}
 use Rattle.std.specs.Prelude.{true, false, List, [], ◌∷◌, ◌++◌, length, slice_index, min, Option}
 use Rattle.std.specs.Prelude.{Some, None, option_map}
-use Rattle.std.specs.List.{before_first, after_first}
-use Rattle.std.specs.Str.{all_ascii_digits}
+use Rattle.std.specs.{List.before_first, List.after_first, Str.all_ascii_digits}
 use Rattle.std.specs.Str.Parse.{IsNumeral, digits_value, without_leading_plus}
-use Rattle.goblin_base.specs.declared.endian.Endian.{Endian}
-use Rattle.goblin_base.specs.declared.error.ErrorOf.{ErrorOf}
+use Rattle.goblin_base.specs.{declared.endian.Endian.Endian, declared.error.ErrorOf.ErrorOf}
 use Rattle.goblin_base.specs.declared.error.ErrorOf.TheVariants.{Malformed}
+use Rattle.goblin_base.specs.{declared.error.CauseOf.TheVariants.ForwarderOrdinal, Bytes.text_at}
+use Rattle.goblin_base.specs.{Answers.◌>>=◌, Reading.Reading}
 use Rattle.goblin_base.specs.declared.error.CauseOf.TheVariants.{Forwarder as NoForwarder}
-use Rattle.goblin_base.specs.declared.error.CauseOf.TheVariants.{ForwarderOrdinal}
-use Rattle.goblin_base.specs.Bytes.{text_at}
-use Rattle.goblin_base.specs.Answers.{◌>>=◌}
-use Rattle.goblin_base.specs.Reading.{Reading}
 use Rattle.goblin_base.proofs.Picks.{by_cases-not_memory}
 use Rattle.readings.specs.Reads as reads
 use Rattle.readings.specs.Reads.{checked}

@@ -7,13 +7,11 @@
 
 ghost use Rattle.std.specs.Prelude.{◌≡◌, IsOk, MatchOption, None, Option, Some, length};
 ghost use Rattle.std.specs.Prelude.{option_and_then, option_map};
-ghost use Rattle.goblin_base.specs.Answers.{GivesOrMemory};
-ghost use Rattle.goblin_base.specs.Reading.{ReadsOrMemory};
+ghost use Rattle.goblin_base.specs.{Answers.GivesOrMemory, Reading.ReadsOrMemory};
 ghost use Rattle.goblin_pe_sect.specs.Options.{default_options};
 ghost use Rattle.goblin_pe_sect.specs.Addresses.{map_by, map_of, Addressing};
 ghost use Rattle.goblin_pe_export.specs.ExportReadings as reading;
-ghost use Rattle.goblin_pe_export.specs.ExportRecords.{numbered_by};
-ghost use Rattle.goblin_pe_export.specs.ExportReadings.{numbered_export};
+ghost use Rattle.goblin_pe_export.specs.{ExportRecords.numbered_by, ExportReadings.numbered_export};
 ghost use Rattle.goblin_pe_export.specs.Exports.{export_data, export_row, exports, rva_of};
 ghost use Rattle.goblin_pe_export.specs.Forwarders.{forwarder_value, forwarder_within};
 ghost use Rattle.readings.specs.Reads.{text_within};

@@ -2,8 +2,7 @@
 use Rattle.std.proofs.Common.{refl, arith}
 use Rattle.goblin_base.specs.Record.{WritesBack, FieldsFit, ReadsBack}
 use Rattle.goblin_base.proofs.RecordRoundTrip.{writes_back, reads_back}
-use Rattle.goblin_pe_head.specs.declared.header.coff.CoffHeader.{CoffHeader}
-use Rattle.goblin_pe_head.specs.CoffHeader.{coff_fields, coff_header}
+use Rattle.goblin_pe_head.specs.CoffHeader.{CoffHeader, coff_fields, coff_header}
 
 pub coff_back : WritesBack 20 coff_header coff_fields
 coff_back = writes_back 20 coff_header coff_fields refl (λ endian own bytes. refl)

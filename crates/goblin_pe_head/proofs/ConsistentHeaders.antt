@@ -1,40 +1,29 @@
 -- A header whose parts agree is read again from what is written of it, and a header that was read has such parts.
 use Rattle.std.proofs.Common.{◌≡◌, ℕ, zero, suc, ◌+◌, ◌-◌, ◌*◌, ◌^◌, ◌<◌, ◌≤◌, ◌&&◌, Bool, true, false, cond, nat_le, nat_lt, nat_eq, List, [], ◌∷◌, ◌++◌, take, drop, length, get_or, Option, Some, None, Result, Ok, Err, refl, sym, ap, ◌∙◌, subst, append_assoc, inl, inr, arith, ◌==◌, IfOk, IfSome, option_map, slice_range, append-nil, drop_at, drop-drop, length-append, length-drop, length-take-le, take_all, take_at, mod-eq_of_lt}
 use Rattle.std.proofs.lemmas.Bool.{and_parts, cases_lt, eqb-true, le-leb, leb-true, lt-ltb, le-ltb}
-use Rattle.std.proofs.lemmas.List.FromFn.{fill_by_all}
-use Rattle.std.proofs.lemmas.Option.{cond_some}
+use Rattle.std.proofs.{lemmas.List.FromFn.fill_by_all, lemmas.Option.cond_some}
 use Rattle.goblin_base.specs.declared.endian.Endian.{Endian}
 use Rattle.goblin_base.specs.declared.endian.Endian.TheVariants.{Little}
-use Rattle.goblin_base.specs.declared.error.ErrorOf.{ErrorOf}
+use Rattle.goblin_base.specs.{declared.error.ErrorOf.ErrorOf, Reading.Reads}
 use Rattle.goblin_base.specs.Bytes.{IsBytes, number, number_at, number_bytes, replaced, slice_at}
-use Rattle.goblin_base.specs.Reading.{Reads}
 use Rattle.goblin_base.specs.Record.{FieldValue, FieldsFit, ReadsBack, encoding, record_at, uint}
 use Rattle.goblin_base.proofs.Numbers.{number-of_slice, number-slice, read_number}
-use Rattle.goblin_base.proofs.Records.{record_at-some}
-use Rattle.goblin_base.proofs.RecordRoundTrip.{bytes_after, IsBytes-slice, number-lt, slice-is}
-use Rattle.goblin_base.proofs.Steps.{mapped, same_value, step}
+use Rattle.goblin_base.proofs.{Records.record_at-some, Steps.mapped, Steps.same_value, Steps.step}
 use Rattle.goblin_base.proofs.Writing.{encoding_append, length_encoding}
+use Rattle.goblin_base.proofs.RecordRoundTrip.{bytes_after, IsBytes-slice, number-lt, slice-is}
 use Rattle.goblin_pe_sect.specs.declared.data_directories.DataDirectory.{DataDirectory}
 use Rattle.goblin_pe_sect.specs.DataDirectories.{directory_fields, directory_or_zeros, directory_record, entries_fields, entry_ending}
 use Rattle.goblin_pe_sect.specs.DirectoryReadings.{directories_at}
 use Rattle.goblin_pe_sect.proofs.DataDirectoriesRoundTrip.{directory_again}
 use Rattle.goblin_pe_sect.proofs.DirectoryReadings.{directories_read, value-directories_at}
 use Rattle.goblin_pe_sect.proofs.Entries.{directory_entry_at, directory_entry_at-below, directory_entry_at-past, entries_there, width-entries}
-use Rattle.goblin_pe_head.specs.declared.header.dos.DosHeader.{DosHeader}
-use Rattle.goblin_pe_head.specs.declared.header.pe_header.Header.{Header}
-use Rattle.goblin_pe_head.specs.declared.optional_header.OptionalHeader.{OptionalHeader}
-use Rattle.goblin_pe_head.specs.declared.optional_header.standard_fields.StandardFields.{StandardFields}
-use Rattle.goblin_pe_head.specs.declared.optional_header.standard_fields.StandardFields32.{StandardFields32}
-use Rattle.goblin_pe_head.specs.declared.optional_header.standard_fields.StandardFields64.{StandardFields64}
-use Rattle.goblin_pe_head.specs.declared.optional_header.windows_fields.WindowsFields32.{WindowsFields32}
-use Rattle.goblin_pe_head.specs.declared.optional_header.windows_fields.WindowsFields64.{WindowsFields64}
-use Rattle.goblin_pe_head.specs.CoffHeader.{coff_fields, coff_header}
-use Rattle.goblin_pe_head.specs.DosHeader.{dos_fields, dos_record}
+use Rattle.goblin_pe_head.specs.DosHeader.{DosHeader, dos_fields, dos_record}
+use Rattle.goblin_pe_head.specs.{declared.header.pe_header.Header.Header, CoffHeader.coff_fields}
+use Rattle.goblin_pe_head.specs.{CoffHeader.coff_header, RichHeader.rich_at, RichHeader.rich_in}
+use Rattle.goblin_pe_head.specs.OptionalHeader.{OptionalHeader, StandardFields, StandardFields32, StandardFields64, WindowsFields32, WindowsFields64, bytes_32, bytes_64, fields_size, narrowed, optional_bytes, standard_32_fields, standard_32_record, standard_64_fields, standard_64_record, standard_from_32, standard_from_64, standard_to_32, standard_to_64, windows_32_fields, windows_32_record, windows_record_fields, windows_record, windows_from_32, windows_to_32}
 use Rattle.goblin_pe_head.specs.HeaderLaws.{FieldsReadBack, IsConsistent, IsConsistentOptional, IsConsistentPart, IsEntryAt}
 use Rattle.goblin_pe_head.specs.HeaderReadings.{optional_at, optional_header, pe_header, standard_by, stub_in, windows_by}
-use Rattle.goblin_pe_head.specs.OptionalHeader.{bytes_32, bytes_64, fields_size, narrowed, optional_bytes, standard_32_fields, standard_32_record, standard_64_fields, standard_64_record, standard_from_32, standard_from_64, standard_to_32, standard_to_64, windows_32_fields, windows_32_record, windows_record_fields, windows_record, windows_from_32, windows_to_32}
 use Rattle.goblin_pe_head.specs.PeHeader.{PeHeader, header_parts, header_value, written_part}
-use Rattle.goblin_pe_head.specs.RichHeader.{rich_at, rich_in}
 use Rattle.goblin_pe_head.proofs.OptionalHeaderRoundTrip.{four-bytes}
 use Rattle.goblin_pe_head.proofs.OptionalParts.{IsOptionalOf, magic_32, magic_64, of_optional, optional_of, pick, same_magic}
 use Rattle.goblin_pe_head.proofs.PeHeaderRoundTrip.{dos_of, of_dos, of_parts, parts_of, strict_stub}

@@ -4,8 +4,7 @@ use Rattle.std.specs.List.{range_with_len}
 use Rattle.goblin_base.specs.declared.endian.Endian.{Endian}
 use Rattle.goblin_base.specs.Record.{WritesBack, FieldsFit, ReadsBack}
 use Rattle.goblin_base.proofs.RecordRoundTrip.{writes_back, reads_back}
-use Rattle.goblin_pe_head.specs.declared.header.dos.DosHeader.{DosHeader}
-use Rattle.goblin_pe_head.specs.DosHeader.{dos_fields, dos_record}
+use Rattle.goblin_pe_head.specs.DosHeader.{DosHeader, dos_fields, dos_record}
 
 pub dos_back : WritesBack 64 dos_record dos_fields
 dos_back = writes_back 64 dos_record dos_fields refl (λ endian own bytes. refl)

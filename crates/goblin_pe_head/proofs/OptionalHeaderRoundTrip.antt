@@ -4,20 +4,12 @@ use Rattle.goblin_base.specs.declared.endian.Endian.TheVariants.{Little}
 use Rattle.goblin_base.specs.Bytes.{IsBytes, number, slice_at}
 use Rattle.goblin_base.specs.Record.{FieldValue, encoding, record_at}
 use Rattle.goblin_base.proofs.RecordRoundTrip.{IsBytes-slice, front_more, number-lt, slice-is}
-use Rattle.goblin_base.proofs.Numbers.{slice_at-some}
-use Rattle.goblin_base.proofs.Records.{record_at-some}
-use Rattle.goblin_base.proofs.Steps.{mapped}
+use Rattle.goblin_base.proofs.{Numbers.slice_at-some, Records.record_at-some, Steps.mapped}
 use Rattle.goblin_pe_sect.specs.declared.data_directories.DataDirectory.{DataDirectory}
-use Rattle.goblin_pe_sect.specs.DataDirectories.{entries_fields}
-use Rattle.goblin_pe_sect.specs.DirectoryReadings.{directories_at}
+use Rattle.goblin_pe_sect.specs.{DataDirectories.entries_fields, DirectoryReadings.directories_at}
 use Rattle.goblin_pe_sect.proofs.DataDirectoriesRoundTrip.{entries_back}
-use Rattle.goblin_pe_head.specs.declared.optional_header.standard_fields.StandardFields32.{StandardFields32}
-use Rattle.goblin_pe_head.specs.declared.optional_header.standard_fields.StandardFields64.{StandardFields64}
-use Rattle.goblin_pe_head.specs.declared.optional_header.windows_fields.WindowsFields32.{WindowsFields32}
-use Rattle.goblin_pe_head.specs.declared.optional_header.windows_fields.WindowsFields64.{WindowsFields64}
-use Rattle.goblin_pe_head.specs.declared.optional_header.OptionalHeader.{OptionalHeader}
+use Rattle.goblin_pe_head.specs.OptionalHeader.{StandardFields32, StandardFields64, WindowsFields32, WindowsFields64, OptionalHeader, optional_bytes, standard_32_fields, standard_32_record, standard_64_fields, standard_64_record, standard_from_32, standard_from_64, standard_to_32, standard_to_64, as_windows_32, windows_32_fields, windows_32_record, windows_record_fields, windows_record, windows_to_32}
 use Rattle.goblin_pe_head.specs.HeaderReadings.{optional_header, standard_by, windows_by}
-use Rattle.goblin_pe_head.specs.OptionalHeader.{optional_bytes, standard_32_fields, standard_32_record, standard_64_fields, standard_64_record, standard_from_32, standard_from_64, standard_to_32, standard_to_64, as_windows_32, windows_32_fields, windows_32_record, windows_record_fields, windows_record, windows_to_32}
 use Rattle.goblin_pe_head.specs.OptionalHeaderLaws.{optional_header-within}
 use Rattle.goblin_pe_head.specs.HeaderLaws.{OptionalWritesBack, filling, optional_size}
 use Rattle.goblin_pe_head.proofs.OptionalParts.{IsOptionalOf, magic_32, magic_64, optional_of}

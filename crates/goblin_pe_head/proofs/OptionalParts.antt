@@ -1,21 +1,14 @@
 -- What an optional header that is read is made of, in either width.
 use Rattle.std.proofs.Common.{◌≡◌, ℕ, ◌+◌, ◌*◌, ◌≤◌, ◌⊎◌, Bool, true, false, cond, nat_eq, List, Option, Some, None, refl, sym, ap, ◌∙◌, subst, arith, inl, inr, eqb-true, option_map, slice_range}
-use Rattle.goblin_base.specs.declared.endian.Endian.TheVariants.{Little}
+use Rattle.goblin_base.specs.{declared.endian.Endian.TheVariants.Little, Record.record_at}
 use Rattle.goblin_base.specs.Bytes.{number, number_at}
-use Rattle.goblin_base.specs.Record.{record_at}
 use Rattle.goblin_base.proofs.Numbers.{number-of_slice, number_at-some}
-use Rattle.goblin_base.proofs.Records.{record_at-some}
-use Rattle.goblin_base.proofs.Steps.{mapped, step}
+use Rattle.goblin_base.proofs.{Records.record_at-some, Steps.mapped, Steps.step}
 use Rattle.readings.specs.Reads.{pair_of}
 use Rattle.goblin_pe_sect.specs.declared.data_directories.DataDirectory.{DataDirectory}
 use Rattle.goblin_pe_sect.specs.DirectoryReadings.{directories_at}
-use Rattle.goblin_pe_head.specs.declared.optional_header.FixedFields.{FixedFields}
-use Rattle.goblin_pe_head.specs.declared.optional_header.OptionalHeader.{OptionalHeader}
-use Rattle.goblin_pe_head.specs.declared.optional_header.standard_fields.StandardFields.{StandardFields}
-use Rattle.goblin_pe_head.specs.declared.optional_header.standard_fields.StandardFields32.{StandardFields32}
-use Rattle.goblin_pe_head.specs.declared.optional_header.standard_fields.StandardFields64.{StandardFields64}
-use Rattle.goblin_pe_head.specs.HeaderReadings.{entries_after, fields_with, fixed_fields, optional_header, size_of, standard_by, windows_by, with_entries}
-use Rattle.goblin_pe_head.specs.OptionalHeader.{fields_size, standard_32_record, standard_64_record, standard_from_32, standard_from_64}
+use Rattle.goblin_pe_head.specs.HeaderReadings.{FixedFields, entries_after, fields_with, fixed_fields, optional_header, size_of, standard_by, windows_by, with_entries}
+use Rattle.goblin_pe_head.specs.OptionalHeader.{OptionalHeader, StandardFields, StandardFields32, StandardFields64, fields_size, standard_32_record, standard_64_record, standard_from_32, standard_from_64}
 use Rattle.readings.proofs.Pairs.{both}
 
 -- its parts, in the width that this magic gives, and its size

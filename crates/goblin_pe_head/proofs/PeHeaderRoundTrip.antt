@@ -2,31 +2,24 @@
 use Rattle.std.proofs.Common.{◌≡◌, ℕ, ◌+◌, ◌-◌, ◌<◌, ◌≤◌, ◌&&◌, Bool, true, false, cond, nat_le, List, [], ◌∷◌, ◌++◌, take, drop, length, Option, Some, None, refl, sym, ap, ◌∙◌, subst, arith, ◌*◌, nat_lt, append_assoc, inl, inr, ◌==◌, option_map, slice_range, option_and_then, append-nil, length-drop}
 use Rattle.std.proofs.lemmas.Bool.{and_parts, eqb-true, leb-true, le-leb}
 use Rattle.std.proofs.lemmas.Option.{cond_some}
-use Rattle.goblin_base.specs.declared.endian.Endian.TheVariants.{Little}
+use Rattle.goblin_base.specs.{declared.endian.Endian.TheVariants.Little, Answers.◌>>=◌}
+use Rattle.goblin_base.specs.{Parts.bytes_between, Record.encoding, Record.record_at, Record.uint}
 use Rattle.goblin_base.specs.Bytes.{IsBytes, number_at, number_bytes, overwritten, replaced, slice_at}
-use Rattle.goblin_base.specs.Answers.{◌>>=◌}
-use Rattle.goblin_base.specs.Parts.{bytes_between}
-use Rattle.goblin_base.specs.Record.{encoding, record_at, uint}
 use Rattle.goblin_base.proofs.RecordRoundTrip.{bytes_after, front_more, number_bytes-number, slice-is}
 use Rattle.goblin_base.proofs.Numbers.{number_at-some, slice_at-some}
 use Rattle.goblin_base.proofs.Steps.{mapped, same_value, step}
 use Rattle.goblin_base.proofs.Fronts.{HaveFront, front-drop, front_then, number-front, record-front, slice-front}
 use Rattle.readings.specs.Reads.{pair_of}
 use Rattle.goblin_pe_sect.proofs.EntriesFront.{directories-front}
-use Rattle.goblin_pe_head.specs.declared.header.coff.CoffHeader.{CoffHeader}
-use Rattle.goblin_pe_head.specs.declared.header.dos.DosHeader.{DosHeader}
-use Rattle.goblin_pe_head.specs.declared.optional_header.OptionalHeader.{OptionalHeader}
-use Rattle.goblin_pe_head.specs.CoffHeader.{coff_fields, coff_header}
-use Rattle.goblin_pe_head.specs.DosHeader.{dos_fields, dos_record}
-use Rattle.goblin_pe_head.specs.DosStub.{default_stub}
+use Rattle.goblin_pe_head.specs.CoffHeader.{CoffHeader, coff_fields, coff_header}
+use Rattle.goblin_pe_head.specs.DosHeader.{DosHeader, dos_fields, dos_record}
+use Rattle.goblin_pe_head.specs.OptionalHeader.{OptionalHeader, standard_32_record, standard_64_record, standard_from_32, standard_from_64, windows_record}
+use Rattle.goblin_pe_head.specs.{DosStub.default_stub, RichHeader.rich_at, RichHeader.rich_in}
 use Rattle.goblin_pe_head.specs.HeaderLaws.{DosWritesBack, HeaderWritesBack, end_after, filling, filling_after, optional_size, HeaderReadsBack, header_end, OptionalWritesBack}
 use Rattle.goblin_pe_head.specs.HeaderReadings.{SignedParts, coff_parts, dos_header, dos_signature, header_of, optional_at, optional_header, parts_at, pe_header, pe_signature, signed_record, standard_by, stub_in, that_is, windows_by}
-use Rattle.goblin_pe_head.specs.OptionalHeader.{standard_32_record, standard_64_record, standard_from_32, standard_from_64, windows_record}
 use Rattle.goblin_pe_head.specs.PeHeader.{PeHeader, header_bytes, header_parts, written_part}
-use Rattle.goblin_pe_head.specs.RichHeader.{rich_at, rich_in}
 use Rattle.readings.proofs.Pairs.{both, strict_in_its_place}
-use Rattle.goblin_pe_head.proofs.CoffHeaderRoundTrip.{coff_back}
-use Rattle.goblin_pe_head.proofs.DosHeaderRoundTrip.{dos_back}
+use Rattle.goblin_pe_head.proofs.{CoffHeaderRoundTrip.coff_back, DosHeaderRoundTrip.dos_back}
 use Rattle.goblin_pe_head.proofs.OptionalHeaderRoundTrip.{optional_back}
 use Rattle.goblin_pe_head.proofs.OptionalParts.{IsOptionalOf, of_optional, optional_of}
 

@@ -7,10 +7,9 @@ use Rattle.readings.proofs.Modes.{repeats-beside, repeats-mapped, repeats-or_els
 use Rattle.goblin_pe_sect.specs.SectionReadings.{named_section_at}
 use Rattle.goblin_pe_sect.proofs.PermissiveReads.{repeats-named_section_at}
 use Rattle.goblin_pe_head.specs.CoffReadings as coff
-use Rattle.goblin_pe_head.specs.DosStub.{default_stub}
+use Rattle.goblin_pe_head.specs.{DosStub.default_stub, RichHeader.Rich}
 use Rattle.goblin_pe_head.specs.HeaderReadings as reading
 use Rattle.goblin_pe_head.specs.HeaderReadings.{SignedParts, header_of}
-use Rattle.goblin_pe_head.specs.RichHeader.{Rich}
 
 -- only the stub differs
 pub repeats-header : Repeats (reading.pe_header true) (reading.pe_header false)

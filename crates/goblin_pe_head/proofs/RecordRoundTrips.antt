@@ -2,15 +2,9 @@
 use Rattle.std.proofs.Common.{refl, arith}
 use Rattle.goblin_base.specs.Record.{WritesBack, FieldsFit, ReadsBack}
 use Rattle.goblin_base.proofs.RecordRoundTrip.{writes_back, reads_back}
-use Rattle.goblin_pe_head.specs.declared.header.rich.RichMetadata.{RichMetadata}
-use Rattle.goblin_pe_head.specs.declared.header.te.TeHeader.{TeHeader}
-use Rattle.goblin_pe_head.specs.declared.optional_header.standard_fields.StandardFields32.{StandardFields32}
-use Rattle.goblin_pe_head.specs.declared.optional_header.standard_fields.StandardFields64.{StandardFields64}
-use Rattle.goblin_pe_head.specs.declared.optional_header.windows_fields.WindowsFields32.{WindowsFields32}
-use Rattle.goblin_pe_head.specs.declared.optional_header.windows_fields.WindowsFields64.{WindowsFields64}
-use Rattle.goblin_pe_head.specs.OptionalHeader.{standard_32_record, standard_32_fields, standard_64_record, standard_64_fields, windows_32_record, windows_32_fields, windows_record, windows_record_fields}
-use Rattle.goblin_pe_head.specs.RichMetadata.{metadata_fields, metadata_record}
-use Rattle.goblin_pe_head.specs.TeHeader.{te_fields, te_record}
+use Rattle.goblin_pe_head.specs.RichMetadata.{RichMetadata, metadata_fields, metadata_record}
+use Rattle.goblin_pe_head.specs.TeHeader.{TeHeader, te_fields, te_record}
+use Rattle.goblin_pe_head.specs.OptionalHeader.{StandardFields32, StandardFields64, WindowsFields32, WindowsFields64, standard_32_record, standard_32_fields, standard_64_record, standard_64_fields, windows_32_record, windows_32_fields, windows_record, windows_record_fields}
 
 pub standard_32_back : WritesBack 28 standard_32_record standard_32_fields
 standard_32_back = writes_back 28 standard_32_record standard_32_fields refl (λ endian own bytes. refl)

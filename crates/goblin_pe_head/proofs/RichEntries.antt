@@ -4,8 +4,7 @@ use Rattle.std.proofs.lemmas.Bool.{cases_lt}
 use Rattle.goblin_base.specs.declared.error.ErrorOf.TheVariants.{Read}
 use Rattle.goblin_base.specs.declared.error.ReadFault.TheVariants.{TooBig}
 use Rattle.goblin_base.proofs.RecordItems.{length-record_items, record_items-more, record_items-none, record_items-rest, rest_item-none, rest_item-one}
-use Rattle.goblin_pe_head.specs.declared.header.rich.RichMetadata.{RichMetadata}
-use Rattle.goblin_pe_head.specs.RichMetadata.{metadata_at, metadata_items}
+use Rattle.goblin_pe_head.specs.RichMetadata.{RichMetadata, metadata_at, metadata_items}
 
 -- a whole entry comes first, then those after it
 pub items_more : (key : ℕ) (bytes : List ℕ) → 8 ≤ length bytes → metadata_items key bytes ≡ Ok (metadata_at key (take 8 bytes) 0) ∷ metadata_items key (drop 8 bytes)

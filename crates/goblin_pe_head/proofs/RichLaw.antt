@@ -1,23 +1,17 @@
 -- The entries of a Rich header that was read are its data.
 use Rattle.std.proofs.Common.{◌≡◌, ℕ, Bool, zero, suc, ◌+◌, ◌-◌, ◌*◌, ◌/◌, ◌%◌, ◌<◌, ◌≤◌, List, ◌++◌, length, map, take, drop, take_all, refl, sym, ap, subst, ◌∙◌, inl, inr, arith, ◌&&◌, ◌==◌, nat_lt, Option, Some, None, slice_range, flat_map, take-add, unwrap_or}
-use Rattle.std.specs.List.{range_with_len}
-use Rattle.std.specs.Int.Bits.{bit_xor}
+use Rattle.std.specs.{List.range_with_len, Int.Bits.bit_xor}
 use Rattle.std.proofs.lemmas.Bool.{cases_lt, eqb-true, and_parts}
 use Rattle.std.proofs.lemmas.List.{drop-drop, length-drop, length-take, length-take-le, take-append-drop}
-use Rattle.std.proofs.lemmas.List.Concat.{flat_map-cons}
-use Rattle.std.proofs.lemmas.Option.{cond_some}
-use Rattle.goblin_base.specs.declared.endian.Endian.TheVariants.{Little}
-use Rattle.goblin_base.specs.Bytes.{IsBytes, number_bytes}
-use Rattle.goblin_base.specs.Tables.{record_items, records_in}
-use Rattle.goblin_base.proofs.Numbers.{rest_is_drop}
-use Rattle.goblin_base.proofs.Parts.{find_is}
+use Rattle.std.proofs.{lemmas.List.Concat.flat_map-cons, lemmas.Option.cond_some}
+use Rattle.goblin_base.specs.{declared.endian.Endian.TheVariants.Little, Bytes.IsBytes}
+use Rattle.goblin_base.specs.{Bytes.number_bytes, Tables.record_items, Tables.records_in}
+use Rattle.goblin_base.proofs.{Numbers.rest_is_drop, Parts.find_is, Steps.same_value}
 use Rattle.goblin_base.proofs.RecordRoundTrip.{bytes_after, IsBytes-range, IsBytes-slice, IsBytes-take, length-slice, slice-is, number_bytes-number}
-use Rattle.goblin_base.proofs.Steps.{same_value}
 use Rattle.goblin_pe_head.specs.HeaderReadings.{rich_header}
 use Rattle.goblin_pe_head.specs.RichHeader.{Rich, leading_words, least_below, marker_place, other_place, rich_between, rich_value, word_at}
-use Rattle.goblin_pe_head.specs.RichMetadata.{AreEntriesOf, metadata_at, metadata_items, stored_entry, word_under}
+use Rattle.goblin_pe_head.specs.RichMetadata.{AreEntriesOf, metadata_at, metadata_items, stored_entry, word_under, RichMetadata}
 use Rattle.goblin_pe_head.specs.declared.header.rich.RichHeader.{RichHeader}
-use Rattle.goblin_pe_head.specs.declared.header.rich.RichMetadata.{RichMetadata}
 use Rattle.goblin_pe_head.proofs.RichPlaces.{before_marker, between, long_enough, of_file, stored, stored-high}
 use Rattle.goblin_pe_head.proofs.WordPlaces.{cancelled}
 

@@ -3,12 +3,11 @@ use Rattle.std.proofs.Common.{◌≡◌, ℕ, Bool, true, false, cond, ◌+◌, 
 use Rattle.std.specs.Int.Bits.{bit_xor}
 use Rattle.std.proofs.lemmas.Bool.{eqb-true, eq-eqb, ltb-true}
 use Rattle.goblin_base.specs.declared.endian.Endian.TheVariants.{Little}
-use Rattle.goblin_base.proofs.Fronts.{HaveFront, slice-front}
-use Rattle.goblin_base.proofs.Numbers.{number-slice, read_number}
-use Rattle.goblin_base.proofs.Parts.{find_is, find_none, least_place-high}
+use Rattle.goblin_base.proofs.{Fronts.HaveFront, Fronts.slice-front, Numbers.number-slice}
+use Rattle.goblin_base.proofs.{Numbers.read_number, Parts.find_is, Parts.find_none}
+use Rattle.goblin_base.proofs.{Parts.least_place-high, Steps.mapped, Steps.same_value, Steps.step}
 use Rattle.std.proofs.lemmas.Option.{cond_some}
-use Rattle.goblin_base.proofs.Steps.{mapped, same_value, step}
-use Rattle.goblin_pe_head.specs.declared.header.dos.DosHeader.{DosHeader}
+use Rattle.goblin_pe_head.specs.DosHeader.{DosHeader}
 use Rattle.goblin_pe_head.specs.HeaderLaws.{IsDansAt, IsLeast, IsMarked, IsMarkerAt, RichIsMarked, RichIsUnmarked}
 use Rattle.goblin_pe_head.specs.HeaderReadings.{dos_header, rich_header}
 use Rattle.goblin_pe_head.specs.RichHeader.{Rich, dans_place, is_rich, least_below, marker_place, rich_between, word_at, rich_at, rich_before, rich_in}

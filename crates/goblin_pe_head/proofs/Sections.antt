@@ -1,20 +1,16 @@
 -- Sections one after the other: where one is missing, and what is answered of those that are moved.
 use Rattle.std.proofs.Common.{◌≡◌, ℕ, ◌+◌, ◌*◌, ◌/◌, ◌-◌, ◌<◌, ◌≤◌, Bool, true, false, List, length, ◌∙◌, arith, ap, map, refl, inr, sym, Result, Ok, Err, None, Option, Some, nat_le, option_map}
 use Rattle.std.specs.List.{range_with_len}
-use Rattle.std.proofs.lemmas.Simd.{map-map}
-use Rattle.std.proofs.lemmas.Bool.{lt-leb}
-use Rattle.std.proofs.Math.Bool.{and-false}
+use Rattle.std.proofs.{lemmas.Simd.map-map, lemmas.Bool.lt-leb, Math.Bool.and-false}
 use Rattle.goblin_base.specs.declared.error.CauseOf.TheVariants.{StrippedSize}
-use Rattle.goblin_base.specs.declared.error.ErrorOf.{ErrorOf}
+use Rattle.goblin_base.specs.{declared.error.ErrorOf.ErrorOf, Answers.all_at, Answers.all_of}
 use Rattle.goblin_base.specs.Reading.{Reading, Reads, ReadsOrMemory}
-use Rattle.goblin_base.specs.Answers.{all_at, all_of}
 use Rattle.goblin_base.proofs.Steps.{all_at-none, all_of-map, unmapped}
 use Rattle.readings.specs.Reads.{◌>>=◌, each, mapped, needs}
 use Rattle.goblin_pe_sect.specs.SectionReadings.{named_section_at}
 use Rattle.goblin_pe_sect.specs.SectionTable.{Section, unnamed}
-use Rattle.goblin_pe_head.specs.declared.header.te.TeHeader.{TeHeader}
+use Rattle.goblin_pe_head.specs.TeHeader.{TeHeader, displacement, section_adjusted, section_moved, moved_section, moved_sections, te_sections_at}
 use Rattle.goblin_pe_head.specs.CoffReadings.{sections_at, with_room}
-use Rattle.goblin_pe_head.specs.TeHeader.{displacement, section_adjusted, section_moved, moved_section, moved_sections, te_sections_at}
 
 -- ---- a section that is moved
 

@@ -6,8 +6,7 @@ use Rattle.std.proofs.lemmas.Bool.{cases_eq, cases_lt, eqb-true, eq-eqb, false_f
 use Rattle.std.proofs.lemmas.Simd.{bitmask_splat, length-chunk, none_from_empty_mask, run_in_chunk_fails, run_in_chunk_le, trailing_mask_l}
 use lib.Count.{count_trailing_zeros}
 use lib.Lanes.{chunk, mask_l, top, zip2}
-use Rattle.goblin_base.specs.declared.endian.Endian.TheVariants.{Little}
-use Rattle.goblin_base.specs.Bytes.{number}
+use Rattle.goblin_base.specs.{declared.endian.Endian.TheVariants.Little, Bytes.number}
 use Rattle.goblin_base.proofs.First.{find_same}
 use Rattle.goblin_pe_head.specs.RichHeader.{dans_place, is_dans, least_below, word_at}
 

@@ -4,8 +4,7 @@ use Rattle.goblin_base.specs.declared.endian.Endian.{Endian}
 use Rattle.goblin_base.specs.declared.endian.Endian.TheVariants.{Little}
 use Rattle.goblin_base.specs.Record.{encoding, uint}
 use Rattle.goblin_base.proofs.Writing.{length_encoding}
-use Rattle.goblin_pe_head.specs.CoffHeader.{coff_fields}
-use Rattle.goblin_pe_head.specs.DosHeader.{dos_fields}
+use Rattle.goblin_pe_head.specs.{CoffHeader.coff_fields, DosHeader.dos_fields}
 use Rattle.goblin_pe_head.specs.PeHeader.{PeHeader, header_parts}
 
 length-dos : (endian : Endian) (h : PeHeader) → length (encoding endian (dos_fields h.dos_header)) ≡ 64

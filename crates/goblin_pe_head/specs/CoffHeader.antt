@@ -1,12 +1,9 @@
 -- The COFF header: its record, and the places of the tables that it leads to.
 use Rattle.std.specs.Prelude.{◌+◌, ◌*◌, ◌/◌, ℕ, ◌==◌, if◌then◌else◌, List, [], ◌∷◌, codes, length}
 use Rattle.std.specs.Prelude.{Option, Some, None}
-use Rattle.goblin_base.specs.declared.endian.Endian.{Endian}
-use Rattle.goblin_base.specs.declared.error.ErrorOf.{ErrorOf}
-use Rattle.goblin_base.specs.Bytes.{number}
-use Rattle.goblin_base.specs.Record.{FieldValue, uint}
-use Rattle.goblin_base.specs.Answers.{IsTooShort}
-use Rattle.goblin_pe_head.specs.declared.header.coff.CoffHeader.{CoffHeader}
+use Rattle.goblin_base.specs.{declared.endian.Endian.Endian, declared.error.ErrorOf.ErrorOf}
+use Rattle.goblin_base.specs.{Bytes.number, Record.FieldValue, Record.uint, Answers.IsTooShort}
+pub use Rattle.goblin_pe_head.specs.declared.header.coff.CoffHeader.{CoffHeader}
 
 -- Source: PE Format, "COFF File Header (Object and Image)", "COFF Symbol Table" and "COFF String
 -- Table".

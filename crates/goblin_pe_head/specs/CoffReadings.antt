@@ -4,16 +4,12 @@ use Rattle.std.specs.Prelude.{Option, None, Some}
 use Rattle.std.proofs.Common.{inl, inr}
 use Rattle.goblin_base.specs.declared.endian.Endian.TheVariants.{Little}
 use Rattle.goblin_base.specs.declared.error.CauseOf.TheVariants.{CoffLength}
-use Rattle.goblin_base.specs.declared.error.ErrorOf.{ErrorOf}
-use Rattle.goblin_base.specs.Answers.{IsMemory}
-use Rattle.goblin_base.specs.Reading.{Reading}
+use Rattle.goblin_base.specs.{declared.error.ErrorOf.ErrorOf, Answers.IsMemory, Reading.Reading}
 use Rattle.goblin_base.proofs.Picks.{by_cases-not_memory}
 use Rattle.readings.specs.Reads.{◌>>=◌, because_by, each, given, mapped, needs, number_at, pick}
 use Rattle.readings.specs.Reads.{slice_at, string_table}
-use Rattle.goblin_pe_sect.specs.SectionReadings.{named_section_at}
-use Rattle.goblin_pe_sect.specs.SectionTable.{Section}
-use Rattle.goblin_pe_head.specs.declared.header.coff.CoffHeader.{CoffHeader}
-use Rattle.goblin_pe_head.specs.CoffHeader.{IsTooManySections, string_table_offset}
+use Rattle.goblin_pe_sect.specs.{SectionReadings.named_section_at, SectionTable.Section}
+use Rattle.goblin_pe_head.specs.CoffHeader.{CoffHeader, IsTooManySections, string_table_offset}
 
 -- Source: PE Format, "Section Table (Section Headers)", "COFF Symbol Table" and "COFF String
 -- Table".

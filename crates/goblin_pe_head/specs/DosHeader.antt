@@ -1,10 +1,9 @@
 -- The DOS header: its record.
 use Rattle.std.specs.Prelude.{ℕ, List, [], ◌∷◌, ◌++◌, map, slice_index}
 use Rattle.std.specs.List.{range_with_len}
-use Rattle.goblin_base.specs.declared.endian.Endian.{Endian}
-use Rattle.goblin_base.specs.Bytes.{number}
+use Rattle.goblin_base.specs.{declared.endian.Endian.Endian, Bytes.number}
 use Rattle.goblin_base.specs.Record.{FieldValue, uint, numbers}
-use Rattle.goblin_pe_head.specs.declared.header.dos.DosHeader.{DosHeader}
+pub use Rattle.goblin_pe_head.specs.declared.header.dos.DosHeader.{DosHeader}
 
 -- Source: PE Format, "MS-DOS Stub (Image Only)" and "Signature (Image Only)"; the fields are those
 -- of a DOS executable.

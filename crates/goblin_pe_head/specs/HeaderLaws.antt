@@ -9,15 +9,14 @@ use Rattle.goblin_base.specs.Bytes.{IsBytes, overwritten, slice_at}
 use Rattle.goblin_base.specs.Record.{FieldsFit, ReadsBack, encoding}
 use Rattle.goblin_pe_sect.specs.declared.data_directories.DataDirectory.{DataDirectory}
 use Rattle.goblin_pe_sect.specs.DataDirectories.{directory_fields, directory_or_zeros, entry_ending}
-use Rattle.goblin_pe_head.specs.declared.header.dos.DosHeader.{DosHeader}
-use Rattle.goblin_pe_head.specs.declared.optional_header.OptionalHeader.{OptionalHeader}
-use Rattle.goblin_pe_head.specs.DosHeader.{dos_fields}
+use Rattle.goblin_pe_head.specs.DosHeader.{DosHeader, dos_fields}
+use Rattle.goblin_pe_head.specs.OptionalHeader.{OptionalHeader, fields_size, optional_bytes}
+use Rattle.goblin_pe_head.specs.OptionalHeader.{standard_32_fields, standard_32_record}
+use Rattle.goblin_pe_head.specs.OptionalHeader.{standard_64_fields, standard_64_record}
+use Rattle.goblin_pe_head.specs.OptionalHeader.{standard_to_32, standard_to_64, windows_32_fields}
+use Rattle.goblin_pe_head.specs.OptionalHeader.{windows_32_record, windows_record_fields}
+use Rattle.goblin_pe_head.specs.OptionalHeader.{windows_record, windows_to_32}
 use Rattle.goblin_pe_head.specs.HeaderReadings.{dos_header, optional_header, pe_header, rich_header}
-use Rattle.goblin_pe_head.specs.OptionalHeader.{fields_size, optional_bytes, standard_32_fields}
-use Rattle.goblin_pe_head.specs.OptionalHeader.{standard_32_record, standard_64_fields}
-use Rattle.goblin_pe_head.specs.OptionalHeader.{standard_64_record, standard_to_32, standard_to_64}
-use Rattle.goblin_pe_head.specs.OptionalHeader.{windows_32_fields, windows_32_record}
-use Rattle.goblin_pe_head.specs.OptionalHeader.{windows_record_fields, windows_record, windows_to_32}
 use Rattle.goblin_pe_head.specs.PeHeader.{PeHeader, header_bytes}
 use Rattle.goblin_pe_head.specs.RichHeader.{Rich, word_at, rich_in}
 

@@ -3,30 +3,23 @@ use Rattle.std.specs.Prelude.{◌≡◌, ℕ, ◌+◌, ◌*◌, ◌<◌, ◌≤�
 use Rattle.std.specs.Prelude.{Option, None, Some, length}
 use Rattle.goblin_base.specs.declared.endian.Endian.TheVariants.{Little}
 use Rattle.goblin_base.specs.declared.error.CauseOf.{CauseOf}
+use Rattle.goblin_base.specs.{declared.error.ErrorOf.TheVariants.Malformed, Reading.Reading}
 use Rattle.goblin_base.specs.declared.error.CauseOf.TheVariants.{DosMagic, NoDosSignature, PeMagic}
 use Rattle.goblin_base.specs.declared.error.CauseOf.TheVariants.{NoPePointer, NoPeSignature}
-use Rattle.goblin_base.specs.declared.error.ErrorOf.TheVariants.{Malformed}
-use Rattle.goblin_base.specs.Reading.{Reading}
-use Rattle.goblin_base.proofs.Picks.{by_cases-not_memory}
-use Rattle.goblin_base.proofs.Readings.{malformed-not_memory}
+use Rattle.goblin_base.proofs.{Picks.by_cases-not_memory, Readings.malformed-not_memory}
 use Rattle.readings.specs.Reads.{◌>>=◌, ◌beside◌, because, because_by, bytes_between, checked, pick}
 use Rattle.readings.specs.Reads.{given, in_rest, mapped, needs_by, number_at, or_else, record_at}
 use Rattle.goblin_pe_sect.specs.declared.data_directories.DataDirectory.{DataDirectory}
 use Rattle.goblin_pe_sect.specs.DirectoryReadings.{directories_at}
-use Rattle.goblin_pe_head.specs.declared.header.coff.CoffHeader.{CoffHeader}
-use Rattle.goblin_pe_head.specs.declared.header.dos.DosHeader.{DosHeader}
-use Rattle.goblin_pe_head.specs.declared.optional_header.FixedFields.{FixedFields}
-use Rattle.goblin_pe_head.specs.declared.optional_header.OptionalHeader.{OptionalHeader}
-use Rattle.goblin_pe_head.specs.declared.optional_header.standard_fields.StandardFields.{StandardFields}
-use Rattle.goblin_pe_head.specs.declared.optional_header.windows_fields.WindowsFields64.{WindowsFields64}
-use Rattle.goblin_pe_head.specs.CoffHeader.{coff_header}
-use Rattle.goblin_pe_head.specs.DosHeader.{dos_record}
-use Rattle.goblin_pe_head.specs.DosStub.{IsStubFault, default_stub}
-use Rattle.goblin_pe_head.specs.OptionalHeader.{IsBadMagic, windows_record}
-use Rattle.goblin_pe_head.specs.OptionalHeader.{fields_size, standard_32_record, standard_64_record}
+use Rattle.goblin_pe_head.specs.{CoffHeader.CoffHeader, CoffHeader.coff_header, DosHeader.DosHeader}
+use Rattle.goblin_pe_head.specs.{DosHeader.dos_record, DosStub.IsStubFault, DosStub.default_stub}
+use Rattle.goblin_pe_head.specs.{PeHeader.PeHeader, PeHeader.zero_dos_header, RichHeader.Rich}
+use Rattle.goblin_pe_head.specs.RichHeader.{rich_at}
+pub use Rattle.goblin_pe_head.specs.declared.optional_header.FixedFields.{FixedFields}
+use Rattle.goblin_pe_head.specs.OptionalHeader.{OptionalHeader, StandardFields, WindowsFields64}
+use Rattle.goblin_pe_head.specs.OptionalHeader.{IsBadMagic, windows_record, fields_size}
+use Rattle.goblin_pe_head.specs.OptionalHeader.{standard_32_record, standard_64_record}
 use Rattle.goblin_pe_head.specs.OptionalHeader.{standard_from_32, standard_from_64}
-use Rattle.goblin_pe_head.specs.PeHeader.{PeHeader, zero_dos_header}
-use Rattle.goblin_pe_head.specs.RichHeader.{Rich, rich_at}
 
 -- Source: PE Format, "File Headers".
 

@@ -3,10 +3,8 @@ use Rattle.std.proofs.Common.{◌≡◌, ℕ, ◌+◌, ◌*◌, ◌≤◌, ◌&&
 use Rattle.std.proofs.Common.{nat_le, List, length, Option, Some, None, refl}
 use Rattle.std.specs.Prelude.{IfSome, option_map, slice_range}
 use Rattle.std.proofs.lemmas.Bool.{leb-true}
-use Rattle.goblin_base.specs.declared.endian.Endian.TheVariants.{Little}
-use Rattle.goblin_base.specs.Answers.{◌>>=◌}
-use Rattle.goblin_base.specs.Bytes.{number_at}
-use Rattle.goblin_base.specs.Record.{record_at}
+use Rattle.goblin_base.specs.{declared.endian.Endian.TheVariants.Little, Answers.◌>>=◌}
+use Rattle.goblin_base.specs.{Bytes.number_at, Record.record_at}
 use Rattle.readings.specs.Reads.{pair_of}
 use Rattle.goblin_pe_sect.specs.DirectoryReadings.{directories_at}
 use Rattle.goblin_pe_sect.proofs.EntriesWithin.{directories-within}

@@ -3,17 +3,12 @@ use Rattle.std.specs.List.{concat}
 use Rattle.std.specs.Prelude.{ℕ, List, [], ◌∷◌, replicate, Option, Some, None, option_map}
 use Rattle.goblin_base.specs.declared.endian.Endian.{Endian}
 use Rattle.goblin_base.specs.declared.endian.Endian.TheVariants.{Little}
-use Rattle.goblin_base.specs.declared.error.ErrorOf.{ErrorOf}
-use Rattle.goblin_base.specs.Record.{encoding, uint}
-use Rattle.goblin_pe_head.specs.declared.header.coff.CoffHeader.{CoffHeader}
-use Rattle.goblin_pe_head.specs.declared.header.dos.DosHeader.{DosHeader}
-use Rattle.goblin_pe_head.specs.declared.header.pe_header.Header.{Header}
-use Rattle.goblin_pe_head.specs.declared.optional_header.OptionalHeader.{OptionalHeader}
-use Rattle.goblin_pe_head.specs.CoffHeader.{coff_fields}
-use Rattle.goblin_pe_head.specs.DosHeader.{dos_fields}
-use Rattle.goblin_pe_head.specs.DosStub.{default_stub, stub_bytes}
-use Rattle.goblin_pe_head.specs.OptionalHeader.{IsUnwritten, optional_bytes}
-use Rattle.goblin_pe_head.specs.RichHeader.{Rich, rich_value}
+use Rattle.goblin_base.specs.{declared.error.ErrorOf.ErrorOf, Record.encoding, Record.uint}
+use Rattle.goblin_pe_head.specs.{CoffHeader.CoffHeader, CoffHeader.coff_fields, DosHeader.DosHeader}
+use Rattle.goblin_pe_head.specs.{DosHeader.dos_fields, declared.header.pe_header.Header.Header}
+use Rattle.goblin_pe_head.specs.{DosStub.default_stub, DosStub.stub_bytes, RichHeader.Rich}
+use Rattle.goblin_pe_head.specs.RichHeader.{rich_value}
+use Rattle.goblin_pe_head.specs.OptionalHeader.{OptionalHeader, IsUnwritten, optional_bytes}
 
 -- Source: PE Format, "File Headers".
 

@@ -2,17 +2,13 @@
 -- offsets count from the front of that stretch.
 use Rattle.std.specs.Prelude.{if◌then◌else◌, slice_range, nat_lt, length, Option, Bool, ◌==◌, ◌&&◌}
 use Rattle.std.specs.Prelude.{List, Some, None, ◌≡◌, ◌≢◌, ◌<◌, ◌≤◌, ◌+◌, ◌-◌, ◌*◌, ◌/◌, ◌%◌, not, ℕ}
-use Rattle.std.specs.List.{find, range_with_len}
-use Rattle.std.specs.Option.{unwrap_or}
-use Rattle.std.specs.Int.Bits.{bit_xor}
+use Rattle.std.specs.{List.find, List.range_with_len, Option.unwrap_or, Int.Bits.bit_xor}
 use Rattle.goblin_base.specs.declared.endian.Endian.TheVariants.{Little}
 use Rattle.goblin_base.specs.declared.error.ErrorOf.{ErrorOf}
+use Rattle.goblin_base.specs.{declared.error.ReadFault.TheVariants.TooBig, Bytes.number}
+use Rattle.goblin_base.specs.{Parts.least_place, Reading.Reading}
 use Rattle.goblin_base.specs.declared.error.ErrorOf.TheVariants.{Malformed, Read}
 use Rattle.goblin_base.specs.declared.error.CauseOf.TheVariants.{RichBounds, NoDans}
-use Rattle.goblin_base.specs.declared.error.ReadFault.TheVariants.{TooBig}
-use Rattle.goblin_base.specs.Bytes.{number}
-use Rattle.goblin_base.specs.Parts.{least_place}
-use Rattle.goblin_base.specs.Reading.{Reading}
 use Rattle.goblin_base.proofs.Picks.{by_cases-not_memory}
 use Rattle.readings.specs.Reads.{◌>>=◌, because, checked, front_through, given, in_slice, or_none}
 use Rattle.readings.specs.Reads.{pick}

@@ -4,11 +4,9 @@ use Rattle.std.specs.Prelude.{length, Result, Ok}
 use Rattle.std.specs.Int.Bits.{bit_xor}
 use Rattle.goblin_base.specs.declared.endian.Endian.{Endian}
 use Rattle.goblin_base.specs.declared.endian.Endian.TheVariants.{Little}
-use Rattle.goblin_base.specs.declared.error.ErrorOf.{ErrorOf}
-use Rattle.goblin_base.specs.Bytes.{number, number_bytes}
-use Rattle.goblin_base.specs.Record.{FieldValue, uint}
-use Rattle.goblin_base.specs.Tables.{record_items, rest_item}
-use Rattle.goblin_pe_head.specs.declared.header.rich.RichMetadata.{RichMetadata}
+use Rattle.goblin_base.specs.{declared.error.ErrorOf.ErrorOf, Bytes.number, Bytes.number_bytes}
+use Rattle.goblin_base.specs.{Record.FieldValue, Record.uint, Tables.record_items, Tables.rest_item}
+pub use Rattle.goblin_pe_head.specs.declared.header.rich.RichMetadata.{RichMetadata}
 use Rattle.goblin_pe_head.specs.declared.header.rich.RichMetadataIterator.{RichMetadataIterator}
 use Rattle.goblin_pe_head.specs.RichHeader.{word_at}
 

@@ -2,19 +2,15 @@
 -- stored, these still say where things were before the headers of the PE file were stripped.
 use Rattle.std.specs.Prelude.{◌≡◌, ℕ, ◌+◌, ◌-◌, ◌%◌, ◌^◌, ◌==◌, if◌then◌else◌, nat_le, List, []}
 use Rattle.std.specs.Prelude.{◌∷◌, Option, Some, None, ◌*◌, true, Bool, option_map}
-use Rattle.goblin_base.specs.declared.endian.Endian.{Endian}
-use Rattle.goblin_base.specs.declared.error.ErrorOf.{ErrorOf}
+use Rattle.goblin_base.specs.{declared.endian.Endian.Endian, declared.error.ErrorOf.ErrorOf}
 use Rattle.goblin_base.specs.declared.error.ErrorOf.TheVariants.{Malformed}
-use Rattle.goblin_base.specs.declared.error.CauseOf.TheVariants.{StrippedSize}
-use Rattle.goblin_base.specs.Bytes.{number}
+use Rattle.goblin_base.specs.{declared.error.CauseOf.TheVariants.StrippedSize, Bytes.number}
+use Rattle.goblin_base.specs.{declared.endian.Endian.TheVariants.Little, Reading.Reading}
 use Rattle.goblin_base.specs.Record.{FieldValue, uint}
-use Rattle.goblin_base.specs.declared.endian.Endian.TheVariants.{Little}
-use Rattle.goblin_base.specs.Reading.{Reading}
 use Rattle.goblin_base.proofs.Readings.{malformed-not_memory}
 use Rattle.readings.specs.Reads.{◌>>=◌, checked, each, mapped, needs, record_at}
-use Rattle.goblin_pe_sect.specs.SectionTable.{Section}
-use Rattle.goblin_pe_sect.specs.SectionReadings.{named_section_at}
-use Rattle.goblin_pe_head.specs.declared.header.te.TeHeader.{TeHeader}
+use Rattle.goblin_pe_sect.specs.{SectionTable.Section, SectionReadings.named_section_at}
+pub use Rattle.goblin_pe_head.specs.declared.header.te.TeHeader.{TeHeader}
 use Rattle.goblin_pe_head.specs.CoffReadings.{with_room}
 
 -- Source: UEFI Platform Initialization Specification, volume 1, "TE Image".

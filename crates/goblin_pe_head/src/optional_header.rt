@@ -5,21 +5,18 @@
 
 ghost use Rattle.std.specs.Prelude.{◌≡◌, ◌≤◌, length, IfErr, IfOk, IfSome, IsSomeAnd, None, OnErr};
 ghost use Rattle.std.specs.Prelude.{OnOk, Some, option_and_then, option_map};
-ghost use Rattle.goblin_base.specs.Reading.{Reads};
+ghost use Rattle.goblin_base.specs.{Reading.Reads, Bytes.overwritten, Record.ReadsBack};
 ghost use Rattle.goblin_base.specs.Answers.{Answers, Writes, IsSliceFault, FirstFault};
-ghost use Rattle.goblin_base.specs.Bytes.{overwritten};
-ghost use Rattle.goblin_base.specs.Record.{ReadsBack};
-ghost use Rattle.goblin_pe_head.specs.declared.optional_header.OptionalHeader.{OptionalHeader};
-ghost use Rattle.goblin_pe_head.specs.HeaderLaws.{FieldsReadBack, OptionalWritesBack};
-ghost use Rattle.goblin_pe_head.specs.HeaderReadings as reading;
-ghost use Rattle.goblin_pe_head.specs.OptionalHeader.{IsBadMagic, IsUnwritten, fields_size};
-ghost use Rattle.goblin_pe_head.specs.OptionalHeader.{IsTooWide, bytes_32, bytes_64};
+ghost use Rattle.goblin_pe_head.specs.OptionalHeader.{OptionalHeader, IsBadMagic, IsUnwritten};
+ghost use Rattle.goblin_pe_head.specs.OptionalHeader.{fields_size, IsTooWide, bytes_32, bytes_64};
 ghost use Rattle.goblin_pe_head.specs.OptionalHeader.{container_of, optional_bytes, standard_to_32};
 ghost use Rattle.goblin_pe_head.specs.OptionalHeader.{standard_32_fields, standard_32_record};
 ghost use Rattle.goblin_pe_head.specs.OptionalHeader.{standard_64_fields, standard_64_record};
 ghost use Rattle.goblin_pe_head.specs.OptionalHeader.{standard_to_64, windows_to_32, written_bytes};
 ghost use Rattle.goblin_pe_head.specs.OptionalHeader.{windows_32_fields, windows_32_record};
 ghost use Rattle.goblin_pe_head.specs.OptionalHeader.{windows_record_fields, windows_record};
+ghost use Rattle.goblin_pe_head.specs.HeaderLaws.{FieldsReadBack, OptionalWritesBack};
+ghost use Rattle.goblin_pe_head.specs.HeaderReadings as reading;
 ghost use Rattle.goblin_pe_head.specs.OptionalHeaderLaws.{optional_header-within};
 
 use goblin_base::{

@@ -3,29 +3,24 @@ use Rattle.std.proofs.Common.{◌≡◌, ℕ, zero, suc, ◌+◌, ◌*◌, ◌/�
 use Rattle.std.specs.List.{range_with_len}
 use Rattle.std.proofs.lemmas.Option.{get_or_from_slice_get, slice_get_within}
 use Rattle.std.proofs.lemmas.List.{length-append, length-map}
-use Rattle.std.proofs.lemmas.List.FromFn.{length-range_with_len}
+use Rattle.std.proofs.{lemmas.List.FromFn.length-range_with_len, lemmas.Nat.le-div}
 use Rattle.std.proofs.lemmas.List.Sums.{sum_by-append, sum_by_more}
-use Rattle.std.proofs.lemmas.Nat.{le-div}
-use Rattle.goblin_base.specs.Answers.{◌>>=◌, all_of}
+use Rattle.goblin_base.specs.{Answers.◌>>=◌, Answers.all_of, Reading.Reading}
 use Rattle.goblin_base.specs.Tables.{Format, SlotFormat, each_below, ends_table, least, or_left_out, slot_at, slot_place, slot_table, stop}
 use Rattle.goblin_base.proofs.Below.{join-parts, least-before}
-use Rattle.goblin_base.proofs.Records.{record_at-some}
+use Rattle.goblin_base.proofs.{Records.record_at-some, Kept.without_test, TextEnds.cond_some_by}
 use Rattle.goblin_base.proofs.Steps.{mapped, same_value, step}
 use Rattle.goblin_pe_sect.specs.AddressReadings as address
 use Rattle.goblin_pe_sect.specs.Addresses.{Addressing}
-use Rattle.goblin_pe_import.specs.declared.import.directory_entry.ImportDirectoryEntry.{ImportDirectoryEntry}
-use Rattle.goblin_pe_import.specs.ImportBound.{AreFew}
+use Rattle.goblin_pe_import.specs.ImportRecords.{ImportDirectoryEntry}
+use Rattle.goblin_pe_import.specs.{ImportBound.AreFew, ImportEntries.LookupEntry.ByOrdinal}
 use Rattle.goblin_pe_import.specs.ImportReadings as directory
 use Rattle.goblin_pe_import.specs.ImportRecords.{ImportedLibrary, import_slots, lookup_offset}
 use Rattle.goblin_pe_import.specs.ImportEntries.{EntryValue, LookupEntry, entry_slots}
-use Rattle.goblin_pe_import.specs.ImportEntries.LookupEntry.{ByOrdinal}
 use Rattle.goblin_pe_import.specs.LookupReadings as reading
-use Rattle.goblin_base.specs.Reading.{Reading}
 use Rattle.readings.specs.Reads.{given, in_its_place, pair_of}
 use Rattle.goblin_pe_import.specs.Imports.{ImportValue, has_slots, import_at, imports_by, imports_of, kept_count, kept_entries, library_imports}
-use Rattle.goblin_base.proofs.Kept.{without_test}
 use Rattle.goblin_base.proofs.SlotTables as SlotTables
-use Rattle.goblin_base.proofs.TextEnds.{cond_some_by}
 use Rattle.readings.proofs.Pairs.{both, with_slots-both}
 
 -- ---- tables of slots

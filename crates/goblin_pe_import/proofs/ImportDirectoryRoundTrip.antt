@@ -2,8 +2,7 @@
 use Rattle.std.proofs.Common.{refl, arith}
 use Rattle.goblin_base.specs.Record.{FieldsFit, ReadsBack, WritesBack}
 use Rattle.goblin_base.proofs.RecordRoundTrip.{reads_back, writes_back}
-use Rattle.goblin_pe_import.specs.declared.import.directory_entry.ImportDirectoryEntry.{ImportDirectoryEntry}
-use Rattle.goblin_pe_import.specs.ImportRecords.{import_fields, import_record}
+use Rattle.goblin_pe_import.specs.ImportRecords.{ImportDirectoryEntry, import_fields, import_record}
 
 pub import_record_back : WritesBack 20 import_record import_fields
 import_record_back = writes_back 20 import_record import_fields refl (λ endian own h. refl)

@@ -4,14 +4,12 @@ use Rattle.std.specs.List.{position_or_len}
 use Rattle.std.proofs.lemmas.Bool.{not-false, not-true}
 use Rattle.std.proofs.lemmas.Option.{slice_get-get_or, slice_get-map, slice_get_within}
 use Rattle.goblin_base.specs.declared.error.ErrorOf.TheVariants.{Malformed}
-use Rattle.goblin_base.specs.declared.error.CauseOf.TheVariants.{SlotCount}
-use Rattle.goblin_base.specs.Tables.{each_below, join}
+use Rattle.goblin_base.specs.{declared.error.CauseOf.TheVariants.SlotCount, Tables.each_below}
+use Rattle.goblin_base.specs.{Tables.join, Answers.◌>>=◌, Answers.all_at}
 use Rattle.goblin_base.proofs.Below.{each_below-missing, each_below-next}
-use Rattle.goblin_base.specs.Answers.{◌>>=◌, all_at}
 use Rattle.goblin_base.proofs.Steps.{all_at-more, all_at-none, all_at-zero, unmapped}
 use Rattle.goblin_base.proofs.First.{found_at_first, found_passes, none_passes}
-use Rattle.goblin_pe_import.specs.ImportLookup.{LookupEntry}
-use Rattle.goblin_pe_import.specs.ImportRecords.{ImportedLibrary}
+use Rattle.goblin_pe_import.specs.{ImportLookup.LookupEntry, ImportRecords.ImportedLibrary}
 use Rattle.goblin_pe_import.specs.Imports.{ImportValue, IsImportListFault, IsSlotCount, first_without_slots, has_slots, import_at, import_of, import_offset, imports_by, imports_of, kept_entries, library_imports}
 
 -- over a table's entries and slots

@@ -1,22 +1,18 @@
 -- The libraries of a directory with the indexes of their records, record by record.
 use Rattle.std.proofs.Common.{◌≡◌, ◌≤◌, ◌++◌, ◌∷◌, ℕ, zero, suc, Bool, true, false, List, [], Option, Some, None, length, map, cond, not, ◌&&◌, refl, sym, ap, ◌∙◌, arith, option_map, is_some, IfSome}
 use Rattle.std.specs.List.{filter, range_with_len}
-use Rattle.goblin_base.specs.declared.error.ErrorOf.{ErrorOf}
+use Rattle.goblin_base.specs.{declared.error.ErrorOf.ErrorOf, Footprints.led_to}
 use Rattle.goblin_base.specs.Answers.{◌>>=◌, FirstFault}
-use Rattle.goblin_base.specs.Footprints.{led_to}
 use Rattle.goblin_base.specs.Tables.{Format, each_below, is_kept, join, kept_slots, made_of, slot_at, slot_table, stop}
 use Rattle.readings.specs.Reads.{in_its_place, with_slots}
-use Rattle.goblin_pe_sect.specs.AddressReadings.{offset_at}
-use Rattle.goblin_pe_sect.specs.Addresses.{Addressing}
-use Rattle.readings.proofs.WalkValues.{kept-next}
-use Rattle.goblin_pe_import.specs.declared.import.directory_entry.ImportDirectoryEntry.{ImportDirectoryEntry}
+use Rattle.goblin_pe_sect.specs.{AddressReadings.offset_at, Addresses.Addressing}
+use Rattle.readings.proofs.{WalkValues.kept-next, Pairs.with_slots-both}
+use Rattle.goblin_pe_import.specs.ImportRecords.{ImportDirectoryEntry}
 use Rattle.goblin_pe_import.specs.ImportEntries.{EntryValue}
 use Rattle.goblin_pe_import.specs.ImportReadings.{at_index, indexed_at, library_of, numbered, read_if, kept_library, import_data, libraries_at, read_past_front, first_record_offset, numbered_data, numbered_libraries_at}
 use Rattle.goblin_pe_import.specs.ImportRecords.{ImportedLibrary, NumberedLibrary, import_slots}
 use Rattle.goblin_base.proofs.Kept.{without_test}
-use Rattle.readings.proofs.Pairs.{with_slots-both}
-use Rattle.goblin_pe_import.proofs.ImportBound.{left_out-or}
-use Rattle.goblin_pe_import.proofs.ListedImports.{pieces-counted}
+use Rattle.goblin_pe_import.proofs.{ImportBound.left_out-or, ListedImports.pieces-counted}
 
 -- one more record, which keeps at most one library
 numbered-append : (xs ys : List ImportedLibrary) (indexes : List ℕ) (n : ℕ)

@@ -1,9 +1,8 @@
 -- What is listed of a hint and of an entry.
 use Rattle.std.proofs.Common.{◌≡◌, ℕ, ◌+◌, Bool, true, false, nat_le, Option, Some, None, List, [], ◌++◌, ◌-◌, ◌≤◌, ap, drop, length, length-drop, length-take, refl, arith, inl, inr, slice_range}
 use Rattle.std.proofs.lemmas.Bool.{cases_Bool, le-leb, leb-false, leb-true}
-use Rattle.goblin_base.specs.Bytes.{slice_at}
+use Rattle.goblin_base.specs.{Bytes.slice_at, Parts.moved_by}
 use Rattle.goblin_base.specs.Footprints.{Range, positions, slice_footprint}
-use Rattle.goblin_base.specs.Parts.{moved_by}
 use Rattle.readings.specs.Reads.{text_within}
 use Rattle.goblin_base.proofs.Numbers.{slice_at-inside, slice_at-some}
 use Rattle.goblin_base.proofs.SlotFootprints.{stretch-none}

@@ -1,29 +1,22 @@
 -- Of import data that was read a list of imports can be made: each entry that a lookup table keeps has a slot, whose address does not pass 64 bits.
 use Rattle.std.proofs.Common.{◌≡◌, ℕ, zero, suc, ◌+◌, ◌*◌, ◌<◌, ◌≤◌, ◌^◌, ◌&&◌, Bool, true, cond, not, List, [], ◌∷◌, length, map, Option, Some, None, IsSome, refl, sym, ap, subst, arith, ◌∙◌, slice_get, slice_range, unwrap_or, get_or, lt-ltb, eq-eqb, length-append, is_some}
 use Rattle.std.specs.List.{All, filter, range_with_len}
-use Rattle.readings.proofs.WalkValues.{kept-next}
+use Rattle.readings.proofs.{WalkValues.kept-next, Pairs.both, Pairs.with_slots-both}
 use Rattle.std.proofs.lemmas.List.Elements.{All-append, All-cons, All-head, All-nil, All-tail}
 use Rattle.std.proofs.lemmas.Option.{slice_get-get_or}
-use Rattle.goblin_base.specs.declared.endian.Endian.TheVariants.{Little}
+use Rattle.goblin_base.specs.{declared.endian.Endian.TheVariants.Little, Bytes.IsBytes}
 use Rattle.goblin_base.specs.Answers.{◌>>=◌, all_of}
-use Rattle.goblin_base.specs.Bytes.{IsBytes}
 use Rattle.goblin_base.specs.Tables.{Format, each_below, is_kept, kept_slots, made_of, or_left_out, slot_at, slot_place, slot_table, stop}
 use Rattle.goblin_base.proofs.Below.{each_below-there, join-parts, least-before}
-use Rattle.goblin_base.proofs.Kept.{without_test}
-use Rattle.readings.proofs.Pairs.{both, with_slots-both}
-use Rattle.goblin_base.proofs.RecordRoundTrip.{IsBytes-slice, number-lt}
-use Rattle.goblin_base.proofs.Records.{record_at-some}
-use Rattle.goblin_base.proofs.SlotTables.{ends, kept-below}
-use Rattle.goblin_base.proofs.Steps.{mapped, same_value, step}
-use Rattle.goblin_pe_sect.specs.AddressReadings.{name_at}
-use Rattle.goblin_pe_sect.specs.Addresses.{Addressing}
-use Rattle.goblin_pe_import.specs.declared.import.directory_entry.ImportDirectoryEntry.{ImportDirectoryEntry}
+use Rattle.goblin_base.proofs.{Kept.without_test, RecordRoundTrip.IsBytes-slice}
+use Rattle.goblin_base.proofs.{RecordRoundTrip.number-lt, Records.record_at-some, SlotTables.ends}
+use Rattle.goblin_base.proofs.{SlotTables.kept-below, Steps.mapped, Steps.same_value, Steps.step}
+use Rattle.goblin_pe_sect.specs.{AddressReadings.name_at, Addresses.Addressing}
+use Rattle.goblin_pe_import.specs.ImportRecords.{ImportDirectoryEntry, ImportedLibrary, import_record, import_slots, lookup_offset}
 use Rattle.readings.specs.Reads.{in_its_place, pair_of}
 use Rattle.goblin_pe_import.specs.ImportEntries.{EntryValue, LookupEntry, entry_slots}
-use Rattle.goblin_pe_import.specs.ImportEntries.LookupEntry.{ByOrdinal}
-use Rattle.goblin_pe_import.specs.ImportLookup.{lookup_slots}
+use Rattle.goblin_pe_import.specs.{ImportEntries.LookupEntry.ByOrdinal, ImportLookup.lookup_slots}
 use Rattle.goblin_pe_import.specs.ImportReadings as directory
-use Rattle.goblin_pe_import.specs.ImportRecords.{ImportedLibrary, import_record, import_slots, lookup_offset}
 use Rattle.goblin_pe_import.specs.LookupReadings as reading
 use Rattle.goblin_pe_import.proofs.ImportBound.{in_directory, kept_entry-few, left_out-or, slots_fit}
 use Rattle.goblin_pe_import.specs.Imports.{has_slots, import_at, import_of, import_offset, imports_by, imports_of, kept_entries, library_imports}

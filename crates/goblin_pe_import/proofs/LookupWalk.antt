@@ -1,25 +1,19 @@
 -- The loop that looks for the next entry that a lookup table keeps.
 use Rattle.std.proofs.Common.{◌≡◌, ◌⊎◌, inl, inr, ◌≤◌, ◌+◌, ◌-◌, ◌/◌, ℕ, Bool, true, false, List, [], ◌∷◌, ◌++◌, map, Option, Some, None, Result, Ok, Err, refl, ap, sym, subst, ◌∙◌, ◌*◌, arith, length, not, ◌&&◌, IfSome, IsSome, option_map, is_some}
-use Rattle.std.proofs.lemmas.List.{length-map, map-append}
-use Rattle.std.proofs.Math.Nat.{mul-div_cancel_left}
-use Rattle.goblin_base.specs.declared.error.ErrorOf.{ErrorOf}
+use Rattle.std.proofs.{lemmas.List.length-map, lemmas.List.map-append, Math.Nat.mul-div_cancel_left}
+use Rattle.goblin_base.specs.{declared.error.ErrorOf.ErrorOf, Reading.IsRefused}
 use Rattle.goblin_base.specs.Answers.{◌>>=◌, all_of}
-use Rattle.goblin_base.specs.Reading.{IsRefused}
 use Rattle.goblin_base.specs.Tables.{Format, SlotFormat, concat_below, kept_slots, made_of, slot_at, slot_place, slot_table, ends_table, stop}
-use Rattle.goblin_base.proofs.Below.{concat_below-agree}
-use Rattle.goblin_base.proofs.SlotTables.{reads}
-use Rattle.goblin_base.proofs.Steps.{step}
+use Rattle.goblin_base.proofs.{Below.concat_below-agree, SlotTables.reads, Steps.step}
 use Rattle.goblin_pe_import.specs.ImportEntries.{EntryValue, LookupEntry, entry_slots}
 use Rattle.goblin_pe_import.specs.declared.import.lookup_table.SyntheticImportLookupTableEntry.{SyntheticImportLookupTableEntry}
-use Rattle.goblin_pe_import.specs.declared.import.kept.KeptEntry.{KeptEntry}
+use Rattle.goblin_pe_import.specs.KeptEntries.{KeptEntry, IsEntriesCause, KeptValue, entries_from, entry_items, kept_at, kept_value, place_after}
 use Rattle.goblin_pe_import.specs.ImportLookup.{entry_model, kept_model}
-use Rattle.goblin_pe_import.specs.KeptEntries.{IsEntriesCause, KeptValue, entries_from, entry_items, kept_at, kept_value, place_after}
 use Rattle.goblin_pe_import.specs.Steps.{AreCounted, GivesWithin, IsOut, UnlessErr}
 use Rattle.readings.specs.Walks.{GivesNext, IsWalkOf, from_slot, end_items, items_at, items_of, table_walk, until_refused}
 use Rattle.readings.proofs.Walked.{AtWalk, walk-all, walk-fault, walk-more, walk-start}
 use Rattle.goblin_pe_import.specs.LookupReadings.{kept_entry, lookup_entry_at, lookup_with_slots}
-use Rattle.goblin_pe_import.proofs.ImportBound.{kept_entry-few}
-use Rattle.goblin_pe_import.proofs.PermissiveReads.{entry-there}
+use Rattle.goblin_pe_import.proofs.{ImportBound.kept_entry-few, PermissiveReads.entry-there}
 use Rattle.readings.proofs.WalkValues.{walk-value}
 use Rattle.readings.proofs.Walks.{IsSlotCause, cause-slot, slot-end, slot-going, slot-missing, until_refused-later, until_refused-made, walk-slot}
 use Rattle.goblin_pe_sect.specs.Addresses.{Addressing}

@@ -1,7 +1,6 @@
 -- What strict mode reads of imports, permissive mode reads, too; and what it refuses not.
 use Rattle.std.proofs.Common.{◌+◌, ◌≡◌, ℕ, Bool, true, false, cond, List, [], ◌∷◌, Option, None, Some, IsSome, length, option_map, refl}
-use Rattle.goblin_base.specs.Answers.{◌>>=◌}
-use Rattle.goblin_base.specs.Reading.{Repeats}
+use Rattle.goblin_base.specs.{Answers.◌>>=◌, Reading.Repeats}
 use Rattle.goblin_base.specs.Tables as tables
 use Rattle.goblin_base.specs.Tables.{Format, SlotFormat, ends_table, made_of, slot_at, slot_table, stop}
 use Rattle.goblin_base.proofs.Below.{each_below-there, least-before}
@@ -14,7 +13,7 @@ use Rattle.goblin_pe_sect.specs.AddressReadings.{at_address, name_at}
 use Rattle.goblin_pe_sect.specs.Addresses.{Addressing}
 use Rattle.goblin_pe_import.specs.ImportReadings.{kept_library, libraries_at, import_record_at, library_of, lookup_if, numbered_libraries_at}
 use Rattle.goblin_pe_import.specs.LookupReadings.{address_table, hint_name, kept_entry, kept_name, lookup_entry_at, lookup_table, lookup_with_slots}
-use Rattle.goblin_pe_import.specs.declared.import.directory_entry.ImportDirectoryEntry.{ImportDirectoryEntry}
+use Rattle.goblin_pe_import.specs.ImportRecords.{ImportDirectoryEntry}
 
 hint_repeats : (longest : Option ℕ) (p : ℕ)
     → Repeats (hint_name true longest p) (hint_name false longest p)

@@ -1,10 +1,8 @@
 -- How many imports a file can have.
 use Rattle.std.specs.Prelude.{◌≡◌, ◌≤◌, ℕ, ◌*◌, ◌/◌, Bool, List, length, Some}
 use Rattle.goblin_base.specs.Tables.{Format}
-use Rattle.goblin_pe_import.specs.ImportReadings.{import_data}
-use Rattle.goblin_pe_import.specs.ImportRecords.{ImportedLibrary}
-use Rattle.goblin_pe_import.specs.ImportLookup.{EntryValue}
-use Rattle.goblin_pe_import.specs.Imports.{ImportValue}
+use Rattle.goblin_pe_import.specs.{ImportReadings.import_data, ImportRecords.ImportedLibrary}
+use Rattle.goblin_pe_import.specs.{ImportLookup.EntryValue, Imports.ImportValue}
 use Rattle.goblin_pe_sect.specs.Addresses.{Addressing}
 
 -- If the libraries are the import data of some file, in either mode and with any map of addresses,

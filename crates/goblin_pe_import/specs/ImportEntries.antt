@@ -1,10 +1,8 @@
 -- The entries of lookup tables and of address tables, and what a lookup table keeps of them.
 use Rattle.std.specs.Prelude.{◌≡◌, ℕ, ◌%◌, ◌^◌, ◌==◌, nat_le, Bool, false, true, List, Option, None}
 use Rattle.std.specs.Prelude.{Some}
-use Rattle.goblin_base.specs.declared.endian.Endian.TheVariants.{Little}
-use Rattle.goblin_base.specs.Bytes.{number}
-use Rattle.goblin_base.specs.Record.{record_at}
-use Rattle.goblin_base.specs.Tables.{Format, SlotFormat, ends_table}
+use Rattle.goblin_base.specs.{declared.endian.Endian.TheVariants.Little, Bytes.number}
+use Rattle.goblin_base.specs.{Record.record_at, Tables.Format, Tables.SlotFormat, Tables.ends_table}
 
 -- Source: PE Format, "Import Lookup Table", "Hint/Name Table" and "Import Address Table".
 

@@ -2,8 +2,7 @@
 -- addresses to file offsets.
 use Rattle.std.specs.Prelude.{ℕ, ◌==◌, Bool, ◌&&◌, not, cond, List, [], ◌∷◌, Option, Some, None}
 use Rattle.goblin_base.specs.declared.endian.Endian.TheVariants.{Little}
-use Rattle.goblin_base.specs.declared.error.CauseOf.TheVariants.{ImportRecordEnd}
-use Rattle.goblin_base.specs.Reading.{Reading}
+use Rattle.goblin_base.specs.{declared.error.CauseOf.TheVariants.ImportRecordEnd, Reading.Reading}
 use Rattle.goblin_base.specs.Tables.{Format}
 use Rattle.readings.specs.Reads.{◌>>=◌, ◌beside◌, because, given, mapped, or_else, or_left_out}
 use Rattle.readings.specs.Reads.{record_at, table, table_with_slots}
@@ -13,7 +12,7 @@ use Rattle.goblin_pe_import.specs.ImportEntries.{EntryValue, LookupEntry}
 use Rattle.goblin_pe_import.specs.ImportRecords.{ImportedLibrary, address_table_rva, import_record}
 use Rattle.goblin_pe_import.specs.ImportRecords.{NumberedLibrary, import_slots, lookup_offset}
 use Rattle.goblin_pe_import.specs.LookupReadings.{address_table, lookup_with_slots}
-use Rattle.goblin_pe_import.specs.declared.import.directory_entry.ImportDirectoryEntry.{ImportDirectoryEntry}
+use Rattle.goblin_pe_import.specs.ImportRecords.{ImportDirectoryEntry}
 
 -- the descriptor at an offset
 abbrev pub import_record_at : ℕ → Reading ImportDirectoryEntry

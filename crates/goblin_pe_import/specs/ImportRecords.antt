@@ -3,12 +3,10 @@
 use Rattle.std.specs.Prelude.{ℕ, ◌==◌, Bool, ◌||◌, if◌then◌else◌, List, [], ◌∷◌, Option}
 use Rattle.std.specs.Option.{option_or}
 use Rattle.goblin_base.specs.declared.endian.Endian.{Endian}
-use Rattle.goblin_base.specs.declared.endian.Endian.TheVariants.{Little}
-use Rattle.goblin_base.specs.Bytes.{number}
-use Rattle.goblin_base.specs.Record.{FieldValue, uint}
-use Rattle.goblin_base.specs.Tables.{SlotFormat}
+use Rattle.goblin_base.specs.{declared.endian.Endian.TheVariants.Little, Bytes.number}
+use Rattle.goblin_base.specs.{Record.FieldValue, Record.uint, Tables.SlotFormat}
 use Rattle.goblin_pe_import.specs.ImportEntries.{LookupEntry}
-use Rattle.goblin_pe_import.specs.declared.import.directory_entry.ImportDirectoryEntry.{ImportDirectoryEntry}
+pub use Rattle.goblin_pe_import.specs.declared.import.directory_entry.ImportDirectoryEntry.{ImportDirectoryEntry}
 use Rattle.goblin_pe_sect.specs.Addresses.{Addressing}
 
 -- Source: PE Format, "Import Directory Table".

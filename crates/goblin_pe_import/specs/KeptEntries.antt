@@ -1,14 +1,13 @@
 -- The entries that a lookup table keeps, from one of its slots on.
 use Rattle.std.specs.Prelude.{ℕ, ◌+◌, ◌-◌, ◌/◌, Bool, List, [], length, Option, Some, None, Result}
 use Rattle.std.specs.Prelude.{Ok, Err}
-use Rattle.goblin_base.specs.declared.error.ErrorOf.{ErrorOf}
-use Rattle.goblin_base.specs.Tables.{Format}
+use Rattle.goblin_base.specs.{declared.error.ErrorOf.ErrorOf, Tables.Format}
 use Rattle.readings.specs.Walks.{items_of, table_walk}
 use Rattle.goblin_pe_sect.specs.Addresses.{Addressing}
 use Rattle.goblin_pe_import.specs.ImportEntries.{EntryValue, LookupEntry, entry_slots}
 use Rattle.goblin_pe_import.specs.ImportLookup.{entry_model}
 use Rattle.goblin_pe_import.specs.LookupReadings.{kept_entry, lookup_table}
-use Rattle.goblin_pe_import.specs.declared.import.kept.KeptEntry.{KeptEntry}
+pub use Rattle.goblin_pe_import.specs.declared.import.kept.KeptEntry.{KeptEntry}
 
 -- an entry that a lookup table keeps, with the index of its slot and the slot's place
 pub record KeptValue : Type 0 where

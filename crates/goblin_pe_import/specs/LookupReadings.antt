@@ -1,9 +1,8 @@
 -- The lookup table and the address table of a library, over a map of addresses to file offsets.
 use Rattle.std.specs.Prelude.{ℕ, ◌+◌, Bool, true, cond, List, [], ◌∷◌, Option, Some, None}
-use Rattle.goblin_base.specs.declared.endian.Endian.TheVariants.{Little}
-use Rattle.goblin_base.specs.declared.error.CauseOf.TheVariants.{HintEntry, LookupEnd}
-use Rattle.goblin_base.specs.Reading.{Reading}
+use Rattle.goblin_base.specs.{declared.endian.Endian.TheVariants.Little, Reading.Reading}
 use Rattle.goblin_base.specs.Tables.{Format}
+use Rattle.goblin_base.specs.declared.error.CauseOf.TheVariants.{HintEntry, LookupEnd}
 use Rattle.readings.specs.Reads.{◌beside◌, because, given, mapped, number_at, or_else}
 use Rattle.readings.specs.Reads.{or_left_out, record_at, table, table_with_slots, text_within}
 use Rattle.goblin_pe_import.specs.ImportEntries.{EntryValue, HintName, LookupEntry, entry_slots}

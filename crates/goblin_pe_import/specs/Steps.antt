@@ -1,8 +1,7 @@
 -- The slots that are ahead in a table, and a budget of steps: each step looks at one slot.
 use Rattle.std.specs.Prelude.{◌≡◌, ◌≤◌, ℕ, ◌+◌, ◌-◌, List, ⊤}
 use Rattle.std.specs.Prelude.{Option, Some, None, option_map, Result, Ok, Err}
-use Rattle.goblin_base.specs.declared.error.ErrorOf.{ErrorOf}
-use Rattle.goblin_base.specs.Tables.{Format, stop}
+use Rattle.goblin_base.specs.{declared.error.ErrorOf.ErrorOf, Tables.Format, Tables.stop}
 use Rattle.readings.specs.Walks.{GivesNext}
 use Rattle.goblin_pe_import.specs.ImportEntries.{EntryValue, entry_slots}
 use Rattle.goblin_pe_import.specs.TableSums.{amount_of}

@@ -8,8 +8,7 @@
 //! Source: PE Format, "The .idata Section".
 
 ghost use Rattle.std.specs.Prelude.{◌≡◌, ◌++◌, IfErr, false, true};
-ghost use Rattle.goblin_base.specs.Answers.{IsMemory};
-ghost use Rattle.goblin_base.specs.Reading.{ReadsOrMemory};
+ghost use Rattle.goblin_base.specs.{Answers.IsMemory, Reading.ReadsOrMemory};
 ghost use Rattle.readings.specs.Reads.{mapped};
 ghost use Rattle.goblin_pe_sect.specs.Options.{default_options, is_strict};
 ghost use Rattle.goblin_pe_sect.specs.Addresses.{map_by, map_of, reads_strictly};

@@ -1,17 +1,13 @@
 -- A loop over the imports of a file that gathers something: what it has gathered so far, and what at each way out.
 use Rattle.std.proofs.Common.{◌≡◌, ℕ, ◌+◌, ◌-◌, ◌^◌, Bool, cond, List, [], ◌∷◌, ◌++◌, Option, Some, None, Result, Ok, Err, arith, refl, sym, ap, subst, ◌∙◌, count_by, find, min, option_map}
 use Rattle.std.specs.Option.{option_or}
-use Rattle.std.proofs.lemmas.List.Folds.{find-append}
-use Rattle.std.proofs.lemmas.List.Sums.{sum_by-append}
-use Rattle.goblin_base.specs.declared.error.ErrorOf.{ErrorOf}
-use Rattle.goblin_base.specs.Answers.{all_of}
-use Rattle.goblin_pe_import.specs.added.ImportWalks.{walked_value}
-use Rattle.goblin_pe_import.specs.Imports.{NumberedImport}
+use Rattle.std.proofs.{lemmas.List.Folds.find-append, lemmas.List.Sums.sum_by-append}
+use Rattle.goblin_base.specs.{declared.error.ErrorOf.ErrorOf, Answers.all_of}
+use Rattle.goblin_pe_import.specs.{added.ImportWalks.walked_value, Imports.NumberedImport}
 use Rattle.goblin_pe_import.specs.declared.added.imports.WalkedImport.{WalkedImport}
-use Rattle.goblin_pe.specs.declared.added.file_imports.FileImports.{FileImports}
+use Rattle.goblin_pe.specs.added.Layouts.{FileImports}
 use Rattle.goblin_pe.specs.added.Layouts.{GivesFileImport, IsFileImportsCause, file_imports_left}
-use Rattle.readings.specs.added.Questions.{counted}
-use Rattle.readings.specs.Walks.{GivesNext}
+use Rattle.readings.specs.{added.Questions.counted, Walks.GivesNext}
 use Rattle.readings.proofs.Walked.{AtWalk, walk-all, walk-fault, walk-more, walk-start}
 
 -- The walk over imports that began at `start` is now at `now`, and this was gathered of the imports so far.

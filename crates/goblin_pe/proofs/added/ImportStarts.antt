@@ -1,24 +1,20 @@
 -- Where the imports of a file begin, and a walk from there on.
 use Rattle.std.proofs.Common.{◌≡◌, ℕ, List, [], inl, inr, Option, None, Some, Result, Ok, Err, true, ap, refl, ◌∙◌, IfErr, IfSome}
-use Rattle.goblin_base.specs.declared.error.ErrorOf.{ErrorOf}
-use Rattle.goblin_base.specs.Answers.{IsMemory}
+use Rattle.goblin_base.specs.{declared.error.ErrorOf.ErrorOf, Answers.IsMemory, Tables.Format}
 use Rattle.goblin_base.specs.Reading.{Reading, Reads}
-use Rattle.goblin_base.specs.Tables.{Format}
 use Rattle.readings.specs.Reads.{given}
 use Rattle.goblin_pe_sect.specs.declared.data_directories.DataDirectory.{DataDirectory}
 use Rattle.goblin_pe_sect.specs.Addresses.{MapOfAddresses, reads_strictly}
-use Rattle.goblin_pe_import.specs.ImportEntries.{EntryValue}
-use Rattle.goblin_pe_import.specs.ImportLookup.{entries_32, entries_64}
-use Rattle.goblin_pe_import.specs.added.ImportCursors.{first_import}
-use Rattle.goblin_pe_import.specs.added.ImportWalks.{AreImportsOver, HasName, cursor_of, imports_bytes, imports_map, no_imports, walked_value, IsWalkFault}
-use Rattle.goblin_pe_import.specs.added.StepsAhead.{GivesImportWithin, cursor_ahead, imports_ahead}
+use Rattle.goblin_pe_import.specs.{ImportEntries.EntryValue, added.ImportCursors.first_import}
 use Rattle.goblin_pe_import.specs.Steps.{GivesWithin}
 use Rattle.goblin_pe_import.specs.declared.added.imports.ImportCursor.{ImportCursor}
 use Rattle.goblin_pe_import.specs.declared.added.imports.Imports.{Imports}
 use Rattle.goblin_pe_import.specs.declared.added.imports.WalkedImport.{WalkedImport}
-use Rattle.goblin_pe.specs.declared.added.file_imports.FileImports.{FileImports}
+use Rattle.goblin_pe_import.specs.ImportLookup.{entries_32, entries_64}
+use Rattle.goblin_pe_import.specs.added.ImportWalks.{AreImportsOver, HasName, cursor_of, imports_bytes, imports_map, no_imports, walked_value, IsWalkFault}
+use Rattle.goblin_pe_import.specs.added.StepsAhead.{GivesImportWithin, cursor_ahead, imports_ahead}
+use Rattle.goblin_pe.specs.added.Layouts.{FileImports, file_ahead, file_cursor_ahead, GivesFileWithin, GivesFileImport, IsImportWalkAt, file_cursor, file_cursor_left, import_begin, IsFileImportsCause, file_imports_left}
 use Rattle.goblin_pe.specs.declared.added.file_imports.FileImports.TheVariants.{Narrow, Wide}
-use Rattle.goblin_pe.specs.added.Layouts.{file_ahead, file_cursor_ahead, GivesFileWithin, GivesFileImport, IsImportWalkAt, file_cursor, file_cursor_left, import_begin, IsFileImportsCause, file_imports_left}
 use Rattle.goblin_pe.specs.Whole.{TablePlaces, directory_at}
 use Rattle.goblin_pe_import.proofs.added.ImportCursors.{cursor_left_of}
 use Rattle.goblin_pe_import.proofs.added.ImportSteps.{ended-left}

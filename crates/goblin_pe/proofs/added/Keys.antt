@@ -3,10 +3,9 @@ use Rattle.std.proofs.Common.{◌≡◌, ℕ, List, length, sym, subst, ◌∙�
 use Rattle.goblin_pe_sect.specs.declared.options.ParseOptions.{ParseOptions}
 use Rattle.goblin_base.specs.Footprints.{Agree, Range}
 use Rattle.goblin_pe.specs.added.Keys.{HasKeptRange, IsKeyOf, KeptRange}
-use Rattle.goblin_pe.specs.Whole.{whole_file}
+use Rattle.goblin_pe.specs.{Whole.whole_file, declared.added.key.FileKey.FileKey}
 use Rattle.goblin_pe.proofs.added.Covered.{agree-kept, kept-agree}
 use Rattle.goblin_base.proofs.Footprints.{agree-fewer}
-use Rattle.goblin_pe.specs.declared.added.key.FileKey.{FileKey}
 
 module _ (opts : ParseOptions) (was file : List ℕ) (key : FileKey) (is : IsKeyOf opts was key) where
   abbrev reached : List Range

@@ -1,31 +1,23 @@
 -- What the records of sections tell without the names from the string table, and what it says of the sections.
 use Rattle.std.proofs.Common.{◌≡◌, ℕ, ◌+◌, ◌*◌, List, Bool, length, map, refl, sym, ap, subst, ◌∙◌, arith, None, Ok, Err, Option, Result, Some, option_map}
-use Rattle.std.specs.Result.{result_err}
-use Rattle.std.specs.List.{range_with_len}
-use Rattle.std.proofs.lemmas.List.FromFn.{length-map-range_with_len}
-use Rattle.std.proofs.lemmas.List.{length-map}
-use Rattle.goblin_base.specs.declared.error.ErrorOf.{ErrorOf}
-use Rattle.goblin_base.specs.Answers.{all_at}
+use Rattle.std.specs.{Result.result_err, List.range_with_len}
+use Rattle.std.proofs.{lemmas.List.FromFn.length-map-range_with_len, lemmas.List.length-map}
+use Rattle.goblin_base.specs.{declared.error.ErrorOf.ErrorOf, Answers.all_at}
 use Rattle.goblin_base.specs.Reading.{Reading, Reads}
 use Rattle.goblin_base.proofs.Steps as steps
 use Rattle.readings.specs.Reads.{each, mapped}
 use Rattle.goblin_pe_sect.specs.declared.options.ParseOptions.{ParseOptions}
-use Rattle.goblin_pe_sect.specs.declared.options.View.{View}
-use Rattle.goblin_pe_sect.specs.Addresses.{MapOfAddresses, map_in}
-use Rattle.goblin_pe_sect.specs.Options.{is_strict}
+use Rattle.goblin_pe_sect.specs.{declared.options.View.View, Options.is_strict}
 use Rattle.goblin_pe_sect.specs.SectionReadings.{named_section_at}
+use Rattle.goblin_pe_sect.specs.Addresses.{MapOfAddresses, map_in}
 use Rattle.goblin_pe_sect.specs.SectionTable.{Section, unnamed}
 use Rattle.goblin_pe_sect.proofs.added.UnnamedMaps.{unnamed_map_in}
-use Rattle.goblin_pe_head.specs.declared.header.pe_header.Header.{Header}
-use Rattle.goblin_pe_head.specs.CoffHeader.{symbols_end}
+use Rattle.goblin_pe_head.specs.{declared.header.pe_header.Header.Header, CoffHeader.symbols_end}
 use Rattle.goblin_pe_head.specs.CoffReadings.{sections_at, with_room}
-use Rattle.goblin_pe_head.specs.HeaderReadings.{pe_header}
-use Rattle.goblin_pe_head.specs.PeHeader.{PeHeader, header_value}
-use Rattle.goblin_pe.specs.declared.added.damage.Damage.{Damage}
-use Rattle.goblin_pe.specs.declared.added.layout.Layout.{Layout}
+use Rattle.goblin_pe_head.specs.{HeaderReadings.pe_header, PeHeader.PeHeader, PeHeader.header_value}
+use Rattle.goblin_pe.specs.added.Damages.{Damage, IsDamage, IsDamaged, TellsDamage}
+use Rattle.goblin_pe.specs.added.Layouts.{Layout, IsLayoutOf, layout_map, layout_places}
 use Rattle.goblin_pe_import.proofs.ImportBound.{all_of-length}
-use Rattle.goblin_pe.specs.added.Damages.{IsDamage, IsDamaged, TellsDamage}
-use Rattle.goblin_pe.specs.added.Layouts.{IsLayoutOf, layout_map, layout_places}
 use Rattle.goblin_pe.specs.Whole.{TablePlaces, layout, mapped_in, places_in, section_table_offset, sections_after}
 
 -- ---- a refusal tells the damage

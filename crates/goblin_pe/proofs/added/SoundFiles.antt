@@ -1,28 +1,22 @@
 -- Strict mode reads a file without damage. If no library is left out, permissive mode reads the same.
 use Rattle.std.proofs.Common.{◌≡◌, ℕ, List, Bool, true, false, Option, Some, None, IsSome, refl, sym, ap, subst, ◌∙◌, IfOk, IsSomeAnd, Result, Ok, Err, option_map}
-use Rattle.goblin_base.specs.declared.error.ErrorOf.{ErrorOf}
+use Rattle.goblin_base.specs.{declared.error.ErrorOf.ErrorOf, Reading.Reading}
 use Rattle.goblin_base.specs.declared.permissive.ParseMode.TheVariants.{Permissive, Strict}
-use Rattle.goblin_base.specs.Reading.{Reading}
 use Rattle.goblin_base.proofs.Steps.{mapped, step}
 use Rattle.readings.specs.Reads.{◌beside◌, in_its_place, pair_of}
 use Rattle.readings.specs.Reads as reads
 use Rattle.goblin_pe_sect.specs.declared.options.ParseOptions.{ParseOptions}
-use Rattle.goblin_pe_sect.specs.declared.options.View.{View}
-use Rattle.goblin_pe_sect.specs.Options.{is_strict}
-use Rattle.goblin_pe_sect.specs.SectionTable.{Section}
-use Rattle.goblin_pe_sect.specs.Addresses.{Addressing}
-use Rattle.goblin_pe_head.specs.declared.header.dos.DosHeader.{DosHeader}
+use Rattle.goblin_pe_sect.specs.{declared.options.View.View, Options.is_strict}
+use Rattle.goblin_pe_sect.specs.{SectionTable.Section, Addresses.Addressing}
+use Rattle.goblin_pe_head.specs.{declared.header.dos.DosHeader.DosHeader, PeHeader.PeHeader}
 use Rattle.goblin_pe_head.specs.HeaderReadings.{dos_header, header_after, pe_header, stub_at, stub_in}
-use Rattle.goblin_pe_head.specs.PeHeader.{PeHeader}
 use Rattle.goblin_pe_head.proofs.PermissiveReads.{repeats-header}
 use Rattle.goblin_pe_import.specs.declared.added.left_out.LeftOut.{LeftOut}
-use Rattle.goblin_pe.specs.declared.added.damage.Damage.{Damage}
-use Rattle.goblin_pe.specs.added.Damages.{AreDamaged, IsDamage, IsDamaged, IsReadByBoth, IsSound, TellsDamage, left_out_of}
+use Rattle.goblin_pe.specs.added.Damages.{Damage, AreDamaged, IsDamage, IsDamaged, IsReadByBoth, IsSound, TellsDamage, left_out_of}
 use Rattle.goblin_pe.specs.Modes.{in_mode}
 use Rattle.goblin_pe.specs.Whole.{by_layout, NumberedTables, TablePlaces, export_part, import_list, layout, lists_of, mapped_in, numbered_data_part, addressing_by, places_in, relocation_part, sections_after, table_parts, tables_with, whole_in, whole_of, whole_with}
 use Rattle.goblin_pe.proofs.PermissiveReads.{repeats-table_parts, sections_repeat}
-use Rattle.goblin_pe.proofs.added.UnhiddenImports.{tables_same}
-use Rattle.goblin_pe.proofs.added.WalkedParts.{was-there}
+use Rattle.goblin_pe.proofs.{added.UnhiddenImports.tables_same, added.WalkedParts.was-there}
 
 there : {A : Type 0} (reading : Reading A) (bytes : List ℕ) (damage : Option ErrorOf) → damage ≡ None → IsDamage reading bytes damage → IsSome (reading.value bytes)
 there reading bytes None is h = h

@@ -1,21 +1,16 @@
 -- What the tables of a layout reach is what those of its file reach.
 use Rattle.std.proofs.Common.{◌≡◌, Bool, List, ℕ, None, Option, Some, ap, append-nil, sym, ◌∙◌, map}
 use Rattle.std.specs.Option.{option_map}
-use Rattle.goblin_base.specs.Marks.{marked}
-use Rattle.goblin_base.specs.Tables.{Format}
+use Rattle.goblin_base.specs.{Marks.marked, Tables.Format}
 use Rattle.goblin_base.proofs.Marks.{marked_append}
 use Rattle.goblin_pe_sect.specs.declared.options.ParseOptions.{ParseOptions}
-use Rattle.goblin_pe_sect.specs.declared.options.View.{View}
-use Rattle.goblin_pe_sect.specs.Options.{is_strict}
-use Rattle.goblin_pe_sect.specs.SectionTable.{Section, unnamed}
-use Rattle.goblin_pe_sect.specs.Addresses.{Addressing}
-use Rattle.goblin_pe_head.specs.declared.header.pe_header.Header.{Header}
-use Rattle.goblin_pe_head.specs.PeHeader.{header_value}
+use Rattle.goblin_pe_sect.specs.{declared.options.View.View, Options.is_strict}
+use Rattle.goblin_pe_sect.specs.{SectionTable.Section, SectionTable.unnamed, Addresses.Addressing}
+use Rattle.goblin_pe_head.specs.{declared.header.pe_header.Header.Header, PeHeader.header_value}
 use Rattle.goblin_pe_import.specs.ImportEntries.{EntryValue}
 use Rattle.goblin_pe_import.specs.ImportReadings.{import_data, numbered_data}
 use Rattle.goblin_pe_import.proofs.LibraryIndexes.{numbered-reach}
-use Rattle.goblin_pe.specs.declared.added.layout.Layout.{Layout}
-use Rattle.goblin_pe.specs.added.Layouts.{IsLayoutOf, layout_map, layout_places}
+use Rattle.goblin_pe.specs.added.Layouts.{Layout, IsLayoutOf, layout_map, layout_places}
 use Rattle.goblin_pe.specs.Whole.{sections_after, table_parts, whole_after, whole_with}
 use Rattle.goblin_pe.proofs.added.SectionNames.{of_file}
 

@@ -1,27 +1,22 @@
 -- If no library is left out, both modes have the same imports.
 use Rattle.std.proofs.Common.{◌≡◌, ◌==◌, ◌∙◌, ℕ, Bool, true, false, cond, List, [], Option, Some, None, ap, refl, sym, ◌∷◌, map, option_map}
-use Rattle.goblin_base.specs.declared.permissive.ParseMode.TheVariants.{Strict}
-use Rattle.goblin_base.specs.Answers.{◌>>=◌}
+use Rattle.goblin_base.specs.{declared.permissive.ParseMode.TheVariants.Strict, Answers.◌>>=◌}
 use Rattle.goblin_base.specs.Tables.{Format}
 use Rattle.goblin_base.proofs.Steps.{mapped}
 use Rattle.readings.specs.Reads.{in_its_place}
 use Rattle.goblin_pe_sect.specs.declared.data_directories.DataDirectory.{DataDirectory}
-use Rattle.goblin_pe_sect.specs.declared.options.ParseOptions.{ParseOptions}
-use Rattle.goblin_pe_sect.specs.Addresses.{Addressing}
-use Rattle.goblin_pe.specs.declared.whole.Part.{Part}
-use Rattle.goblin_pe.specs.declared.whole.Part.TheVariants.{Absent, Refused}
+use Rattle.goblin_pe_sect.specs.{declared.options.ParseOptions.ParseOptions, Addresses.Addressing}
+use Rattle.goblin_pe.specs.Whole.{Part, Absent, Refused, IfRead, NumberedTables, TablePlaces, directory_at, entry_format, numbered_data_part, part_at, part_map, table_parts}
 use Rattle.goblin_pe.specs.declared.whole.Part.TheVariants as part
-use Rattle.goblin_pe_import.specs.ImportEntries.{EntryValue}
+use Rattle.goblin_pe_import.specs.{ImportEntries.EntryValue, TableSums.amount_of}
+use Rattle.goblin_pe_import.specs.added.LeftOut.{libraries_of_directory}
 use Rattle.goblin_pe_import.specs.ImportReadings.{import_data, libraries_at, read_past_front}
 use Rattle.goblin_pe_import.specs.ImportRecords.{ImportedLibrary, NumberedLibrary}
-use Rattle.goblin_pe_import.specs.TableSums.{amount_of}
-use Rattle.goblin_pe_import.specs.added.LeftOut.{libraries_of_directory}
 use Rattle.readings.proofs.Pairs.{both}
 use Rattle.goblin_pe_import.proofs.added.LeftOutLibraries.{front_has_none, none_made}
 use Rattle.goblin_pe_import.proofs.LibraryIndexes.{unnumbered}
 use Rattle.goblin_pe.specs.added.Damages.{imports_left_out_at, left_out_of}
 use Rattle.goblin_pe.specs.Modes.{in_mode, is_front, unless_front}
-use Rattle.goblin_pe.specs.Whole.{IfRead, NumberedTables, TablePlaces, directory_at, entry_format, numbered_data_part, part_at, part_map, table_parts}
 use Rattle.goblin_pe.proofs.Parts.{read_from}
 use Rattle.goblin_pe.proofs.PermissiveReads.{place_by, libraries_of, permissive_tables}
 

@@ -1,7 +1,6 @@
 -- A loop over a walk that makes nothing of its items: what holds at each way out.
 use Rattle.std.proofs.Common.{◌≡◌, List, [], ◌∷◌, ◌++◌, Option, Some, None, Result, Ok, Err, refl, subst, IsSome}
-use Rattle.goblin_base.specs.declared.error.ErrorOf.{ErrorOf}
-use Rattle.goblin_base.specs.Answers.{all_of}
+use Rattle.goblin_base.specs.{declared.error.ErrorOf.ErrorOf, Answers.all_of}
 use Rattle.readings.specs.Walks.{GivesNext}
 use Rattle.readings.proofs.Walked.{AtWalk, walk-all, walk-fault, walk-more, walk-start}
 

@@ -1,28 +1,22 @@
 -- The tables of a file as walks: permissive mode refuses no import data, and a part has what a walk over it
 -- collects.
 use Rattle.std.proofs.Common.{◌≡◌, ℕ, Bool, true, false, cond, List, Option, Some, None, IsSome, refl, subst, ap, not, ◌&&◌, ◌==◌, option_map, Result, Ok, Err, flat_map, inl, inr, ◌⊎◌}
-use Rattle.goblin_base.specs.declared.error.ErrorOf.{ErrorOf}
-use Rattle.goblin_base.specs.Answers.{◌>>=◌, all_of}
-use Rattle.goblin_base.specs.Reading.{IsRefused, Reading}
-use Rattle.goblin_base.specs.Tables.{Format}
+use Rattle.goblin_base.specs.{declared.error.ErrorOf.ErrorOf, Answers.◌>>=◌, Answers.all_of}
+use Rattle.goblin_base.specs.{Reading.IsRefused, Reading.Reading, Tables.Format}
 use Rattle.readings.specs.Reads.{given, in_its_place, mapped, pick}
 use Rattle.readings.specs.Walks.{IsWalkOf, Walks}
 use Rattle.goblin_pe_sect.specs.declared.data_directories.DataDirectory.{DataDirectory}
 use Rattle.goblin_pe_sect.specs.declared.options.ParseOptions.{ParseOptions}
-use Rattle.goblin_pe_sect.specs.AddressReadings.{offset_at}
-use Rattle.goblin_pe_sect.specs.Options.{is_strict}
-use Rattle.goblin_pe_sect.specs.Addresses.{Addressing}
+use Rattle.goblin_pe_sect.specs.{AddressReadings.offset_at, Options.is_strict, Addresses.Addressing}
 use Rattle.goblin_pe_import.specs.ImportEntries.{EntryValue}
 use Rattle.goblin_pe_import.specs.ImportReadings.{import_data, kept_library, libraries_at, library_of, numbered_data, read_if, read_past_front}
 use Rattle.goblin_pe_import.specs.ImportRecords.{NumberedLibrary, import_slots}
 use Rattle.goblin_pe_import.specs.Imports.{NumberedImport, numbered_imports}
 use Rattle.goblin_pe_import.proofs.LibraryIndexes.{unnumbered}
 use Rattle.goblin_pe_import.proofs.PermissiveReads.{left-there, table-there}
-use Rattle.goblin_pe.specs.declared.whole.Part.TheVariants.{Absent}
+use Rattle.goblin_pe.specs.Whole.{Absent, TablePlaces, directory_at, entry_format, numbered_data_part, import_list, part_at, part_map, part_of}
 use Rattle.goblin_pe.specs.declared.whole.Part.TheVariants as part
-use Rattle.goblin_pe.specs.declared.added.file_imports.FileImports.{FileImports}
-use Rattle.goblin_pe.specs.added.Layouts.{IsFileImportsCause, file_imports_left}
-use Rattle.goblin_pe.specs.Whole.{TablePlaces, directory_at, entry_format, numbered_data_part, import_list, part_at, part_map, part_of}
+use Rattle.goblin_pe.specs.added.Layouts.{FileImports, IsFileImportsCause, file_imports_left}
 
 -- what a value is made of is there
 pub was-there : {A B : Type 0} (f : A → B) (o : Option A) → IsSome (option_map f o) → IsSome o

@@ -4,8 +4,7 @@
 use Rattle.std.specs.Prelude.{ℕ, zero, suc, ◌+◌, ◌*◌, ◌/◌, ◌%◌, ◌^◌, ◌&&◌, nat_le, nat_lt}
 use Rattle.std.specs.Prelude.{Bool, if◌then◌else◌, List, length, slice_index_or, Option, option_map}
 use Rattle.goblin_base.specs.Answers.{◌>>=◌}
-use Rattle.goblin_pe_head.specs.HeaderReadings.{pe_header}
-use Rattle.goblin_pe_head.specs.PeHeader.{PeHeader}
+use Rattle.goblin_pe_head.specs.{HeaderReadings.pe_header, PeHeader.PeHeader}
 
 -- the byte at an offset, which counts as 0 in the four bytes of the field, and past the end
 abbrev pub summed_byte : List ℕ → ℕ → ℕ → ℕ

@@ -1,31 +1,26 @@
 -- What strict mode would refuse in a file, part by part.
 use Rattle.std.specs.Prelude.{◌≡◌, ℕ, true, List, Option, None, Some, IsSome, IsSomeAnd, Result, Ok}
 use Rattle.std.specs.Prelude.{Err, IfErr, IfOk, if◌then◌else◌, min, option_map, unwrap_or, ◌^◌, ◌-◌}
-use Rattle.goblin_base.specs.declared.error.ErrorOf.{ErrorOf}
+use Rattle.goblin_base.specs.{declared.error.ErrorOf.ErrorOf, Tables.Format}
 use Rattle.goblin_base.specs.declared.permissive.ParseMode.TheVariants.{Permissive, Strict}
 use Rattle.goblin_base.specs.Answers.{◌>>=◌, IsMemory}
 use Rattle.goblin_base.specs.Reading.{IsRefused, Reading}
-use Rattle.goblin_base.specs.Tables.{Format}
 use Rattle.goblin_pe_sect.specs.declared.data_directories.DataDirectory.{DataDirectory}
 use Rattle.goblin_pe_sect.specs.declared.options.ParseOptions.{ParseOptions}
-use Rattle.goblin_pe_sect.specs.declared.options.View.{View}
-use Rattle.goblin_pe_sect.specs.Options.{is_strict}
-use Rattle.goblin_pe_sect.specs.SectionTable.{Section}
-use Rattle.goblin_pe_sect.specs.Addresses.{Addressing}
+use Rattle.goblin_pe_sect.specs.{declared.options.View.View, Options.is_strict}
+use Rattle.goblin_pe_sect.specs.{SectionTable.Section, Addresses.Addressing}
 use Rattle.goblin_pe_head.specs.HeaderReadings.{pe_header, stub_at}
 use Rattle.goblin_pe_head.specs.PeHeader.{PeHeader}
 use Rattle.goblin_pe_import.specs.declared.added.left_out.LeftOut.{LeftOut}
-use Rattle.goblin_pe_import.specs.ImportEntries.{EntryValue}
-use Rattle.goblin_pe_import.specs.added.LeftOut.{entries_left_out, libraries_left_out}
-use Rattle.goblin_pe_import.specs.added.LeftOut.{unmapped_entries}
+use Rattle.goblin_pe_import.specs.{ImportEntries.EntryValue, added.LeftOut.entries_left_out}
+use Rattle.goblin_pe_import.specs.added.LeftOut.{libraries_left_out, unmapped_entries}
 use Rattle.goblin_pe_export.specs.ExportReadings.{numbered_read}
 use Rattle.goblin_pe_export.specs.added.LeftOutExports.{pointers_left_out}
-use Rattle.goblin_pe.specs.declared.added.damage.Damage.{Damage}
-use Rattle.goblin_pe.specs.Modes.{in_mode}
+pub use Rattle.goblin_pe.specs.declared.added.damage.Damage.{Damage}
+use Rattle.goblin_pe.specs.{Modes.in_mode, added.Layouts.TakesIndex}
 use Rattle.goblin_pe.specs.Whole.{TablePlaces, directory_at, entry_format, export_part, import_list}
 use Rattle.goblin_pe.specs.Whole.{layout, mapped_in, addressing_by, places_in, relocation_part}
 use Rattle.goblin_pe.specs.Whole.{sections_after, whole_in}
-use Rattle.goblin_pe.specs.added.Layouts.{TakesIndex}
 
 -- There is a value and no damage, or there is no value and the cause is true.
 abbrev pub IsDamageOf : {A : Type 0} → Option A → (ErrorOf → Type 0) → Option ErrorOf → Type 0

@@ -1,10 +1,8 @@
 -- A key by which a cache knows the files whose answer it has.
 use Rattle.std.specs.Prelude.{◌≡◌, ◌≤◌, ℕ, List, length, map, slice_range}
-use Rattle.goblin_base.specs.Footprints.{Range}
-use Rattle.goblin_base.specs.Marks.{IsFootprint}
+use Rattle.goblin_base.specs.{Footprints.Range, Marks.IsFootprint}
 use Rattle.goblin_pe_sect.specs.declared.options.ParseOptions.{ParseOptions}
-use Rattle.goblin_pe.specs.Whole.{whole_file}
-use Rattle.goblin_pe.specs.declared.added.key.FileKey.{FileKey}
+use Rattle.goblin_pe.specs.{Whole.whole_file, declared.added.key.FileKey.FileKey}
 
 -- a range of a file, and its bytes there
 abbrev pub KeptRange : Type 0

@@ -2,47 +2,43 @@
 use Rattle.std.specs.Prelude.{◌≡◌, ◌<◌, ◌/◌, ℕ, List, length, map, Option, Some, Result, Ok, Err}
 use Rattle.std.specs.Prelude.{IfErr, IfOk, IsErrAnd, Bool, true, None, IfSome, IsSomeAnd}
 use Rattle.std.specs.Prelude.{MatchOption}
-use Rattle.goblin_base.specs.declared.error.ErrorOf.{ErrorOf}
-use Rattle.goblin_base.specs.Answers.{IsMemory}
+use Rattle.goblin_base.specs.{declared.error.ErrorOf.ErrorOf, Answers.IsMemory}
 use Rattle.goblin_base.specs.Reading.{IsRefused, Reading, ReadsOrMemory}
 use Rattle.readings.specs.Reads.{mapped, slice_at, given, pick}
 use Rattle.readings.specs.Walks.{IsWalkOf, GivesNext}
 use Rattle.goblin_pe_sect.specs.declared.data_directories.DataDirectory.{DataDirectory}
 use Rattle.goblin_pe_sect.specs.declared.options.ParseOptions.{ParseOptions}
-use Rattle.goblin_pe_sect.specs.declared.options.View.{View}
-use Rattle.goblin_pe_sect.specs.AddressReadings.{at_address}
+use Rattle.goblin_pe_sect.specs.{declared.options.View.View, AddressReadings.at_address}
+use Rattle.goblin_pe_sect.specs.Options.{is_strict}
 use Rattle.goblin_pe_sect.specs.Addresses.{Addressing, AreMany, MapOfAddresses, map_in, map_of}
 use Rattle.goblin_pe_sect.specs.Addresses.{reads_strictly}
-use Rattle.goblin_pe_sect.specs.Options.{is_strict}
 use Rattle.goblin_pe_sect.specs.SectionTable.{Section, recorded_sections, unnamed}
 use Rattle.goblin_pe_head.specs.declared.header.pe_header.Header.{Header}
 use Rattle.goblin_pe_head.specs.CoffHeader.{IsTooManySections}
 use Rattle.goblin_pe_head.specs.PeHeader.{PeHeader, header_value}
 use Rattle.goblin_pe_import.specs.ImportLookup.{entries_32, entries_64}
-use Rattle.goblin_pe_import.specs.Imports.{NumberedImport}
+use Rattle.goblin_pe_import.specs.{Imports.NumberedImport, added.ImportCursors.first_import}
+use Rattle.goblin_pe_import.specs.declared.added.imports.ImportCursor.{ImportCursor}
+use Rattle.goblin_pe_import.specs.declared.added.imports.WalkedImport.{WalkedImport}
 use Rattle.goblin_pe_import.specs.added.ImportWalks.{IsImportsCause, imports_bound, imports_left}
 use Rattle.goblin_pe_import.specs.added.ImportWalks.{AreImportsOver, HasName, IsCursorCause}
 use Rattle.goblin_pe_import.specs.added.ImportWalks.{cursor_left, cursor_of, imports_bytes}
 use Rattle.goblin_pe_import.specs.added.ImportWalks.{imports_map, no_imports, walked_value}
-use Rattle.goblin_pe_import.specs.added.ImportCursors.{first_import}
 use Rattle.goblin_pe_import.specs.added.StepsAhead.{EndsWithin, HaveRunOut, LooksAt, cursor_ahead}
 use Rattle.goblin_pe_import.specs.added.StepsAhead.{imports_ahead}
 use Rattle.goblin_pe_import.specs.Steps.{GivesWithin, HasNotGrown}
-use Rattle.goblin_pe_import.specs.declared.added.imports.ImportCursor.{ImportCursor}
-use Rattle.goblin_pe_import.specs.declared.added.imports.WalkedImport.{WalkedImport}
 use Rattle.goblin_pe_export.specs.declared.added.exports.Exports.{Exports}
 use Rattle.goblin_pe_export.specs.added.ExportAddresses.{export_addresses}
 use Rattle.goblin_pe_export.specs.ExportRecords.{ExportTables, NumberedExport}
 use Rattle.goblin_pe_export.specs.added.ExportWalks.{AreExportsOver, exports_left, exports_position}
 use Rattle.goblin_pe_export.specs.added.ExportWalks.{walked_tables}
-use Rattle.goblin_pe.specs.declared.whole.Part.{Part}
-use Rattle.goblin_pe.specs.declared.whole.Part.TheVariants.{Absent, Refused}
+use Rattle.goblin_pe.specs.Whole.{Part, Absent, Refused, TablePlaces, TableReader, directory_at}
+use Rattle.goblin_pe.specs.Whole.{mapped_in, part_at, places_in, sections_after, table_places}
+use Rattle.goblin_pe.specs.Whole.{entry_format}
 use Rattle.goblin_pe.specs.declared.whole.Part.TheVariants as part
-use Rattle.goblin_pe.specs.declared.added.file_imports.FileImports.{FileImports}
+pub use Rattle.goblin_pe.specs.declared.added.file_imports.FileImports.{FileImports}
 use Rattle.goblin_pe.specs.declared.added.file_imports.FileImports.TheVariants.{Narrow, Wide}
-use Rattle.goblin_pe.specs.declared.added.layout.Layout.{Layout}
-use Rattle.goblin_pe.specs.Whole.{TablePlaces, TableReader, directory_at, mapped_in, part_at}
-use Rattle.goblin_pe.specs.Whole.{places_in, sections_after, table_places, entry_format}
+pub use Rattle.goblin_pe.specs.declared.added.layout.Layout.{Layout}
 
 -- ---- what a reader of any table needs
 

@@ -1,14 +1,11 @@
 //! A walk over the imports of a file.
 
 ghost use Rattle.std.specs.Prelude.{◌≡◌, ◌<◌, ◌^◌, ℕ, Bool, IfSome, IsSome, List, find, option_map};
-ghost use Rattle.std.specs.Fn.{FnReturnsAt};
+ghost use Rattle.std.specs.{Fn.FnReturnsAt, Iterator.SizeHint.IsWithinCount};
 ghost use Rattle.std.specs.Iterator.{UpTo, at_most};
-ghost use Rattle.std.specs.Iterator.SizeHint.{IsWithinCount};
 ghost use Rattle.goblin_base.specs.Answers.{Answers, all_of};
-ghost use Rattle.readings.specs.Tests.{IsTest};
-ghost use Rattle.readings.specs.added.Questions.{counted, has_any};
-ghost use Rattle.goblin_pe_import.specs.added.ImportWalks.{walked_value};
-ghost use Rattle.goblin_pe_import.specs.Imports.{NumberedImport};
+ghost use Rattle.readings.specs.{Tests.IsTest, added.Questions.counted, added.Questions.has_any};
+ghost use Rattle.goblin_pe_import.specs.{added.ImportWalks.walked_value, Imports.NumberedImport};
 ghost use Rattle.goblin_pe_sect.specs.Addresses.{MapOfAddresses, map_of};
 ghost use Rattle.goblin_pe.specs.added.Layouts.{GivesFileImport, file_cursor_left, file_map};
 ghost use Rattle.goblin_pe.specs.added.Layouts.{GivesFileWithin, IsImportWalk, file_cursor};

@@ -1,8 +1,7 @@
 //! The positions of a file on which a read of the whole file depends.
 
 ghost use Rattle.std.specs.Prelude.{◌≡◌, ◌<◌, IfErr, IfOk, OnOk, false, length, replicate};
-ghost use Rattle.goblin_base.specs.Answers.{IsMemory};
-ghost use Rattle.goblin_base.specs.Marks.{IsFootprint, marked};
+ghost use Rattle.goblin_base.specs.{Answers.IsMemory, Marks.IsFootprint, Marks.marked};
 ghost use Rattle.goblin_pe_head.specs.PeHeader.{header_value};
 ghost use Rattle.goblin_pe.specs.Whole.{whole_after, whole_file, whole_in};
 

@@ -2,9 +2,7 @@
 
 ghost use Rattle.std.specs.Prelude.{◌≡◌, ◌↔◌, ◌<◌, ◌≤◌, IfErr, IfOk, IsTrue, List, length};
 ghost use Rattle.std.specs.Prelude.{map, ℕ, All};
-ghost use Rattle.goblin_base.specs.Answers.{IsMemory};
-ghost use Rattle.goblin_base.specs.Footprints.{Agree};
-ghost use Rattle.goblin_base.specs.Reading.{IsInFile};
+ghost use Rattle.goblin_base.specs.{Answers.IsMemory, Footprints.Agree, Reading.IsInFile};
 ghost use Rattle.goblin_pe_sect.specs.declared.options.ParseOptions.{ParseOptions};
 ghost use Rattle.goblin_pe.specs.added.Keys.{HasKeptRange, IsKeyOf, kept_range};
 ghost use Rattle.goblin_pe.specs.Whole.{whole_file};

@@ -2,21 +2,17 @@
 
 ghost use Rattle.std.specs.Prelude.{◌/◌, ◌<◌, ◌≡◌, IfOk, IsErrAnd, Option, length, map};
 ghost use Rattle.std.specs.List.{flat_map};
-ghost use Rattle.goblin_base.specs.declared.error.ErrorOf.{ErrorOf};
-ghost use Rattle.goblin_base.specs.Reading.{Reads};
-ghost use Rattle.readings.specs.Reads.{mapped};
-ghost use Rattle.readings.specs.Walks.{Walks};
+ghost use Rattle.goblin_base.specs.{declared.error.ErrorOf.ErrorOf, Reading.Reads};
+ghost use Rattle.readings.specs.{Reads.mapped, Walks.Walks};
 ghost use Rattle.goblin_pe_sect.specs.declared.options.ParseOptions.{ParseOptions};
 ghost use Rattle.goblin_pe_sect.specs.declared.options.View.TheVariants.{Loader, Sections};
 ghost use Rattle.goblin_pe_sect.specs.Addresses.{map_of, reads_strictly, strict_map, with_longest};
 ghost use Rattle.goblin_pe_sect.specs.BaseRelocations.{relocation_bytes};
 ghost use Rattle.goblin_pe_sect.specs.Options.{is_strict, rule_by_alignment};
 ghost use Rattle.goblin_pe_sect.specs.SectionTable.{recorded_sections, unnamed};
-ghost use Rattle.goblin_pe_head.specs.CoffHeader.{IsTooManySections};
-ghost use Rattle.goblin_pe_head.specs.PeHeader.{header_value};
+ghost use Rattle.goblin_pe_head.specs.{CoffHeader.IsTooManySections, PeHeader.header_value};
 ghost use Rattle.goblin_pe_import.specs.added.ImportCursors.{first_import};
-ghost use Rattle.goblin_pe_import.specs.ImportReadings.{numbered_data};
-ghost use Rattle.goblin_pe_import.specs.Imports.{numbered_imports};
+ghost use Rattle.goblin_pe_import.specs.{ImportReadings.numbered_data, Imports.numbered_imports};
 ghost use Rattle.goblin_pe.specs.added.Damages.{exports_left_out, left_out_of};
 ghost use Rattle.goblin_pe.specs.added.Layouts.{GivesFirst, IsFileCursorCause, IsImportWalkAt};
 ghost use Rattle.goblin_pe.specs.added.Layouts.{PartBegins, file_cursor_left, file_map};

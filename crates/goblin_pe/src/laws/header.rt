@@ -2,8 +2,7 @@
 
 ghost use Rattle.goblin_base.specs.Reading.{Twins};
 ghost use Rattle.goblin_pe_sect.specs.Options.{is_strict};
-ghost use Rattle.goblin_pe_head.specs.HeaderReadings.{pe_header};
-ghost use Rattle.goblin_pe_head.specs.PeHeader.{header_value};
+ghost use Rattle.goblin_pe_head.specs.{HeaderReadings.pe_header, PeHeader.header_value};
 
 use crate::header::Header;
 use crate::options::ParseOptions;

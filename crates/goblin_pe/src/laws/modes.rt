@@ -3,13 +3,10 @@
 ghost use Rattle.std.specs.Prelude.{false, true};
 ghost use Rattle.goblin_base.specs.declared.permissive.ParseMode.TheVariants.{Permissive, Strict};
 ghost use Rattle.goblin_base.specs.Reading.{InModes, Reads, ReadsOrMemory};
-ghost use Rattle.goblin_pe_sect.specs.Options.{is_strict};
-ghost use Rattle.goblin_pe_head.specs.HeaderReadings.{pe_header};
-ghost use Rattle.goblin_pe_head.specs.PeHeader.{header_value};
-ghost use Rattle.goblin_pe_sect.specs.Addresses.{map_by};
+ghost use Rattle.goblin_pe_sect.specs.{Options.is_strict, Addresses.map_by};
+ghost use Rattle.goblin_pe_head.specs.{HeaderReadings.pe_header, PeHeader.header_value};
 ghost use Rattle.goblin_pe.specs.Modes.{ReadsInModes, in_mode, in_permissive_mode};
-ghost use Rattle.goblin_pe.specs.TableRuns.{AreInModes};
-ghost use Rattle.goblin_pe.specs.Whole.{whole_file};
+ghost use Rattle.goblin_pe.specs.{TableRuns.AreInModes, Whole.whole_file};
 
 use crate::header::Header;
 use crate::import::Bitfield;

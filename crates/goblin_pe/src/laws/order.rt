@@ -1,7 +1,6 @@
 //! The readers that map addresses, run with two tables of sections.
 
-ghost use Rattle.goblin_pe_sect.specs.Options.{mapping_by};
-ghost use Rattle.goblin_pe_sect.specs.WindowOrder.{IsReordering};
+ghost use Rattle.goblin_pe_sect.specs.{Options.mapping_by, WindowOrder.IsReordering};
 ghost use Rattle.goblin_pe_sect.specs.Addresses.{map_by, reads_strictly};
 ghost use Rattle.goblin_pe.specs.TableRuns.{AreAlike, AreTables};
 

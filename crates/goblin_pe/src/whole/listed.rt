@@ -1,8 +1,7 @@
 //! The tables that a file's data directories lead to, as lists.
 
 ghost use Rattle.std.specs.Prelude.{◌≡◌, ◌<◌, IfOk, Some};
-ghost use Rattle.goblin_base.specs.Answers.{AnswersOrMemory};
-ghost use Rattle.goblin_base.specs.Reading.{ReadsOrMemory};
+ghost use Rattle.goblin_base.specs.{Answers.AnswersOrMemory, Reading.ReadsOrMemory};
 ghost use Rattle.readings.specs.Reads.{mapped};
 ghost use Rattle.goblin_pe_sect.specs.Addresses.{IsIndexed, map_of, reads_strictly};
 ghost use Rattle.goblin_pe_export.specs.ExportReadings.{export_read};

@@ -3,10 +3,8 @@
 
 ghost use Rattle.std.specs.Prelude.{◌==◌, ◌<◌, ◌≡◌, map};
 ghost use Rattle.goblin_base.specs.Reading.{Reads};
-ghost use Rattle.goblin_pe_sect.specs.Addresses.{map_of};
-ghost use Rattle.goblin_pe_sect.specs.BaseRelocations.{relocation_bytes};
-ghost use Rattle.goblin_pe_sect.specs.DataDirectories.{directory_or_zeros};
-ghost use Rattle.goblin_pe_sect.specs.Options.{is_strict};
+ghost use Rattle.goblin_pe_sect.specs.{Addresses.map_of, BaseRelocations.relocation_bytes};
+ghost use Rattle.goblin_pe_sect.specs.{DataDirectories.directory_or_zeros, Options.is_strict};
 ghost use Rattle.goblin_pe.specs.Whole.{BecomesPart, part_map, places_in, relocation_part};
 ghost use Rattle.goblin_pe.specs.Whole.{directory_at, directory_offset, size_of_headers};
 ghost use Rattle.goblin_pe.specs.Whole.{table_places};

@@ -3,8 +3,7 @@
 ghost use Rattle.std.specs.Prelude.{◌+◌, ◌/◌, ◌<◌, ◌≡◌, IsErrAnd, length};
 ghost use Rattle.goblin_base.specs.Reading.{ReadsOrMemory};
 ghost use Rattle.goblin_pe_sect.specs.Options.{is_strict};
-ghost use Rattle.goblin_pe_head.specs.CoffHeader.{IsTooManySections};
-ghost use Rattle.goblin_pe_head.specs.PeHeader.{header_value};
+ghost use Rattle.goblin_pe_head.specs.{CoffHeader.IsTooManySections, PeHeader.header_value};
 ghost use Rattle.goblin_pe.specs.Whole.{section_table_offset, sections_after};
 
 use goblin_base::Result;

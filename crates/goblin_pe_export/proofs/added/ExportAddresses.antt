@@ -3,10 +3,8 @@ use Rattle.std.proofs.Common.{◌≡◌, ℕ, Bool, true, false, if◌then◌els
 use Rattle.goblin_base.proofs.Steps.{same_value, step}
 use Rattle.readings.specs.Reads.{◌>>=◌, counted_if, or_none, pair_of}
 use Rattle.goblin_pe_sect.specs.declared.data_directories.DataDirectory.{DataDirectory}
-use Rattle.goblin_pe_sect.specs.AddressReadings.{name_at}
-use Rattle.goblin_pe_sect.specs.Addresses.{Addressing}
-use Rattle.goblin_pe_export.specs.declared.export.tables.ExportAddressTableEntry.{ExportAddressTableEntry}
-use Rattle.goblin_pe_export.specs.declared.export.tables.ExportDirectoryTable.{ExportDirectoryTable}
+use Rattle.goblin_pe_sect.specs.{AddressReadings.name_at, Addresses.Addressing}
+use Rattle.goblin_pe_export.specs.ExportRecords.{ExportAddressTableEntry, ExportDirectoryTable}
 use Rattle.goblin_pe_export.specs.ExportRecords.{ExportTables, addresses, name_pointers, ordinals}
 use Rattle.goblin_pe_export.specs.added.ExportAddresses.{RepeatsAddresses, address_tables, export_addresses, without_names}
 use Rattle.goblin_pe_export.specs.ExportReadings.{export_data, export_record_at, export_tables, fitting, fitting_addresses}

@@ -6,10 +6,9 @@ use Rattle.goblin_base.specs.Tables.{Format}
 use Rattle.goblin_pe_sect.specs.AddressReadings.{name_at}
 use Rattle.goblin_pe_sect.specs.declared.data_directories.DataDirectory.{DataDirectory}
 use Rattle.goblin_pe_sect.specs.Addresses.{Addressing}
-use Rattle.goblin_pe_export.specs.ExportReadings.{export_tables}
-use Rattle.goblin_pe_export.specs.Forwarders.{forwarder_within}
+use Rattle.goblin_pe_export.specs.{ExportReadings.export_tables, Forwarders.forwarder_within}
 use Rattle.goblin_pe_export.specs.ExportRecords.{addresses, name_pointers, ordinals}
-use Rattle.goblin_pe_export.specs.declared.export.tables.ExportDirectoryTable.{ExportDirectoryTable}
+use Rattle.goblin_pe_export.specs.ExportRecords.{ExportDirectoryTable}
 use Rattle.goblin_pe_export.proofs.WholeEntries.{whole-is}
 
 -- the entries of `width` bytes at a place that are whole, at most `count`

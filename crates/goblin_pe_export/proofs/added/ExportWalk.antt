@@ -3,20 +3,17 @@ use Rattle.std.proofs.Common.{◌≡◌, ◌<◌, ◌≤◌, ◌++◌, ◌+◌, 
 use Rattle.std.specs.List.{cons_option, range_with_len}
 use Rattle.std.proofs.lemmas.List.Elements.{filter_map-append}
 use Rattle.std.proofs.lemmas.List.FromFn.{length-range_with_len}
-use Rattle.goblin_base.specs.declared.endian.Endian.TheVariants.{Little}
-use Rattle.goblin_base.specs.Tables.{concat_below}
-use Rattle.goblin_base.proofs.Records.{record_at-some}
-use Rattle.goblin_base.proofs.Steps.{step}
+use Rattle.goblin_base.specs.{declared.endian.Endian.TheVariants.Little, Tables.concat_below}
+use Rattle.goblin_base.proofs.{Records.record_at-some, Steps.step}
 use Rattle.readings.proofs.WalkValues.{range-next}
 use Rattle.goblin_pe_sect.specs.declared.data_directories.DataDirectory.{DataDirectory}
 use Rattle.goblin_pe_sect.specs.Addresses.{Addressing}
 use Rattle.goblin_pe_export.specs.ExportReadings as reading
 use Rattle.goblin_pe_export.specs.ExportRecords.{ExportTables, export_directory_record, name_pointers}
-use Rattle.goblin_pe_export.specs.Exports.{export_data}
-use Rattle.goblin_pe_export.specs.added.ExportWalks.{GivesExport, GivesExportBefore, NumberedExport, exports_position, numbered_from, walked_tables}
-use Rattle.goblin_pe_export.specs.ExportReadings.{numbered_export}
+use Rattle.goblin_pe_export.specs.{Exports.export_data, ExportReadings.numbered_export}
 use Rattle.goblin_pe_export.specs.declared.added.exports.Exports.{Exports}
 use Rattle.goblin_pe_export.specs.declared.added.exports.WalkedExport.{WalkedExport}
+use Rattle.goblin_pe_export.specs.added.ExportWalks.{GivesExport, GivesExportBefore, NumberedExport, exports_position, numbered_from, walked_tables}
 use Rattle.goblin_pe_export.proofs.WholeEntries.{entry_count}
 
 -- ---- what is kept of a list of indexes

@@ -1,11 +1,9 @@
 -- A name pointer gives an export or is left out.
 use Rattle.std.proofs.Common.{◌≡◌, ◌+◌, ◌-◌, ℕ, suc, Bool, true, false, List, [], ◌∷◌, Option, Some, None, cond, map, length, ap, arith, refl, subst, sym, ◌∙◌, count_by, not, map-id, is_some}
-use Rattle.std.specs.Int.{from_bool}
-use Rattle.std.specs.List.{cons_option, filter_map, range_with_len}
+use Rattle.std.specs.{Int.from_bool, List.cons_option, List.filter_map, List.range_with_len}
 use Rattle.std.proofs.lemmas.List.Sums.{sum_by-append}
 use Rattle.std.proofs.lemmas.List.FromFn.{length-range_with_len, sum_by-map-range_with_len_more}
-use Rattle.goblin_pe_export.specs.ExportRecords.{ExportTables}
-use Rattle.goblin_pe_export.specs.ExportReadings.{numbered_export}
+use Rattle.goblin_pe_export.specs.{ExportRecords.ExportTables, ExportReadings.numbered_export}
 use Rattle.goblin_pe_export.specs.added.ExportWalks.{numbered_from}
 use Rattle.goblin_pe_export.specs.ExportReadings as reading
 use Rattle.goblin_pe_export.specs.added.LeftOutExports.{gives_export, pointers_left_out}

@@ -3,10 +3,9 @@ use Rattle.std.specs.Prelude.{◌≡◌, ℕ, List, [], IfSome, Some}
 use Rattle.goblin_base.specs.Reading.{Reading}
 use Rattle.readings.specs.Reads.{◌>>=◌, ◌beside◌, counted_if, mapped, or_none}
 use Rattle.goblin_pe_sect.specs.declared.data_directories.DataDirectory.{DataDirectory}
-use Rattle.goblin_pe_export.specs.ExportRecords.{ExportTables, addresses}
+use Rattle.goblin_pe_export.specs.ExportRecords.{ExportTables, addresses, ExportDirectoryTable}
 use Rattle.goblin_pe_sect.specs.AddressReadings.{at_address, name_at}
 use Rattle.goblin_pe_sect.specs.Addresses.{Addressing}
-use Rattle.goblin_pe_export.specs.declared.export.tables.ExportDirectoryTable.{ExportDirectoryTable}
 use Rattle.goblin_pe_export.specs.ExportReadings.{export_record_at, export_data, fitting_addresses}
 
 -- what a record leads to, without the tables of the names: the library's name and the address table

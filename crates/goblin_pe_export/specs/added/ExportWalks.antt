@@ -1,8 +1,7 @@
 -- The walk over the exports of an image: what is still to come.
 use Rattle.std.specs.Prelude.{◌≡◌, ℕ, ◌+◌, ◌-◌, ◌/◌, ◌<◌, ◌≤◌, List, MatchOption, Option}
 use Rattle.std.specs.Prelude.{Some, filter_map, length, max, min}
-use Rattle.std.specs.Iterator.{YieldsFirstBy}
-use Rattle.std.specs.List.{range_with_len}
+use Rattle.std.specs.{Iterator.YieldsFirstBy, List.range_with_len}
 use Rattle.goblin_pe_sect.specs.Addresses.{MapOfAddresses, map_of, Addressing}
 use Rattle.goblin_pe_export.specs.ExportRecords.{ExportTables, tables_in}
 pub use Rattle.goblin_pe_export.specs.ExportRecords.{NumberedExport}

@@ -1,10 +1,8 @@
 -- How many name pointers of an export directory give no export.
 use Rattle.std.specs.Prelude.{ℕ, Bool, List, count_by, length, not, is_some}
 use Rattle.std.specs.List.{range_with_len}
-use Rattle.goblin_pe_export.specs.ExportReadings.{reexport_of}
-use Rattle.goblin_pe_export.specs.ExportRecords.{ExportTables}
-use Rattle.goblin_pe_export.specs.Exports.{export_row}
-use Rattle.goblin_pe_export.specs.declared.export.tables.ExportAddressTableEntry.{ExportAddressTableEntry}
+use Rattle.goblin_pe_export.specs.{ExportReadings.reexport_of, Exports.export_row}
+use Rattle.goblin_pe_export.specs.ExportRecords.{ExportTables, ExportAddressTableEntry}
 use Rattle.goblin_pe_sect.specs.Addresses.{Addressing}
 
 -- an entry of the address table is not a forwarder, or is one whose text can be read

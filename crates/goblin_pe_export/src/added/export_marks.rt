@@ -1,8 +1,7 @@
 //! Which bytes of a file its exports depend on.
 
 ghost use Rattle.std.specs.Prelude.{◌≡◌, ◌+◌, ◌-◌, ◌*◌, ◌/◌, ◌<◌, IfErr, IfOk, length, min};
-ghost use Rattle.goblin_base.specs.Answers.{IsMemory};
-ghost use Rattle.goblin_base.specs.Marks.{IsFootprint, marked};
+ghost use Rattle.goblin_base.specs.{Answers.IsMemory, Marks.IsFootprint, Marks.marked};
 ghost use Rattle.goblin_base.specs.Footprints.{led_to, positions};
 ghost use Rattle.goblin_pe_sect.specs.Addresses.{map_by, map_of};
 ghost use Rattle.goblin_pe_export.specs.ExportReadings as reading;

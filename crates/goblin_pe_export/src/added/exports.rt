@@ -3,9 +3,8 @@
 
 ghost use Rattle.std.specs.Prelude.{◌≡◌, ◌≤◌, ◌<◌, ◌^◌, ◌+◌, IfOk, IfSome, MatchOption, None, Some};
 ghost use Rattle.std.specs.Prelude.{length, option_map, slice_get, Bool, count_by, find};
-ghost use Rattle.std.specs.Fn.{FnReturnsAt};
+ghost use Rattle.std.specs.{Fn.FnReturnsAt, Iterator.SizeHint.IsWithinCount};
 ghost use Rattle.std.specs.Iterator.{UpTo, at_most};
-ghost use Rattle.std.specs.Iterator.SizeHint.{IsWithinCount};
 ghost use Rattle.goblin_base.specs.Reading.{Reads};
 ghost use Rattle.readings.specs.Tests.{IsTest};
 ghost use Rattle.goblin_pe_sect.specs.Addresses.{map_of};

@@ -2,9 +2,7 @@
 
 ghost use Rattle.std.specs.Prelude.{◌≡◌, ◌<◌, ◌*◌, ◌^◌, IfSome, List, Some, length};
 ghost use Rattle.std.specs.Prelude.{option_map, slice_get};
-ghost use Rattle.goblin_base.specs.Answers.{GivesOrMemory};
-ghost use Rattle.goblin_base.specs.Bytes.{slice_at};
-ghost use Rattle.goblin_base.specs.Reading.{Reads};
+ghost use Rattle.goblin_base.specs.{Answers.GivesOrMemory, Bytes.slice_at, Reading.Reads};
 ghost use Rattle.goblin_pe_sect.specs.Addresses.{map_of};
 ghost use Rattle.goblin_pe_export.specs.ExportReadings as reading;
 ghost use Rattle.goblin_pe_export.specs.ExportRecords.{ExportTables, tables_in};

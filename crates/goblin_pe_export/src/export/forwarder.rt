@@ -1,8 +1,7 @@
 //! Forwarders: exports that refer to an export of another library.
 
 ghost use Rattle.std.specs.Prelude.{◌≡◌, ◌↔◌, List, ℕ, Some};
-ghost use Rattle.goblin_base.specs.Answers.{Answers};
-ghost use Rattle.goblin_base.specs.Reading.{Reads};
+ghost use Rattle.goblin_base.specs.{Answers.Answers, Reading.Reads};
 ghost use Rattle.goblin_pe_export.specs.ForwarderLaws.{forwarder_in-within};
 ghost use Rattle.goblin_pe_export.specs.Forwarders.{Forwarder, IsForwarder, forwarder_in_text};
 ghost use Rattle.goblin_pe_export.specs.Forwarders.{forwarder_within, is_longer};

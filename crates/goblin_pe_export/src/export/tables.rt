@@ -1,9 +1,8 @@
 //! The export directory's record, and the three tables that it leads to.
 
 ghost use Rattle.std.specs.Prelude.{◌≡◌, ◌<◌, ◌-◌, ◌/◌, length, min};
-ghost use Rattle.goblin_base.specs.Reading.{Reads};
-ghost use Rattle.goblin_base.specs.Record.{WritesRecord};
-ghost use Rattle.goblin_pe_export.specs.declared.export.tables.ExportDirectoryTable.{ExportDirectoryTable};
+ghost use Rattle.goblin_base.specs.{Reading.Reads, Record.WritesRecord};
+ghost use Rattle.goblin_pe_export.specs.ExportRecords.{ExportDirectoryTable};
 ghost use Rattle.goblin_pe_export.specs.ExportReadings.{export_record_at, fitting};
 ghost use Rattle.goblin_pe_export.specs.ExportReadings.{fitting_addresses};
 ghost use Rattle.goblin_pe_export.specs.ExportRecords.{address_entry, export_directory_fields};

@@ -2,8 +2,7 @@
 
 ghost use Rattle.goblin_base.specs.Reading.{ReadsOrMemory, TwinsOrMemory};
 ghost use Rattle.goblin_pe_sect.specs.Addresses.{map_by};
-ghost use Rattle.goblin_pe_export.specs.ExportReadings.{export_read};
-ghost use Rattle.goblin_pe_export.specs.Exports.{export_read_model};
+ghost use Rattle.goblin_pe_export.specs.{ExportReadings.export_read, Exports.export_read_model};
 
 use crate::export::{Export, ExportData};
 use goblin_base::Result;

@@ -1,21 +1,16 @@
 -- What a search for a Rich header and an optional header reach, as positions in the file.
 use Rattle.std.proofs.Common.{◌≡◌, ◌≢◌, ℕ, rules, ◌+◌, ◌*◌, ◌==◌, false, nat_le, Option, Some, None, List, [], ◌++◌, drop, take, length, append-nil, refl, ap, ◌∙◌, arith, inl, inr}
 use Rattle.std.proofs.lemmas.Bool.{cases_Bool}
-use Rattle.goblin_base.specs.declared.endian.Endian.TheVariants.{Little}
-use Rattle.goblin_base.specs.Bytes.{number_at}
+use Rattle.goblin_base.specs.{declared.endian.Endian.TheVariants.Little, Bytes.number_at}
+use Rattle.goblin_base.specs.{Parts.moved_by, Parts.search_footprint, Record.record_at}
 use Rattle.goblin_base.specs.Footprints.{Range, led_to, positions, slice_footprint}
-use Rattle.goblin_base.specs.Parts.{moved_by, search_footprint}
-use Rattle.goblin_base.specs.Record.{record_at}
 use Rattle.goblin_base.proofs.Below.{concat_below-agree}
 use Rattle.goblin_base.proofs.Ranges.{moved-append, moved-below, moved-led, moved-positions, moved-slice}
 use Rattle.readings.specs.Reads.{in_rest}
 use Rattle.goblin_pe_sect.specs.DirectoryReadings.{directories_at}
-use Rattle.goblin_pe_head.specs.declared.optional_header.FixedFields.{FixedFields}
-use Rattle.goblin_pe_head.specs.declared.header.dos.DosHeader.{DosHeader}
-use Rattle.goblin_pe_head.specs.declared.header.coff.CoffHeader.{CoffHeader}
-use Rattle.goblin_pe_head.specs.CoffHeader.{coff_header}
-use Rattle.goblin_pe_head.specs.DosHeader.{dos_record}
-use Rattle.goblin_pe_head.specs.HeaderReadings.{dos_header, fixed_fields, optional_at, optional_header, parts_at, standard_by, windows_by}
+use Rattle.goblin_pe_head.specs.HeaderReadings.{FixedFields, dos_header, fixed_fields, optional_at, optional_header, parts_at, standard_by, windows_by}
+use Rattle.goblin_pe_head.specs.DosHeader.{DosHeader, dos_record}
+use Rattle.goblin_pe_head.specs.CoffHeader.{CoffHeader, coff_header}
 use Rattle.goblin_pe_head.specs.RichHeader.{dans_place, marker_place, word_at, rich_in}
 
 -- ---- the DOS header

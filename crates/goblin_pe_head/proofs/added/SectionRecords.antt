@@ -1,17 +1,12 @@
 -- The records of sections one after the other, whose sections have no names from the string table.
 use Rattle.std.proofs.Common.{◌≡◌, ℕ, ◌+◌, ◌*◌, ◌/◌, ◌<◌, ◌≤◌, ◌∷◌, ◌++◌, [], Bool, Bor, List, length, map, sym, ap, refl, ◌∙◌, inl, inr, arith, Option, None, Some, option_map, slice_range, unwrap_or}
-use Rattle.std.specs.Slice.{IsGetRangeResult}
-use Rattle.std.proofs.lemmas.Bool.{cases_lt}
-use Rattle.std.specs.List.{range_with_len}
-use Rattle.std.proofs.lemmas.List.{map-append}
+use Rattle.std.specs.{Slice.IsGetRangeResult, List.range_with_len}
+use Rattle.std.proofs.{lemmas.Bool.cases_lt, lemmas.List.map-append}
 use Rattle.std.proofs.lemmas.List.FromFn.{map-range_with_len_more}
 use Rattle.goblin_base.specs.declared.endian.Endian.TheVariants.{Little}
-use Rattle.goblin_base.specs.declared.error.ErrorOf.{ErrorOf}
+use Rattle.goblin_base.specs.{declared.error.ErrorOf.ErrorOf, Record.record_at, Tables.records_in}
 use Rattle.goblin_base.specs.Answers.{◌>>=◌, all_at}
-use Rattle.goblin_base.specs.Record.{record_at}
-use Rattle.goblin_base.specs.Tables.{records_in}
-use Rattle.goblin_base.proofs.Footprints.{same_map}
-use Rattle.goblin_base.proofs.Numbers.{slice-of_slice}
+use Rattle.goblin_base.proofs.{Footprints.same_map, Numbers.slice-of_slice}
 use Rattle.goblin_base.proofs.RecordRoundTrip.{length-slice}
 use Rattle.goblin_base.proofs.Records.{IsRecordOf, record_at-some}
 use Rattle.goblin_base.proofs.Steps as steps

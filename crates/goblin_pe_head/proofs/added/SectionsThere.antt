@@ -1,13 +1,11 @@
 -- The section headers that are there.
 use Rattle.std.proofs.Common.{◌≡◌, ◌==◌, cond, ℕ, ◌*◌, ◌/◌, ◌<◌, ◌≤◌, Bool, true, false, List, length, [], arith, ap, refl, inr, Result, Ok, Err, None, Option, Some, option_map}
 use Rattle.std.proofs.lemmas.Bool.{eqb-true}
-use Rattle.goblin_base.specs.declared.error.ErrorOf.{ErrorOf}
-use Rattle.goblin_base.specs.Bytes.{slice_at}
+use Rattle.goblin_base.specs.{declared.error.ErrorOf.ErrorOf, Bytes.slice_at}
 use Rattle.goblin_base.specs.Reading.{Reading, Reads}
 use Rattle.goblin_base.proofs.Numbers.{slice_at-past}
 use Rattle.goblin_pe_sect.specs.SectionTable.{sections_in}
-use Rattle.goblin_pe_head.specs.CoffReadings.{with_room}
-use Rattle.goblin_pe_head.specs.added.HeaderParts.{sections_there}
+use Rattle.goblin_pe_head.specs.{CoffReadings.with_room, added.HeaderParts.sections_there}
 
 -- the same without that
 pub in_room_read : {X A : Type 0} (view : X → A) (r : Result X ErrorOf) (n : ℕ)

@@ -2,22 +2,17 @@
 use Rattle.std.proofs.Common.{replicate, ◌≡◌, ℕ, ◌+◌, ◌≤◌, Bool, true, false, cond, nat_le, List, drop, Option, Some, None, Result, Ok, Err, refl, sym, ap, ◌∙◌, arith, inl, inr, ◌==◌, IfSome, option_map, unwrap_or}
 use Rattle.std.specs.Prelude.{min}
 use Rattle.std.proofs.lemmas.Bool.{leb-true}
-use Rattle.goblin_base.specs.declared.error.ErrorOf.{ErrorOf}
-use Rattle.goblin_base.specs.Reading.{Reading, Reads}
+use Rattle.goblin_base.specs.{declared.error.ErrorOf.ErrorOf, Reading.Reading, Reading.Reads}
 use Rattle.goblin_base.proofs.Steps.{same_value}
 use Rattle.goblin_pe_sect.specs.declared.data_directories.DataDirectories.{DataDirectories}
 use Rattle.goblin_pe_sect.specs.declared.data_directories.DataDirectory.{DataDirectory}
 use Rattle.goblin_pe_sect.specs.DirectoryReadings.{directories_at}
-use Rattle.goblin_pe_head.specs.declared.header.coff.CoffHeader.{CoffHeader}
-use Rattle.goblin_pe_head.specs.declared.header.dos.DosHeader.{DosHeader}
-use Rattle.goblin_pe_head.specs.declared.added.parts.HeaderParts.{HeaderParts}
-use Rattle.goblin_pe_head.specs.declared.optional_header.OptionalHeader.{OptionalHeader}
-use Rattle.goblin_pe_head.specs.declared.optional_header.standard_fields.StandardFields.{StandardFields}
-use Rattle.goblin_pe_head.specs.declared.optional_header.windows_fields.WindowsFields64.{WindowsFields64}
+use Rattle.goblin_pe_head.specs.{CoffHeader.CoffHeader, DosHeader.DosHeader}
+use Rattle.goblin_pe_head.specs.{declared.added.parts.HeaderParts.HeaderParts, PeHeader.PeHeader}
+use Rattle.goblin_pe_head.specs.OptionalHeader.{OptionalHeader, StandardFields, WindowsFields64}
+use Rattle.goblin_pe_head.specs.OptionalHeader.{fields_size}
 use Rattle.goblin_pe_head.specs.added.HeaderParts.{AreOfHeader, AreOfWhole, ArePartsOf, coff_part, directories_front, optional_part, placed_coff, standard_front, no_windows_fields, windows_front}
 use Rattle.goblin_pe_head.specs.HeaderReadings.{dos_header, optional_at, optional_header, pe_header}
-use Rattle.goblin_pe_head.specs.OptionalHeader.{fields_size}
-use Rattle.goblin_pe_head.specs.PeHeader.{PeHeader}
 use Rattle.goblin_pe_head.proofs.OptionalParts.{IsOptionalOf, optional_of}
 use Rattle.goblin_pe_head.proofs.PeHeaderRoundTrip.{IsHeaderOf, parts_of}
 

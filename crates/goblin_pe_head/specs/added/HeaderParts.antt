@@ -10,17 +10,13 @@ use Rattle.goblin_pe_sect.specs.declared.data_directories.DataDirectories.{DataD
 use Rattle.goblin_pe_sect.specs.declared.data_directories.DataDirectory.{DataDirectory}
 use Rattle.goblin_pe_sect.specs.DirectoryReadings.{directories_at}
 use Rattle.goblin_pe_sect.specs.SectionTable.{Section, recorded_sections, sections_in}
-use Rattle.goblin_pe_head.specs.declared.header.coff.CoffHeader.{CoffHeader}
+use Rattle.goblin_pe_head.specs.CoffHeader.{CoffHeader, coff_header}
 use Rattle.goblin_pe_head.specs.declared.added.parts.HeaderParts.{HeaderParts}
-use Rattle.goblin_pe_head.specs.declared.optional_header.OptionalHeader.{OptionalHeader}
-use Rattle.goblin_pe_head.specs.declared.optional_header.standard_fields.StandardFields.{StandardFields}
-use Rattle.goblin_pe_head.specs.declared.optional_header.windows_fields.WindowsFields64.{WindowsFields64}
-use Rattle.goblin_pe_head.specs.CoffHeader.{coff_header}
-use Rattle.goblin_pe_head.specs.CoffReadings.{with_room}
+use Rattle.goblin_pe_head.specs.{CoffReadings.with_room, PeHeader.PeHeader}
+use Rattle.goblin_pe_head.specs.OptionalHeader.{OptionalHeader, StandardFields, WindowsFields64}
+use Rattle.goblin_pe_head.specs.OptionalHeader.{fields_size, windows_record}
 use Rattle.goblin_pe_head.specs.HeaderReadings.{dos_header, optional_with, pe_header, standard_by}
 use Rattle.goblin_pe_head.specs.HeaderReadings.{windows_by}
-use Rattle.goblin_pe_head.specs.OptionalHeader.{fields_size, windows_record}
-use Rattle.goblin_pe_head.specs.PeHeader.{PeHeader}
 
 -- Source: PE Format, "File Headers".
 

@@ -2,9 +2,8 @@
 
 ghost use Rattle.std.specs.Prelude.{◌≡◌, ◌<◌, ◌≤◌, ◌+◌, ◌^◌, ◌++◌, Bool, IfErr, IfOk, IfSome};
 ghost use Rattle.std.specs.Prelude.{length};
-ghost use Rattle.goblin_base.specs.Answers.{IsMemory};
+ghost use Rattle.goblin_base.specs.{Answers.IsMemory, Footprints.slice_footprint};
 ghost use Rattle.goblin_base.specs.Marks.{IsFootprint, marked};
-ghost use Rattle.goblin_base.specs.Footprints.{slice_footprint};
 ghost use Rattle.goblin_base.specs.Parts.{moved_by, search_footprint};
 ghost use Rattle.readings.specs.Reads.{in_rest};
 ghost use Rattle.goblin_pe_head.specs.HeaderReadings as reading;

@@ -3,8 +3,7 @@
 ghost use Rattle.std.specs.Prelude.{◌≡◌, ◌+◌};
 ghost use Rattle.goblin_base.specs.Marks.{marked};
 ghost use Rattle.goblin_pe_sect.specs.Options.{is_strict};
-ghost use Rattle.goblin_pe_head.specs.CoffHeader.{symbols_end};
-ghost use Rattle.goblin_pe_head.specs.CoffReadings.{sections_at};
+ghost use Rattle.goblin_pe_head.specs.{CoffHeader.symbols_end, CoffReadings.sections_at};
 
 use crate::header::{CoffHeader, SIZEOF_COFF_HEADER, SIZEOF_PE_MAGIC};
 use goblin_base::footprint::Marks;

@@ -3,8 +3,7 @@
 ghost use Rattle.std.specs.Prelude.{◌≡◌, ◌+◌, ◌*◌, ◌/◌, ◌<◌, ℕ, map, length, IsErrAnd, OnErr, OnOk};
 ghost use Rattle.goblin_base.specs.Reading.{Reads};
 ghost use Rattle.readings.specs.Reads.{each, mapped};
-ghost use Rattle.goblin_pe_sect.specs.Options.{is_strict};
-ghost use Rattle.goblin_pe_sect.specs.SectionReadings.{named_section_at};
+ghost use Rattle.goblin_pe_sect.specs.{Options.is_strict, SectionReadings.named_section_at};
 ghost use Rattle.goblin_pe_sect.specs.SectionTable.{recorded_sections, unnamed};
 ghost use Rattle.goblin_pe_head.specs.CoffHeader.{IsTooManySections, symbols_end};
 ghost use Rattle.goblin_pe_head.specs.CoffReadings as coff_reading;

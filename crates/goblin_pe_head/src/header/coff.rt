@@ -3,14 +3,12 @@
 
 ghost use Rattle.std.specs.Prelude.{◌≡◌, ◌+◌, ◌*◌, ◌/◌, ◌<◌, length, option_map, true, OnOk};
 ghost use Rattle.std.specs.Prelude.{OnErr, IsErrAnd};
-ghost use Rattle.goblin_base.specs.Reading.{Reads, ReadsOrMemory};
-ghost use Rattle.goblin_base.specs.Record.{WritesRecord};
+ghost use Rattle.goblin_base.specs.{Reading.Reads, Reading.ReadsOrMemory, Record.WritesRecord};
 ghost use Rattle.readings.specs.Reads.{record_at};
 ghost use Rattle.goblin_pe_sect.specs.Options.{is_strict};
 ghost use Rattle.goblin_pe_symbol.specs.Symbols.{symbol_bytes};
-ghost use Rattle.goblin_pe_head.specs.declared.header.coff.CoffHeader.{CoffHeader};
-ghost use Rattle.goblin_pe_head.specs.CoffHeader.{IsTooManySections, coff_fields, coff_header};
-ghost use Rattle.goblin_pe_head.specs.CoffHeader.{string_table_offset, symbols_end};
+ghost use Rattle.goblin_pe_head.specs.CoffHeader.{CoffHeader, IsTooManySections, coff_fields};
+ghost use Rattle.goblin_pe_head.specs.CoffHeader.{coff_header, string_table_offset, symbols_end};
 ghost use Rattle.goblin_pe_head.specs.CoffReadings as reading;
 
 use crate::header::sections::read_sections;

@@ -1,9 +1,8 @@
 //! The header of a DOS program, which a PE file begins with.
 
 ghost use Rattle.std.specs.Prelude.{◌≡◌, ◌+◌, ◌≤◌, length, IfOk};
-ghost use Rattle.goblin_base.specs.Reading.{Reads};
+ghost use Rattle.goblin_base.specs.{Reading.Reads, Bytes.overwritten};
 ghost use Rattle.goblin_base.specs.Answers.{Writes, IsSliceFault};
-ghost use Rattle.goblin_base.specs.Bytes.{overwritten};
 ghost use Rattle.goblin_base.specs.Record.{ReadsBack, WritesBack, encoding};
 ghost use Rattle.goblin_pe_head.specs.DosHeader.{dos_fields, dos_record};
 ghost use Rattle.goblin_pe_head.specs.HeaderLaws.{DosWritesBack};

@@ -2,19 +2,16 @@
 
 ghost use Rattle.std.specs.Prelude.{◌≡◌, ◌+◌, ◌≤◌, IfOk, IfSome, IsSomeAnd, None, OnErr};
 ghost use Rattle.std.specs.Prelude.{OnOk, Some, length, option_and_then, option_map, true};
-ghost use Rattle.goblin_base.specs.declared.endian.Endian.{Endian};
-ghost use Rattle.goblin_base.specs.Reading.{Reads};
+ghost use Rattle.goblin_base.specs.{declared.endian.Endian.Endian, Reading.Reads, Record.ReadsBack};
 ghost use Rattle.goblin_base.specs.Answers.{Answers, Writes, IsSliceFault, FirstFault};
 ghost use Rattle.goblin_base.specs.Bytes.{overwritten, replaced};
-ghost use Rattle.goblin_base.specs.Record.{ReadsBack};
 ghost use Rattle.goblin_pe_sect.specs.Options.{is_strict};
-ghost use Rattle.goblin_pe_head.specs.DosStub.{stub_bytes};
+ghost use Rattle.goblin_pe_head.specs.{DosStub.stub_bytes, OptionalHeader.written_bytes};
 ghost use Rattle.goblin_pe_head.specs.CoffHeader.{coff_fields, coff_header};
 ghost use Rattle.goblin_pe_head.specs.DosHeader.{dos_fields, dos_record};
 ghost use Rattle.goblin_pe_head.specs.HeaderLaws.{FieldsReadBack, HeaderReadsBack};
 ghost use Rattle.goblin_pe_head.specs.HeaderLaws.{HeaderWritesBack, IsConsistent};
 ghost use Rattle.goblin_pe_head.specs.HeaderReadings as reading;
-ghost use Rattle.goblin_pe_head.specs.OptionalHeader.{written_bytes};
 ghost use Rattle.goblin_pe_head.specs.PeHeader.{IsUnwrittenPart, default_header, header_bytes};
 ghost use Rattle.goblin_pe_head.specs.PeHeader.{header_parts, header_value, written_part};
 ghost use Rattle.goblin_pe_head.specs.RichHeader.{PaddingFits, rich_value};

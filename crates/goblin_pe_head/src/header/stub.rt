@@ -1,9 +1,8 @@
 //! The DOS stub: the program between the DOS header and the PE signature.
 
 ghost use Rattle.std.specs.Prelude.{◌≡◌, length, IfOk};
-ghost use Rattle.goblin_base.specs.Reading.{Reads};
+ghost use Rattle.goblin_base.specs.{Reading.Reads, Bytes.overwritten};
 ghost use Rattle.goblin_base.specs.Answers.{Writes, IsSliceFault};
-ghost use Rattle.goblin_base.specs.Bytes.{overwritten};
 ghost use Rattle.goblin_pe_head.specs.DosStub.{default_stub, stub_bytes};
 ghost use Rattle.goblin_pe_head.specs.HeaderReadings as reading;
 

@@ -3,9 +3,8 @@
 
 ghost use Rattle.std.specs.Prelude.{◌≡◌, ◌+◌, ◌*◌, ◌/◌, ◌<◌, length, IsErrAnd, OnOk, OnErr};
 ghost use Rattle.goblin_base.specs.Reading.{Reads, ReadsOrMemory};
-ghost use Rattle.goblin_base.specs.Answers.{Answers};
-ghost use Rattle.goblin_base.specs.Record.{WritesRecord};
-ghost use Rattle.goblin_pe_head.specs.declared.header.te.TeHeader.{TeHeader};
+ghost use Rattle.goblin_base.specs.{Answers.Answers, Record.WritesRecord};
+ghost use Rattle.goblin_pe_head.specs.TeHeader.{TeHeader};
 ghost use Rattle.goblin_pe_head.specs.CoffHeader.{IsTooManySections};
 ghost use Rattle.goblin_pe_head.specs.TeHeader.{IsStrippedFault, displacement, moved_address};
 ghost use Rattle.goblin_pe_head.specs.TeHeader.{pointer_moved, section_moved, te_fields, te_record};

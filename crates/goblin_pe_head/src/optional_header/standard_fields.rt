@@ -2,8 +2,7 @@
 
 ghost use Rattle.std.specs.Prelude.{◌%◌, ◌^◌, ◌≡◌};
 ghost use Rattle.goblin_base.specs.Record.{WritesRecord};
-ghost use Rattle.goblin_pe_head.specs.declared.optional_header.standard_fields.StandardFields32.{StandardFields32};
-ghost use Rattle.goblin_pe_head.specs.declared.optional_header.standard_fields.StandardFields64.{StandardFields64};
+ghost use Rattle.goblin_pe_head.specs.OptionalHeader.{StandardFields32, StandardFields64};
 ghost use Rattle.goblin_pe_head.specs.OptionalHeader.{standard_32_record, standard_32_fields};
 ghost use Rattle.goblin_pe_head.specs.OptionalHeader.{standard_64_record, standard_64_fields};
 ghost use Rattle.goblin_pe_head.specs.OptionalHeader.{standard_from_32, standard_from_64};

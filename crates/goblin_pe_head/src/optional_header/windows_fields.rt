@@ -2,8 +2,7 @@
 
 ghost use Rattle.std.specs.Prelude.{◌≡◌};
 ghost use Rattle.goblin_base.specs.Record.{WritesRecord};
-ghost use Rattle.goblin_pe_head.specs.declared.optional_header.windows_fields.WindowsFields32.{WindowsFields32};
-ghost use Rattle.goblin_pe_head.specs.declared.optional_header.windows_fields.WindowsFields64.{WindowsFields64};
+ghost use Rattle.goblin_pe_head.specs.OptionalHeader.{WindowsFields32, WindowsFields64};
 ghost use Rattle.goblin_pe_head.specs.OptionalHeader.{windows_32_record, windows_32_fields};
 ghost use Rattle.goblin_pe_head.specs.OptionalHeader.{windows_record, windows_record_fields};
 ghost use Rattle.goblin_pe_head.specs.OptionalHeader.{windows_from_32, windows_to_32, narrowed};

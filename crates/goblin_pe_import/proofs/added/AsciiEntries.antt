@@ -2,8 +2,7 @@
 use Rattle.std.proofs.Common.{◌≡◌, ◌≤◌, ◌+◌, ◌∙◌, ℕ, Bool, true, false, List, length, Some, refl, sym, ap, arith, slice_range, le-leb, None}
 use Rattle.goblin_base.specs.Bytes.{number, number_at, text_at}
 use Rattle.goblin_base.specs.declared.endian.Endian.TheVariants.{Little}
-use Rattle.goblin_base.proofs.Numbers.{number_in_rest}
-use Rattle.goblin_base.proofs.Texts.{text_in_rest}
+use Rattle.goblin_base.proofs.{Numbers.number_in_rest, Texts.text_in_rest}
 use Rattle.goblin_pe_import.specs.LookupReadings.{hint_name}
 
 module _ (bytes : List ℕ) (p hint : ℕ) (name : List ℕ) where

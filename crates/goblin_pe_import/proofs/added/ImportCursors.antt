@@ -3,13 +3,9 @@ use Rattle.std.proofs.Common.{◌≡◌, ℕ, List, ◌++◌, Option, None, Some
 use Rattle.goblin_base.specs.Tables.{Format}
 use Rattle.readings.specs.Walks.{until_refused}
 use Rattle.goblin_pe_sect.specs.Addresses.{MapOfAddresses, map_of, reads_strictly}
-use Rattle.goblin_pe_import.specs.ImportEntries.{EntryValue}
-use Rattle.goblin_pe_import.specs.Imports.{NumberedImport}
-use Rattle.goblin_pe_import.specs.added.ImportWalks.{IsNamed, IsNamedAt, IsWalkAt, cursor_left, cursor_of, imports_bytes, imports_left, imports_of_entries, cursor_dll, walk_left}
+use Rattle.goblin_pe_import.specs.{ImportEntries.EntryValue, Imports.NumberedImport}
 use Rattle.goblin_pe_import.specs.KeptEntries.{entries_from}
-use Rattle.goblin_pe_import.specs.declared.added.imports.ImportCursor.{ImportCursor}
-use Rattle.goblin_pe_import.specs.declared.added.imports.Imports.{Imports}
-use Rattle.goblin_pe_import.specs.declared.added.imports.Walk.{Walk}
+use Rattle.goblin_pe_import.specs.added.ImportWalks.{IsNamed, IsNamedAt, IsWalkAt, cursor_left, cursor_of, imports_bytes, imports_left, imports_of_entries, cursor_dll, walk_left, ImportCursor, Imports, Walk}
 
 module _ (format : Format EntryValue) (w : Walk) where
   -- the items of the library that the walk is in, by its name

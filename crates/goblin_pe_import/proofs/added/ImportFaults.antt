@@ -1,20 +1,14 @@
 -- The error that ends a walk over imports.
 use Rattle.std.proofs.Common.{ℕ, Bool, List, Option, Some, None, Err, Ok, Result, ◌∙◌, inl, inr, IfErr, IfSome, IsSomeAnd}
-use Rattle.goblin_base.specs.declared.error.ErrorOf.{ErrorOf}
+use Rattle.goblin_base.specs.{declared.error.ErrorOf.ErrorOf, Tables.Format}
 use Rattle.goblin_base.specs.Answers.{IsMemory, all_of}
-use Rattle.goblin_base.specs.Tables.{Format}
 use Rattle.goblin_base.proofs.Readings.{first_no_memory}
-use Rattle.goblin_pe_import.specs.declared.added.imports.Imports.{Imports}
-use Rattle.goblin_pe_import.specs.declared.added.imports.Walk.{Walk}
-use Rattle.goblin_pe_import.specs.declared.added.imports.WalkedImport.{WalkedImport}
+use Rattle.goblin_pe_import.specs.added.ImportWalks.{Imports, Walk, WalkedImport, GivesImport, IsImportsCause, imports_left, IsLaterCause, IsRecordsCause, IsWalkCause, IsWalkFault, pending_table, walk_left, walked_value}
 use Rattle.goblin_pe_sect.specs.Addresses.{map_of, reads_strictly, Addressing}
-use Rattle.goblin_pe_import.specs.ImportEntries.{EntryValue}
-use Rattle.goblin_pe_import.specs.ImportReadings.{libraries_at}
-use Rattle.goblin_pe_import.specs.LookupReadings.{lookup_table}
-use Rattle.goblin_pe_import.specs.added.ImportWalks.{GivesImport, IsImportsCause, imports_left, IsLaterCause, IsRecordsCause, IsWalkCause, IsWalkFault, pending_table, walk_left, walked_value}
-use Rattle.goblin_pe_import.specs.KeptEntries.{IsEntriesCause, entries_from}
-use Rattle.goblin_pe_import.specs.added.StepsAhead.{GivesImportWithin}
+use Rattle.goblin_pe_import.specs.{ImportEntries.EntryValue, ImportReadings.libraries_at}
+use Rattle.goblin_pe_import.specs.{LookupReadings.lookup_table, added.StepsAhead.GivesImportWithin}
 use Rattle.goblin_pe_import.specs.Steps.{GivesWithin}
+use Rattle.goblin_pe_import.specs.KeptEntries.{IsEntriesCause, entries_from}
 use Rattle.goblin_pe_import.proofs.added.ImportSteps.{ended-left}
 
 module _ (strict : Bool) (format : Format EntryValue) (addressing : Addressing)

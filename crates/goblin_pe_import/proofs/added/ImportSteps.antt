@@ -1,18 +1,14 @@
 -- The loop that looks for the next import.
 use Rattle.std.proofs.Common.{◌≡◌, ◌≤◌, ◌+◌, ℕ, Bool, true, List, [], ◌∷◌, Option, Some, None, refl, sym, subst, ◌∙◌, arith, Err, Ok, Result}
-use Rattle.goblin_base.specs.declared.error.ErrorOf.{ErrorOf}
+use Rattle.goblin_base.specs.{declared.error.ErrorOf.ErrorOf, Tables.Format}
 use Rattle.goblin_base.specs.Answers.{FirstFault, ◌>>=◌, all_of}
-use Rattle.goblin_base.specs.Tables.{Format}
 use Rattle.readings.specs.Walks.{GivesNext}
-use Rattle.goblin_pe_import.specs.Steps.{GivesWithin}
-use Rattle.goblin_pe_import.specs.declared.added.imports.Walk.{Walk}
-use Rattle.goblin_pe_import.specs.declared.import.kept.KeptEntry.{KeptEntry}
-use Rattle.goblin_pe_sect.specs.Addresses.{Addressing, map_of, reads_strictly}
-use Rattle.goblin_pe_import.specs.ImportEntries.{EntryValue}
+use Rattle.goblin_pe_import.specs.{Steps.GivesWithin, ImportEntries.EntryValue}
 use Rattle.goblin_pe_import.specs.Imports.{NumberedImport}
-use Rattle.goblin_pe_import.specs.added.ImportWalks.{IsLaterCause, IsLaterLeftCause, later_left, IsNamed, IsCursorCause, IsWalkCause, bound_next, no_imports, imports_next, kept_import, walk_at, walk_bound, walk_left}
+use Rattle.goblin_pe_import.specs.added.ImportWalks.{Walk, IsLaterCause, IsLaterLeftCause, later_left, IsNamed, IsCursorCause, IsWalkCause, bound_next, no_imports, imports_next, kept_import, walk_at, walk_bound, walk_left, ImportCursor}
+use Rattle.goblin_pe_import.specs.KeptEntries.{KeptEntry}
+use Rattle.goblin_pe_sect.specs.Addresses.{Addressing, map_of, reads_strictly}
 use Rattle.goblin_pe_import.specs.KeptEntries.{IsEntriesCause, KeptValue, entries_from, kept_value}
-use Rattle.goblin_pe_import.specs.declared.added.imports.ImportCursor.{ImportCursor}
 
 one_before : {A : Type 0} (x : A) (o : Option (List A)) (IsNow IsNext IsLater : ErrorOf → Type 0)
     (e : ErrorOf) → (IsNext e → IsNow e) → FirstFault o IsNext (λ _. IsLater) e

@@ -2,39 +2,29 @@
 use Rattle.std.proofs.Common.{◌≡◌, ◌<◌, ◌≤◌, ◌+◌, ◌-◌, ◌*◌, ◌^◌, ℕ, Bool, true, false, cond, List, [], ◌∷◌, ◌++◌, map, length, Option, Some, None, refl, sym, ap, subst, ◌∙◌, append-nil, arith, lit≤, zero, suc, IsSome, not, ◌&&◌, inl, inr, is_none, option_map, slice_get, unwrap_or, flat_map, is_some}
 use Rattle.std.proofs.lemmas.Bool.{cases_Bool, eq-eqb, lt-ltb}
 use Rattle.std.proofs.lemmas.List.{get_or_append_left, length-append, length-map, map-append}
-use Rattle.std.proofs.lemmas.List.Concat.{flat_map-append}
-use Rattle.std.proofs.lemmas.Simd.{map-map}
-use Rattle.std.proofs.lemmas.Option.{slice_get-get_or}
-use Rattle.std.proofs.lemmas.Iterator.Adapters.{option_map_id}
+use Rattle.std.proofs.{lemmas.List.Concat.flat_map-append, lemmas.Simd.map-map}
+use Rattle.std.proofs.{lemmas.Option.slice_get-get_or, lemmas.Iterator.Adapters.option_map_id}
 use Rattle.std.proofs.Math.Seq.{get_or-append_seam}
-use Rattle.goblin_base.specs.declared.endian.Endian.TheVariants.{Little}
-use Rattle.goblin_base.specs.Answers.{◌>>=◌, all_at, all_of}
-use Rattle.goblin_base.specs.Bytes.{IsBytes}
-use Rattle.goblin_base.specs.Reading.{Reading}
+use Rattle.goblin_base.specs.{declared.endian.Endian.TheVariants.Little, Answers.◌>>=◌}
+use Rattle.goblin_base.specs.{Answers.all_at, Answers.all_of, Bytes.IsBytes, Reading.Reading}
 use Rattle.goblin_base.specs.Tables.{Format, concat_below, each_below, join, made_of, or_left_out, slot_at, slot_place, stop}
-use Rattle.goblin_base.proofs.Records.{record_at-some}
-use Rattle.goblin_base.proofs.Footprints.{same-all_at}
+use Rattle.goblin_base.proofs.{Records.record_at-some, Footprints.same-all_at}
 use Rattle.goblin_base.proofs.Steps.{all_at-more, all_at-zero, all_of-map, same_value, step}
 use Rattle.readings.specs.Reads.{given, in_its_place, mapped, pair_of, pick}
 use Rattle.readings.specs.Walks.{IsWalkOf, end_items, items_at, refusal_of, table_walk}
 use Rattle.readings.proofs.WalkValues.{all_of-append, all_of-until, joined-end, walk-holds}
-use Rattle.goblin_pe_import.specs.declared.import.directory_entry.ImportDirectoryEntry.{ImportDirectoryEntry}
+use Rattle.goblin_pe_import.specs.ImportRecords.{ImportDirectoryEntry, ImportedLibrary, NumberedLibrary, import_record, import_slots, lookup_offset}
 use Rattle.goblin_pe_sect.specs.Addresses.{MapOfAddresses, offset_of, reads_strictly, Addressing}
 use Rattle.goblin_pe_import.specs.ImportEntries.{EntryValue, LookupEntry, entry_slots}
-use Rattle.goblin_pe_import.specs.added.ImportCursors.{before_record}
+use Rattle.goblin_pe_import.specs.{added.ImportCursors.before_record, LookupReadings.kept_entry}
 use Rattle.goblin_pe_import.specs.ImportReadings.{at_index, first_record_offset, kept_library, library_of, numbered_data, numbered_libraries_at, read_if, read_past_front}
-use Rattle.goblin_pe_import.specs.ImportRecords.{ImportedLibrary, NumberedLibrary, import_record, import_slots, lookup_offset}
 use Rattle.goblin_pe_import.specs.Imports.{ImportValue, NumberedImport, at_library, import_at, import_of, imports_by, numbered_imports}
-use Rattle.goblin_pe_import.specs.added.ImportWalks.{imports_from_record, library_items, addresses_of, imports_next, library_name, record_index, IsCursorCause, IsImportsCause, IsWalkAt, cursor_of, imports_bytes, imports_left, imports_map, items_left, kept_import, no_imports}
+use Rattle.goblin_pe_import.specs.added.ImportWalks.{imports_from_record, library_items, addresses_of, imports_next, library_name, record_index, IsCursorCause, IsImportsCause, IsWalkAt, cursor_of, imports_bytes, imports_left, imports_map, items_left, kept_import, no_imports, ImportCursor, Imports}
 use Rattle.goblin_pe_import.specs.KeptEntries.{entries_from, KeptValue, kept_at}
-use Rattle.goblin_pe_import.specs.declared.added.imports.ImportCursor.{ImportCursor}
-use Rattle.goblin_pe_import.specs.declared.added.imports.Imports.{Imports}
-use Rattle.goblin_pe_import.specs.LookupReadings.{kept_entry}
-use Rattle.goblin_pe_import.proofs.ImportBound.{kept_entry-few}
+use Rattle.goblin_pe_import.proofs.{ImportBound.kept_entry-few, ListedImports.address-low}
 use Rattle.goblin_pe_import.proofs.added.ImportsWalk.{imports-once, in_two_if, listed}
 use Rattle.goblin_pe_import.proofs.LibraryIndexes.{few, libraries-value, numbered_at}
 use Rattle.goblin_pe_import.proofs.LibraryIndexes as indexes
-use Rattle.goblin_pe_import.proofs.ListedImports.{address-low}
 use Rattle.goblin_pe_import.proofs.LookupWalk.{by_index, in_slot, in_two}
 use Rattle.goblin_pe_import.proofs.PermissiveReads.{lookup-there, name_strict}
 

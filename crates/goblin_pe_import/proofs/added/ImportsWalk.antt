@@ -1,22 +1,17 @@
 -- The walk over all imports: from one library to the next.
 use Rattle.std.proofs.Common.{◌≡◌, ◌≤◌, ◌+◌, ◌-◌, ◌*◌, ℕ, Bool, true, false, not, ◌&&◌, List, [], ◌∷◌, ◌++◌, length, IsSomeAnd, Option, Some, None, refl, sym, ap, ◌∙◌, append_assoc, lit≤, arith, option_map, unwrap_or, mul-le-mul_left, is_some}
 use Rattle.std.specs.Option.{option_len}
-use Rattle.goblin_base.specs.declared.error.ErrorOf.{ErrorOf}
-use Rattle.goblin_base.specs.Answers.{FirstFault, all_of}
-use Rattle.goblin_base.specs.Reading.{Reading}
-use Rattle.goblin_base.specs.Tables.{Format, ends_table, or_left_out}
-use Rattle.goblin_base.proofs.SlotTables.{reads}
-use Rattle.goblin_base.proofs.Steps.{unmapped}
+use Rattle.goblin_base.specs.{declared.error.ErrorOf.ErrorOf, Answers.FirstFault, Answers.all_of}
+use Rattle.goblin_base.specs.{Reading.Reading, Tables.Format, Tables.ends_table, Tables.or_left_out}
+use Rattle.goblin_base.proofs.{SlotTables.reads, Steps.unmapped}
 use Rattle.readings.specs.Reads.{pair_of}
 use Rattle.readings.specs.Walks.{from_slot, refusal_of, table_walk, until_refused}
 use Rattle.readings.proofs.Walks.{cause-slot, slot-end, slot-going, slot-missing, until_refused-later, walk-slot}
-use Rattle.goblin_pe_import.specs.declared.import.directory_entry.ImportDirectoryEntry.{ImportDirectoryEntry}
-use Rattle.goblin_pe_import.specs.declared.added.imports.Walk.{Walk}
+use Rattle.goblin_pe_import.specs.ImportRecords.{ImportDirectoryEntry, address_table_rva, import_slots, is_last_record, lookup_offset}
+use Rattle.goblin_pe_import.specs.added.ImportWalks.{Walk, IsLaterCause, IsLaterLeftCause, later_left, IsNamedCause, IsRecordsCause, addresses_of, bound_next, imports_next, is_skipped, imports_from_record, imports_of_entries, record_index, later_items, library_items, library_name, pending_table}
 use Rattle.goblin_pe_import.specs.ImportEntries.{EntryValue, LookupEntry}
 use Rattle.goblin_pe_import.specs.ImportReadings.{import_record_at, kept_library, library_of, lookup_if}
-use Rattle.goblin_pe_import.specs.ImportRecords.{address_table_rva, import_slots, is_last_record, lookup_offset}
 use Rattle.goblin_pe_import.specs.Imports.{NumberedImport}
-use Rattle.goblin_pe_import.specs.added.ImportWalks.{IsLaterCause, IsLaterLeftCause, later_left, IsNamedCause, IsRecordsCause, addresses_of, bound_next, imports_next, is_skipped, imports_from_record, imports_of_entries, record_index, later_items, library_items, library_name, pending_table}
 use Rattle.goblin_pe_import.specs.KeptEntries.{IsEntriesCause, KeptValue, entries_from, slots_bound}
 use Rattle.goblin_pe_import.proofs.LookupWalk.{in_two, lookup_walked}
 use Rattle.goblin_pe_import.proofs.PermissiveReads.{name_strict}

@@ -4,16 +4,12 @@ use Rattle.std.proofs.Common.{◌≡◌, ◌≤◌, ◌==◌, ◌||◌, ℕ, Boo
 use Rattle.std.specs.Int.{from_bool}
 use Rattle.goblin_base.specs.Tables.{Format, each_below, made_of, slot_at, slot_table, stop}
 use Rattle.readings.specs.Reads.{in_its_place, pair_of}
-use Rattle.goblin_pe_sect.specs.AddressReadings.{name_at}
-use Rattle.goblin_pe_sect.specs.Addresses.{Addressing}
-use Rattle.goblin_pe_import.specs.ImportEntries.{EntryValue}
-use Rattle.goblin_pe_import.specs.ImportReadings.{library_of}
-use Rattle.goblin_pe_import.specs.ImportRecords.{import_slots, lookup_offset}
+use Rattle.goblin_pe_sect.specs.{AddressReadings.name_at, Addresses.Addressing}
+use Rattle.goblin_pe_import.specs.{ImportEntries.EntryValue, ImportReadings.library_of}
 use Rattle.goblin_pe_import.specs.added.ImportWalks.{addresses_of}
+use Rattle.goblin_pe_import.specs.ImportRecords.{import_slots, lookup_offset, ImportDirectoryEntry}
 use Rattle.goblin_pe_import.specs.added.LeftOut.{is_library_left_out, leads_to_none, libraries_of_directory}
-use Rattle.goblin_pe_import.specs.declared.import.directory_entry.ImportDirectoryEntry.{ImportDirectoryEntry}
-use Rattle.goblin_pe_import.proofs.PermissiveReads.{lookup-there}
-use Rattle.goblin_pe_import.proofs.added.SlotSums.{sum-none}
+use Rattle.goblin_pe_import.proofs.{PermissiveReads.lookup-there, added.SlotSums.sum-none}
 
 -- three parts whose first two are there lack what the third lacks
 last_part : {A B C D : Type 0} (f : (A × B) × C → D) (a : Option A) (b : Option B) (c : Option C)

@@ -1,19 +1,16 @@
 -- The walk over the libraries of an import directory, record by record.
 use Rattle.std.proofs.Common.{◌≡◌, ◌+◌, ℕ, Bool, true, false, not, ◌&&◌, List, [], ◌∷◌, Option, Some, None, refl, sym, ap, subst, ◌∙◌, lit≤, is_some, IsSomeAnd, Ok, Err}
-use Rattle.goblin_base.specs.declared.error.ErrorOf.{ErrorOf}
-use Rattle.goblin_base.specs.Tables.{ends_table}
+use Rattle.goblin_base.specs.{declared.error.ErrorOf.ErrorOf, Tables.ends_table}
 use Rattle.goblin_base.proofs.SlotTables.{reads}
 use Rattle.readings.specs.Reads.{given}
 use Rattle.readings.specs.Walks.{GivesNext, from_slot, table_walk, until_refused}
 use Rattle.readings.proofs.Walks.{IsSlotCause, cause-slot, slot-end, slot-going, slot-missing, until_refused-later, walk-slot}
 use Rattle.goblin_pe_sect.specs.Addresses.{reads_strictly}
-use Rattle.goblin_pe_import.specs.ImportReadings.{import_record_at}
-use Rattle.goblin_pe_import.specs.ImportRecords.{import_slots, is_last_record}
-use Rattle.goblin_pe_import.specs.added.ImportWalks.{no_imports}
-use Rattle.goblin_pe_import.specs.added.Libraries.{AreLibrariesOver, IsLibrariesCause, LibraryValue, at_record, directory_records, libraries_bytes, libraries_format, libraries_left, libraries_map, libraries_next, library_at, library_value}
-use Rattle.goblin_pe_import.specs.declared.import.directory_entry.ImportDirectoryEntry.{ImportDirectoryEntry}
+use Rattle.goblin_pe_import.specs.{ImportReadings.import_record_at, added.ImportWalks.no_imports}
 use Rattle.goblin_pe_import.specs.declared.added.library_walk.Libraries.{Libraries}
 use Rattle.goblin_pe_import.specs.declared.added.library_walk.WalkedLibrary.{WalkedLibrary}
+use Rattle.goblin_pe_import.specs.ImportRecords.{import_slots, is_last_record, ImportDirectoryEntry}
+use Rattle.goblin_pe_import.specs.added.Libraries.{AreLibrariesOver, IsLibrariesCause, LibraryValue, at_record, directory_records, libraries_bytes, libraries_format, libraries_left, libraries_map, libraries_next, library_at, library_value}
 
 -- a walk that has ended
 pub ended-left : (s : Libraries) → s.at ≡ no_imports → libraries_left s ≡ []

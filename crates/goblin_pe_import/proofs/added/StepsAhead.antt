@@ -4,20 +4,16 @@ use Rattle.std.proofs.lemmas.Bool.{cases_lt}
 use Rattle.goblin_base.specs.Tables.{Format, SlotFormat, ends_table, slot_at, stop}
 use Rattle.goblin_base.proofs.Below.{least-le}
 use Rattle.goblin_base.proofs.SlotTables.{ends, reach-stop, reads}
-use Rattle.readings.proofs.Loops.{AtRead}
-use Rattle.readings.proofs.Walks.{stop-first}
+use Rattle.readings.proofs.{Loops.AtRead, Walks.stop-first}
 use Rattle.goblin_pe_import.specs.ImportEntries.{EntryValue, entry_slots}
 use Rattle.goblin_pe_import.specs.LookupReadings.{entry_number}
-use Rattle.goblin_pe_import.proofs.LookupWalk.{in_slot}
+use Rattle.goblin_pe_import.proofs.{LookupWalk.in_slot, SlotSteps.sum-first}
 use Rattle.goblin_pe_import.specs.TableSums.{amount_of, sum_below, sum_of_slots}
 use Rattle.goblin_pe_import.specs.Steps.{AreCounted, HasNotGrown, HasSteps, IsOut, slots_ahead, spent}
 use Rattle.goblin_pe_import.specs.added.StepsAhead.{AtSteps, HaveRunOut, later_ahead, record_steps, tested_ahead, pending_ahead, walk_ahead}
-use Rattle.goblin_pe_import.specs.ImportRecords.{address_table_rva, import_slots, is_last_record, lookup_offset}
-use Rattle.goblin_pe_import.specs.added.ImportWalks.{is_skipped, no_imports}
-use Rattle.goblin_pe_import.specs.declared.import.directory_entry.ImportDirectoryEntry.{ImportDirectoryEntry}
-use Rattle.goblin_pe_import.specs.declared.added.imports.Walk.{Walk}
+use Rattle.goblin_pe_import.specs.ImportRecords.{address_table_rva, import_slots, is_last_record, lookup_offset, ImportDirectoryEntry}
+use Rattle.goblin_pe_import.specs.added.ImportWalks.{is_skipped, no_imports, Walk}
 use Rattle.goblin_pe_sect.specs.Addresses.{map_of, reads_strictly, Addressing}
-use Rattle.goblin_pe_import.proofs.SlotSteps.{sum-first}
 
 -- ---- the slots before a stop
 

@@ -1,15 +1,11 @@
 -- Where the imports of an image begin.
 use Rattle.std.specs.Prelude.{ℕ, Bool, List, Option, Some, None, IsSomeAnd, Result, Ok, Err}
-use Rattle.goblin_base.specs.declared.error.ErrorOf.{ErrorOf}
-use Rattle.goblin_base.specs.Reading.{IsRefused, Reading}
+use Rattle.goblin_base.specs.{declared.error.ErrorOf.ErrorOf, Reading.IsRefused, Reading.Reading}
 use Rattle.readings.specs.Reads.{mapped, or_else}
 use Rattle.goblin_pe_sect.specs.AddressReadings.{offset_at}
 use Rattle.goblin_pe_sect.specs.Addresses.{MapOfAddresses, Addressing}
-use Rattle.goblin_pe_import.specs.ImportReadings.{first_record_offset}
-use Rattle.goblin_pe_import.specs.added.ImportWalks.{IsWalkAt, no_imports}
-use Rattle.goblin_pe_import.specs.added.Libraries.{at_record}
-use Rattle.goblin_pe_import.specs.declared.added.imports.ImportCursor.{ImportCursor}
-use Rattle.goblin_pe_import.specs.declared.added.imports.Imports.{Imports}
+use Rattle.goblin_pe_import.specs.{ImportReadings.first_record_offset, added.Libraries.at_record}
+use Rattle.goblin_pe_import.specs.added.ImportWalks.{IsWalkAt, no_imports, ImportCursor, Imports}
 
 -- the cursor before the first import descriptor of a directory, which lies at this offset
 abbrev pub before_record : ℕ → ImportCursor

@@ -1,27 +1,26 @@
 -- The walk over all imports: what is still to come.
-use Rattle.std.specs.Prelude.{◌≡◌, ◌+◌, ◌-◌, ◌*◌, ◌/◌, not, [], ◌∷◌, map, Some, None, Ok, Err, ℕ, if◌then◌else◌, length, option_map, unwrap_or, is_none, MatchOption, Bool, ◌&&◌, true, List, ◌++◌, Option, Result, IfErr, IfSome, IsSomeAnd}
+use Rattle.std.specs.Prelude.{◌≡◌, ◌+◌, ◌-◌, ◌*◌, ◌/◌, not, [], ◌∷◌, map, Some, None, Ok, Err, ℕ}
+use Rattle.std.specs.Prelude.{if◌then◌else◌, length, option_map, unwrap_or, is_none, MatchOption}
+use Rattle.std.specs.Prelude.{Bool, ◌&&◌, true, List, ◌++◌, Option, Result, IfErr, IfSome}
+use Rattle.std.specs.Prelude.{IsSomeAnd}
 use Rattle.std.specs.Option.{option_len}
-use Rattle.goblin_base.specs.declared.error.ErrorOf.{ErrorOf}
+use Rattle.goblin_base.specs.{declared.error.ErrorOf.ErrorOf, Reading.Reading, Tables.Format}
 use Rattle.goblin_base.specs.Answers.{FirstFault, IsMemory, all_of}
-use Rattle.goblin_base.specs.Reading.{Reading}
-use Rattle.goblin_base.specs.Tables.{Format}
 use Rattle.readings.specs.Reads.{given, or_else, pick}
 use Rattle.readings.specs.Walks.{GivesNext, refusal_of, table_walk, until_refused}
 use Rattle.goblin_pe_sect.specs.declared.address_map.finder.Finder.{Finder}
 use Rattle.goblin_pe_sect.specs.AddressReadings.{at_address, name_at}
 use Rattle.goblin_pe_sect.specs.Addresses.{Addressing, MapOfAddresses, map_of, reads_strictly}
-use Rattle.goblin_pe_import.specs.ImportEntries.{EntryValue}
-use Rattle.goblin_pe_import.specs.ImportLookup.{entry_model}
-use Rattle.goblin_pe_import.specs.ImportReadings.{libraries_at}
+use Rattle.goblin_pe_import.specs.{ImportEntries.EntryValue, ImportLookup.entry_model}
+use Rattle.goblin_pe_import.specs.{ImportReadings.libraries_at, LookupReadings.address_table}
+use Rattle.goblin_pe_import.specs.declared.added.imports.AsciiImports.{AsciiImports}
 use Rattle.goblin_pe_import.specs.ImportRecords.{address_table_rva, import_slots, lookup_offset}
 use Rattle.goblin_pe_import.specs.Imports.{NumberedImport, at_library, import_of}
-use Rattle.goblin_pe_import.specs.LookupReadings.{address_table}
-use Rattle.goblin_pe_import.specs.declared.import.directory_entry.ImportDirectoryEntry.{ImportDirectoryEntry}
-use Rattle.goblin_pe_import.specs.declared.added.imports.ImportCursor.{ImportCursor}
-use Rattle.goblin_pe_import.specs.declared.added.imports.Imports.{Imports}
-use Rattle.goblin_pe_import.specs.declared.added.imports.AsciiImports.{AsciiImports}
-use Rattle.goblin_pe_import.specs.declared.added.imports.Walk.{Walk}
-use Rattle.goblin_pe_import.specs.declared.added.imports.WalkedImport.{WalkedImport}
+use Rattle.goblin_pe_import.specs.ImportRecords.{ImportDirectoryEntry}
+pub use Rattle.goblin_pe_import.specs.declared.added.imports.ImportCursor.{ImportCursor}
+pub use Rattle.goblin_pe_import.specs.declared.added.imports.Imports.{Imports}
+pub use Rattle.goblin_pe_import.specs.declared.added.imports.Walk.{Walk}
+pub use Rattle.goblin_pe_import.specs.declared.added.imports.WalkedImport.{WalkedImport}
 use Rattle.goblin_pe_import.specs.KeptEntries.{KeptValue, entries_from, IsEntriesCause, slots_bound}
 
 -- ---- the entries of a lookup table

@@ -3,10 +3,8 @@ use Rattle.std.specs.Prelude.{ℕ, ◌==◌, Bool, false, ◌&&◌, ◌||◌, no
 use Rattle.std.specs.Int.{from_bool}
 use Rattle.goblin_base.specs.Tables.{Format, is_kept}
 use Rattle.goblin_pe_import.specs.ImportEntries.{EntryValue, entry_slots}
-use Rattle.goblin_pe_import.specs.ImportReadings.{library_of}
-use Rattle.goblin_pe_import.specs.ImportRecords.{import_slots, lookup_offset}
-use Rattle.goblin_pe_import.specs.LookupReadings.{kept_entry}
-use Rattle.goblin_pe_import.specs.declared.import.directory_entry.ImportDirectoryEntry.{ImportDirectoryEntry}
+use Rattle.goblin_pe_import.specs.{ImportReadings.library_of, LookupReadings.kept_entry}
+use Rattle.goblin_pe_import.specs.ImportRecords.{import_slots, lookup_offset, ImportDirectoryEntry}
 use Rattle.goblin_pe_sect.specs.Addresses.{Addressing}
 use Rattle.goblin_pe_import.specs.TableSums.{amount_of, sum_of_slots}
 

@@ -2,24 +2,20 @@
 use Rattle.std.specs.Prelude.{◌≡◌, ℕ, Bool, ◌&&◌, not, if◌then◌else◌, List, [], ◌∷◌, Option}
 use Rattle.std.specs.Prelude.{Some, None, unwrap_or, Result, Err, IfErr, IfOk, IfSome, MatchOption}
 use Rattle.std.specs.Prelude.{◌+◌, ◌==◌, IsSomeAnd}
-use Rattle.std.specs.Option.{ok_or}
-use Rattle.std.specs.Result.{result_map_both}
+use Rattle.std.specs.{Option.ok_or, Result.result_map_both}
 use Rattle.goblin_base.specs.declared.error.ErrorOf.{ErrorOf}
-use Rattle.goblin_base.specs.declared.error.ErrorOf.TheVariants.{Malformed}
+use Rattle.goblin_base.specs.{declared.error.ErrorOf.TheVariants.Malformed, Answers.IsMemory}
+use Rattle.goblin_base.specs.{Reading.Reading, Tables.Format}
 use Rattle.goblin_base.specs.declared.error.CauseOf.TheVariants.{NameRead, Unmapped}
-use Rattle.goblin_base.specs.Answers.{IsMemory}
-use Rattle.goblin_base.specs.Reading.{Reading}
-use Rattle.goblin_base.specs.Tables.{Format}
 use Rattle.readings.specs.Reads.{given, table, text_within}
 use Rattle.readings.specs.Walks.{GivesNext, table_walk}
 use Rattle.goblin_pe_sect.specs.Addresses.{Addressing, MapOfAddresses, map_of, reads_strictly}
 use Rattle.goblin_pe_import.specs.ImportEntries.{EntryValue, entries_32, entries_64}
 use Rattle.goblin_pe_import.specs.ImportReadings.{import_record_at}
 use Rattle.goblin_pe_import.specs.ImportRecords.{address_table_rva, import_slots, lookup_offset}
-use Rattle.goblin_pe_import.specs.added.ImportWalks.{no_imports, record_index}
+use Rattle.goblin_pe_import.specs.added.ImportWalks.{no_imports, record_index, ImportCursor}
 use Rattle.goblin_pe_import.specs.added.LeftOut.{is_library_left_out}
-use Rattle.goblin_pe_import.specs.declared.import.directory_entry.ImportDirectoryEntry.{ImportDirectoryEntry}
-use Rattle.goblin_pe_import.specs.declared.added.imports.ImportCursor.{ImportCursor}
+use Rattle.goblin_pe_import.specs.ImportRecords.{ImportDirectoryEntry}
 use Rattle.goblin_pe_import.specs.declared.added.library_walk.Libraries.{Libraries}
 use Rattle.goblin_pe_import.specs.declared.added.library_walk.WalkedLibrary.{WalkedLibrary}
 use Rattle.goblin_pe_import.specs.KeptEntries.{slots_bound}

@@ -2,21 +2,17 @@
 -- give something.
 use Rattle.std.specs.Prelude.{◌≡◌, ◌⊎◌, ◌<◌, ◌≤◌, ℕ, ◌+◌, Bool, if◌then◌else◌, List, length, ⊤}
 use Rattle.std.specs.Prelude.{Option, Some, None, Result, Ok, Err, IfErr, IfSome}
-use Rattle.goblin_base.specs.declared.error.ErrorOf.{ErrorOf}
-use Rattle.goblin_base.specs.Tables.{Format}
+use Rattle.goblin_base.specs.{declared.error.ErrorOf.ErrorOf, Tables.Format}
 use Rattle.goblin_pe_sect.specs.Addresses.{MapOfAddresses, map_of, reads_strictly, Addressing}
 use Rattle.goblin_pe_import.specs.ImportEntries.{EntryValue}
 use Rattle.goblin_pe_import.specs.ImportRecords.{address_table_rva, import_slots, lookup_offset}
-use Rattle.goblin_pe_import.specs.added.ImportWalks.{is_skipped, no_imports, walked_value}
-use Rattle.goblin_pe_import.specs.added.ImportWalks.{HasName, IsImportsCause, IsWalkFault}
-use Rattle.goblin_pe_import.specs.added.ImportWalks.{AreImportsOver, cursor_of, imports_bytes}
-use Rattle.goblin_pe_import.specs.added.ImportWalks.{imports_bound, imports_left, imports_map}
+use Rattle.goblin_pe_import.specs.added.ImportWalks.{is_skipped, no_imports, walked_value, HasName}
+use Rattle.goblin_pe_import.specs.added.ImportWalks.{IsImportsCause, IsWalkFault, AreImportsOver}
+use Rattle.goblin_pe_import.specs.added.ImportWalks.{cursor_of, imports_bytes, imports_bound}
+use Rattle.goblin_pe_import.specs.added.ImportWalks.{imports_left, imports_map, ImportCursor}
+use Rattle.goblin_pe_import.specs.added.ImportWalks.{Imports, Walk, WalkedImport}
 use Rattle.goblin_pe_import.specs.TableSums.{amount_of, sum_of_slots}
-use Rattle.goblin_pe_import.specs.declared.import.directory_entry.ImportDirectoryEntry.{ImportDirectoryEntry}
-use Rattle.goblin_pe_import.specs.declared.added.imports.ImportCursor.{ImportCursor}
-use Rattle.goblin_pe_import.specs.declared.added.imports.Imports.{Imports}
-use Rattle.goblin_pe_import.specs.declared.added.imports.Walk.{Walk}
-use Rattle.goblin_pe_import.specs.declared.added.imports.WalkedImport.{WalkedImport}
+use Rattle.goblin_pe_import.specs.ImportRecords.{ImportDirectoryEntry}
 use Rattle.goblin_pe_import.specs.Steps.{slots_ahead, HasNotGrown, AreCounted, GivesWithin}
 
 -- ---- what is ahead

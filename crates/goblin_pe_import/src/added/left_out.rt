@@ -1,7 +1,6 @@
 //! How much is left out of the imports of an image.
 
-ghost use Rattle.std.specs.Prelude.{◌≡◌, ◌==◌, min};
-ghost use Rattle.std.specs.Int.{from_bool};
+ghost use Rattle.std.specs.{Prelude.◌≡◌, Prelude.◌==◌, Prelude.min, Int.from_bool};
 ghost use Rattle.goblin_pe_sect.specs.Addresses.{map_of};
 ghost use Rattle.goblin_pe_import.specs.added.LeftOut as left_out;
 

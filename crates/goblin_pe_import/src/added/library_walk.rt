@@ -2,8 +2,7 @@
 
 ghost use Rattle.std.specs.Prelude.{◌≡◌, ◌<◌, IfSome, List, Some, ℕ};
 ghost use Rattle.std.specs.Iterator.{UpTo, at_most};
-ghost use Rattle.std.specs.Iterator.SizeHint.{IsWithinCount};
-ghost use Rattle.std.specs.Result.{result_map_both};
+ghost use Rattle.std.specs.{Iterator.SizeHint.IsWithinCount, Result.result_map_both};
 ghost use Rattle.goblin_base.specs.Tables.{Format};
 ghost use Rattle.goblin_pe_sect.specs.Addresses.{MapOfAddresses, map_of, reads_strictly};
 ghost use Rattle.goblin_pe_import.specs.ImportEntries.{EntryValue};

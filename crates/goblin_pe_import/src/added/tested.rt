@@ -1,13 +1,11 @@
 //! Tests of address tables, whose numbers are not kept.
 
 ghost use Rattle.std.specs.Prelude.{◌≡◌, is_none};
-ghost use Rattle.goblin_base.specs.Reading.{Reads};
-ghost use Rattle.goblin_base.specs.Tables.{stop};
+ghost use Rattle.goblin_base.specs.{Reading.Reads, Tables.stop};
 ghost use Rattle.readings.specs.Reads.{mapped};
 ghost use Rattle.goblin_pe_sect.specs.Addresses.{map_of};
 ghost use Rattle.goblin_pe_import.specs.ImportRecords.{address_table_rva};
-ghost use Rattle.goblin_pe_import.specs.ImportEntries.{entry_slots};
-ghost use Rattle.goblin_pe_import.specs.LookupReadings.{address_table};
+ghost use Rattle.goblin_pe_import.specs.{ImportEntries.entry_slots, LookupReadings.address_table};
 ghost use Rattle.goblin_pe_import.specs.added.ImportWalks.{addresses_of};
 ghost use Rattle.goblin_pe_import.specs.added.LeftOut.{leads_to_none};
 ghost use Rattle.goblin_pe_import.specs.added.StepsAhead.{slots_at_address};

@@ -3,8 +3,7 @@
 ghost use Rattle.std.specs.Prelude.{◌≡◌, ◌==◌, ◌≤◌, ◌^◌, length};
 ghost use Rattle.std.proofs.Common.{lit≤};
 ghost use Rattle.goblin_base.specs.Answers.{Answers, IsSliceFault};
-ghost use Rattle.goblin_base.specs.Record.{record_at};
-ghost use Rattle.goblin_base.specs.Tables.{Format};
+ghost use Rattle.goblin_base.specs.{Record.record_at, Tables.Format};
 ghost use Rattle.goblin_pe_import.specs.ImportLookup.{EntryValue, entries_32, entries_64};
 ghost use Rattle.goblin_pe_import.specs.ImportLookup.{entry_value};
 

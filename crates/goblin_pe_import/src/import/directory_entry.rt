@@ -3,8 +3,7 @@
 ghost use Rattle.std.specs.Prelude.{◌≡◌, ◌==◌, ◌&&◌, not};
 ghost use Rattle.goblin_base.specs.Record.{WritesRecord};
 ghost use Rattle.goblin_pe_import.specs.ImportRecords.{import_fields, import_record};
-ghost use Rattle.goblin_pe_import.specs.ImportRecords.{is_last_record};
-ghost use Rattle.goblin_pe_import.specs.declared.import.directory_entry.ImportDirectoryEntry.{ImportDirectoryEntry};
+ghost use Rattle.goblin_pe_import.specs.ImportRecords.{is_last_record, ImportDirectoryEntry};
 
 use goblin_base::{Endian, Field, Record, Result, field_u32, put_fields};
 

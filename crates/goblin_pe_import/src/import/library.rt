@@ -3,12 +3,11 @@
 ghost use Rattle.std.specs.Prelude.{◌≡◌, ◌<◌, ◌^◌, [], map, option_map, true, unwrap_or};
 ghost use Rattle.goblin_base.specs.Reading.{Reads, ReadsOrMemory};
 ghost use Rattle.readings.specs.Reads.{or_else};
-ghost use Rattle.goblin_pe_sect.specs.Options.{default_options};
+ghost use Rattle.goblin_pe_sect.specs.{Options.default_options, AddressReadings.name_at};
 ghost use Rattle.goblin_pe_sect.specs.Addresses.{map_by, map_of, reads_strictly};
 ghost use Rattle.goblin_pe_import.specs.ImportRecords.{address_table_rva, lookup_offset};
 ghost use Rattle.goblin_pe_import.specs.ImportLookup.{entry_model};
 ghost use Rattle.goblin_pe_import.specs.ImportReadings as reading;
-ghost use Rattle.goblin_pe_sect.specs.AddressReadings.{name_at};
 ghost use Rattle.goblin_pe_import.specs.ImportReadings.{first_record_offset, lookup_if};
 
 use crate::import::address_table::{ImportAddressTable, address_table};

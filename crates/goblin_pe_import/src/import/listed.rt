@@ -3,8 +3,7 @@
 ghost use Rattle.std.specs.Prelude.{◌≡◌, ◌+◌, ◌<◌, ◌++◌, ◌∷◌, [], IfErr, IfOk, None, OnOk, length};
 ghost use Rattle.std.specs.Prelude.{map, option_map, string_bytes, true, option_copied};
 ghost use Rattle.goblin_base.specs.Answers.{AnswersOrMemory, GivesOrMemory, IsMemory};
-ghost use Rattle.goblin_pe_import.specs.ImportBound.{AreFew};
-ghost use Rattle.goblin_pe_import.specs.ImportLookup.{entry_model};
+ghost use Rattle.goblin_pe_import.specs.{ImportBound.AreFew, ImportLookup.entry_model};
 ghost use Rattle.goblin_pe_import.specs.Imports.{IsImportListFault, IsOverflow, has_slots};
 ghost use Rattle.goblin_pe_import.specs.Imports.{first_without_slots, import_of, import_offset};
 ghost use Rattle.goblin_pe_import.specs.Imports.{imports_by, imports_of, kept_entries};

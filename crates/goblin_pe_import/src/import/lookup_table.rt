@@ -2,8 +2,7 @@
 
 ghost use Rattle.std.specs.Prelude.{◌≡◌, ◌<◌, IfOk, None, Some, length, map, true, All};
 ghost use Rattle.std.specs.List.Sorted.{IsStrictlyIncreasing};
-ghost use Rattle.goblin_base.specs.Reading.{Reads, ReadsOrMemory};
-ghost use Rattle.goblin_base.specs.Tables.{stop};
+ghost use Rattle.goblin_base.specs.{Reading.Reads, Reading.ReadsOrMemory, Tables.stop};
 ghost use Rattle.goblin_pe_sect.specs.Options.{default_options, is_strict};
 ghost use Rattle.goblin_pe_sect.specs.Addresses.{map_by, map_of, reads_strictly};
 ghost use Rattle.goblin_pe_import.specs.ImportLookup.{entry_slots, lookup_slots};

@@ -2,9 +2,8 @@
 
 ghost use Rattle.std.specs.Prelude.{◌≡◌, ◌+◌, ◌<◌, ◌++◌, IfErr, IfOk, if◌then◌else◌};
 ghost use Rattle.std.specs.Prelude.{length, is_some};
-ghost use Rattle.goblin_base.specs.Answers.{IsMemory};
+ghost use Rattle.goblin_base.specs.{Answers.IsMemory, Bytes.slice_at};
 ghost use Rattle.goblin_base.specs.Marks.{IsFootprint, marked};
-ghost use Rattle.goblin_base.specs.Bytes.{slice_at};
 ghost use Rattle.goblin_base.specs.Footprints.{led_to, positions, slice_footprint};
 ghost use Rattle.readings.specs.Reads.{text_within};
 ghost use Rattle.goblin_pe_sect.specs.Addresses.{map_by, map_of, reads_strictly};

@@ -3,8 +3,7 @@
 ghost use Rattle.std.specs.Prelude.{map};
 ghost use Rattle.goblin_base.specs.Reading.{TwinsOrMemory};
 ghost use Rattle.goblin_pe_sect.specs.Addresses.{map_by, reads_strictly};
-ghost use Rattle.goblin_pe_import.specs.ImportLookup.{entry_model};
-ghost use Rattle.goblin_pe_import.specs.ImportReadings.{import_data};
+ghost use Rattle.goblin_pe_import.specs.{ImportLookup.entry_model, ImportReadings.import_data};
 ghost use Rattle.goblin_pe_import.specs.LookupReadings.{lookup_table};
 
 use crate::import::{Bitfield, ImportData, ImportLookupTable, SyntheticImportLookupTableEntry};

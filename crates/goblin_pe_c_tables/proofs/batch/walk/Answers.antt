@@ -1,6 +1,5 @@
 use Rattle.std.proofs.Common.{◌∙◌, ◌-◌, ℕ, Ok, Err, ap, refl, sym}
-use Rattle.goblin_pe_c_headers.specs.Places.{image_places}
-use Rattle.goblin_pe_c_headers.specs.Onward.{batch_at}
+use Rattle.goblin_pe_c_headers.specs.{Places.image_places, Onward.batch_at}
 use Rattle.goblin_pe_c_tables.proofs.InPlaces.{IsAt, fault-at, given-at, nothing-at}
 use Rattle.goblin_pe_c_tables.proofs.batch.walk.Goals as goal
 

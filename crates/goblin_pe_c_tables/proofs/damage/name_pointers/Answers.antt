@@ -3,9 +3,7 @@ use Rattle.goblin_base.proofs.RecordItems.{length-records_in}
 use Rattle.goblin_pe_export.specs.ExportRecords.{name_pointers}
 use Rattle.goblin_pe_export.specs.declared.added.exports.Exports.{Exports}
 use Rattle.goblin_pe_import.specs.TableSums.{amount_of}
-use Rattle.goblin_pe.specs.added.Layouts.{walked_exports}
-use Rattle.goblin_pe.specs.Whole.{part_map}
-use Rattle.goblin_pe.specs.declared.whole.Part.{Part}
+use Rattle.goblin_pe.specs.{added.Layouts.walked_exports, Whole.part_map, declared.whole.Part.Part}
 use Rattle.goblin_pe_c_tables.specs.Batches.{pointers_in}
 use Rattle.goblin_pe_c_tables.proofs.damage.name_pointers.Goals as goal
 

@@ -3,8 +3,7 @@ use Rattle.std.proofs.lemmas.Option.{slice_get_past}
 use Rattle.goblin_pe_export.specs.added.ExportWalks.{walked_tables}
 use Rattle.goblin_pe_sect.specs.Addresses.{map_of}
 use Rattle.goblin_pe_export.specs.declared.export.tables.ExportDirectoryTable.{ExportDirectoryTable}
-use Rattle.goblin_pe_c_tables.specs.ExportDirectories.{address_for_c}
-use Rattle.goblin_pe_c_tables.specs.declared.export_directory.PeExportAddress.{PeExportAddress}
+use Rattle.goblin_pe_c_tables.specs.ExportDirectories.{address_for_c, PeExportAddress}
 use Rattle.goblin_pe_c_tables.proofs.AddressBatches.{address-none, address-some}
 use Rattle.goblin_pe_c_tables.proofs.export_directory.address_at.Goals as goal
 

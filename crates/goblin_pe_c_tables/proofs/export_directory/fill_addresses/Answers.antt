@@ -1,9 +1,7 @@
 use Rattle.std.proofs.Common.{arith, rules, subst}
-use Rattle.goblin_pe_sect.specs.declared.address_map.AddressMap.{AddressMap}
-use Rattle.goblin_pe_c_headers.specs.Onward.{GivesOnward}
-use Rattle.goblin_pe_c_headers.specs.Onward.{batch_at}
+use Rattle.goblin_pe_sect.specs.{declared.address_map.AddressMap.AddressMap, Addresses.map_of}
+use Rattle.goblin_pe_c_headers.specs.Onward.{GivesOnward, batch_at}
 use Rattle.goblin_pe_export.specs.added.ExportWalks.{walked_tables}
-use Rattle.goblin_pe_sect.specs.Addresses.{map_of}
 use Rattle.goblin_pe_c_tables.specs.ExportDirectories.{addresses_for_c}
 use Rattle.goblin_pe_c_tables.proofs.AddressBatches.{length-addresses, onward-none}
 use Rattle.goblin_pe_c_tables.proofs.export_directory.fill_addresses.Goals as goal

@@ -4,8 +4,7 @@ use Rattle.goblin_pe_import.specs.declared.added.library_walk.WalkedLibrary.{Wal
 use Rattle.goblin_pe.specs.added.Layouts.{layout_map, layout_places}
 use Rattle.goblin_pe_import.specs.added.Libraries.{GivesNextLibrary, library_value}
 use Rattle.goblin_pe_sect.specs.Addresses.{MapOfAddresses, map_of}
-use Rattle.goblin_pe_c_tables.specs.Libraries.{library_for_c}
-use Rattle.goblin_pe_c_tables.specs.Batches.{cursor_for_c}
+use Rattle.goblin_pe_c_tables.specs.{Libraries.library_for_c, Batches.cursor_for_c}
 use Rattle.goblin_pe_c_tables.proofs.LibraryBatches.{libraries-end, libraries-full, libraries-more, libraries-refused, libraries-start}
 use Rattle.goblin_pe_c_tables.proofs.library.fill_libraries.Goals as goal
 

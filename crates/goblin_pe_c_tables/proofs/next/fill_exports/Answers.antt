@@ -1,5 +1,4 @@
-use Rattle.std.proofs.Common.{◌∙◌, ap, arith, sym}
-use Rattle.std.proofs.lemmas.List.{length-set}
+use Rattle.std.proofs.{Common.◌∙◌, Common.ap, Common.arith, Common.sym, lemmas.List.length-set}
 use Rattle.goblin_pe_export.specs.added.ExportWalks.{walked_export}
 use Rattle.goblin_pe_c_tables.specs.Exports.{export_with, forwarder_for_c}
 use Rattle.goblin_pe_c_headers.proofs.Batches.{items-full}

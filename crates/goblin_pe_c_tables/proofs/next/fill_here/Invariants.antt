@@ -1,8 +1,7 @@
 -- The records hold the ASCII imports that have come so far.
 use Rattle.std.proofs.Common.{◌≡◌, ◌-◌, ◌≤◌, length}
 use Rattle.goblin_pe_import.specs.added.ImportWalks.{ascii_at}
-use Rattle.goblin_pe_c_tables.specs.Batches.{Fills}
-use Rattle.goblin_pe_c_tables.specs.Imports.{GivesHere}
+use Rattle.goblin_pe_c_tables.specs.{Batches.Fills, Imports.GivesHere}
 use Rattle.goblin_pe_c_tables.proofs.next.fill_here.Given as goal
 
 abbrev pub invariant-ascii : goal.invariant-ascii

@@ -1,10 +1,8 @@
 use Rattle.std.proofs.Common.{◌≡◌, ℕ, Some, subst, sym, unwrap_or}
-use Rattle.goblin_pe_sect.specs.Options.{is_strict}
-use Rattle.goblin_pe_sect.specs.declared.options.ParseOptions.{ParseOptions}
+use Rattle.goblin_pe_sect.specs.{Options.is_strict, declared.options.ParseOptions.ParseOptions}
 use Rattle.goblin_pe.specs.Whole.{layout}
-use Rattle.goblin_pe_c_headers.specs.Options.{header_options}
+use Rattle.goblin_pe_c_headers.specs.{Options.header_options, declared.image.PeImage.PeImage}
 use Rattle.goblin_pe_c_headers.specs.Places.{image_places, placed_sections}
-use Rattle.goblin_pe_c_headers.specs.declared.image.PeImage.{PeImage}
 use Rattle.goblin_pe_c_tables.specs.PartialImages.{AreTableFaults, Tests, given_sections}
 use Rattle.goblin_pe_c_tables.proofs.Placed.{given_led, whole_given}
 use Rattle.goblin_pe_c_tables.proofs.partial.read.Goals as goal

@@ -1,5 +1,4 @@
-use Rattle.std.proofs.Common.{rules, map, ap, ◌∙◌}
-use Rattle.std.proofs.lemmas.Result.{IfOk-weaker}
+use Rattle.std.proofs.{Common.rules, Common.map, Common.ap, Common.◌∙◌, lemmas.Result.IfOk-weaker}
 use Rattle.goblin_base.specs.Marks.{joined, ranges_of}
 use Rattle.goblin_pe_c_tables.specs.Walked.{range_record_of}
 use Rattle.goblin_pe_c_tables.proofs.ranges.range_records.Goals as goal

@@ -1,6 +1,5 @@
 use Rattle.std.proofs.Common.{subst}
-use Rattle.goblin_pe_c_headers.specs.Memory.{SeesFile}
-use Rattle.goblin_pe_c_headers.specs.declared.places.PePlaces.{PePlaces}
+use Rattle.goblin_pe_c_headers.specs.{Memory.SeesFile, declared.places.PePlaces.PePlaces}
 use Rattle.goblin_pe_capi.proofs.look_up.goblin_pe_raw_memory_at.Goals as goal
 
 pub returns-clause-file : goal.returns-clause-file

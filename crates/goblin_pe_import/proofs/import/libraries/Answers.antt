@@ -1,12 +1,10 @@
-use Rattle.std.proofs.Common.{refl}
-use Rattle.std.proofs.lemmas.Result.{err_from_is_err_and}
+use Rattle.std.proofs.{Common.refl, lemmas.Result.err_from_is_err_and}
 use Rattle.goblin_base.specs.declared.endian.Endian.TheVariants.{Little}
 use Rattle.goblin_base.specs.declared.error.ErrorOf.TheVariants.{Malformed}
 use Rattle.goblin_base.specs.declared.error.CauseOf.TheVariants.{ImportRecordEnd}
 use Rattle.goblin_base.proofs.Steps.{mapped, unmapped}
 use Rattle.readings.proofs.Loops.{read-end, read-missing, read-next, read-refused}
-use Rattle.goblin_pe_import.specs.ImportReadings.{import_record_at}
-use Rattle.goblin_pe_import.specs.ImportRecords.{import_record}
+use Rattle.goblin_pe_import.specs.{ImportReadings.import_record_at, ImportRecords.import_record}
 use Rattle.goblin_pe_import.proofs.Modes.{ends, lacks_end}
 use Rattle.goblin_pe_import.proofs.import.libraries.Goals as goal
 

@@ -1,8 +1,7 @@
 use Rattle.std.proofs.Common.{length, ◌-◌}
 use Rattle.readings.proofs.Loops.{AtRead}
 use Rattle.goblin_pe_sect.specs.Addresses.{map_of, reads_strictly}
-use Rattle.goblin_pe_import.specs.ImportReadings.{kept_library}
-use Rattle.goblin_pe_import.specs.ImportRecords.{import_slots}
+use Rattle.goblin_pe_import.specs.{ImportReadings.kept_library, ImportRecords.import_slots}
 use Rattle.goblin_pe_import.proofs.import.libraries.Given as goal
 
 abbrev pub invariant-records : goal.invariant-records

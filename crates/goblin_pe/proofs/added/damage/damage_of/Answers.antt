@@ -1,7 +1,6 @@
 use Rattle.std.proofs.Common.{◌≡◌, Ok, Option, refl, subst, sym}
 use Rattle.goblin_base.specs.declared.error.ErrorOf.{ErrorOf}
-use Rattle.goblin_pe_head.specs.HeaderReadings.{stub_at}
-use Rattle.goblin_pe_head.specs.PeHeader.{header_value}
+use Rattle.goblin_pe_head.specs.{HeaderReadings.stub_at, PeHeader.header_value}
 use Rattle.goblin_pe_sect.specs.SectionTable.{recorded_sections}
 use Rattle.goblin_pe.specs.added.Damages.{AreDamaged, IsDamage, TellsDamage, exports_left_out}
 use Rattle.goblin_pe.proofs.added.SoundFiles.{sound_whole}

@@ -1,8 +1,6 @@
 use Rattle.std.proofs.Common.{rules, Bool, List, ap, refl, ◌∙◌}
-use Rattle.goblin_base.specs.Answers.{IsMemory}
-use Rattle.goblin_base.specs.Marks.{marked}
-use Rattle.goblin_pe_sect.specs.Options.{is_strict}
-use Rattle.goblin_pe_sect.specs.SectionTable.{recorded_sections}
+use Rattle.goblin_base.specs.{Answers.IsMemory, Marks.marked}
+use Rattle.goblin_pe_sect.specs.{Options.is_strict, SectionTable.recorded_sections}
 use Rattle.goblin_pe_head.specs.PeHeader.{header_value}
 use Rattle.goblin_pe.specs.added.Layouts.{layout_map, layout_places}
 use Rattle.goblin_pe.specs.Whole.{sections_after, table_parts}

@@ -1,5 +1,4 @@
-use Rattle.std.proofs.Common.{length}
-use Rattle.std.proofs.lemmas.Result.{IfOk-weaker}
+use Rattle.std.proofs.{Common.length, lemmas.Result.IfOk-weaker}
 use Rattle.goblin_base.proofs.MarkRanges.{footprint_of}
 use Rattle.goblin_pe.specs.Whole.{whole_file}
 use Rattle.goblin_pe.proofs.added.footprint.footprint_whole.Goals as goal

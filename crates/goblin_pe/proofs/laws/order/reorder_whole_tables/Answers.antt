@@ -1,6 +1,5 @@
-use Rattle.goblin_pe_sect.specs.Options.{mapping_by}
+use Rattle.goblin_pe_sect.specs.{Options.mapping_by, Addresses.with_whole_names}
 use Rattle.std.proofs.Common.{ap}
-use Rattle.goblin_pe_sect.specs.Addresses.{with_whole_names}
 use Rattle.goblin_pe_sect.proofs.Reordered.{map-reordered}
 use Rattle.goblin_pe.proofs.TableRuns.{are_alike}
 use Rattle.goblin_pe.proofs.laws.order.reorder_whole_tables.Goals as goal

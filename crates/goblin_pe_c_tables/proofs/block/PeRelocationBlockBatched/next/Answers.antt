@@ -2,8 +2,7 @@ use Rattle.std.proofs.Common.{◌∙◌, ℕ, List, Option, Some, ap, arith, len
 use Rattle.goblin_pe_sect.specs.BaseRelocations.{relocation_bytes}
 use Rattle.goblin_pe_sect.specs.declared.relocation.base.RelocationData.{RelocationData}
 use Rattle.goblin_pe.specs.added.Layouts.{layout_map, layout_places}
-use Rattle.goblin_pe.specs.Whole.{part_map}
-use Rattle.goblin_pe.specs.declared.whole.Part.{Part}
+use Rattle.goblin_pe.specs.{Whole.part_map, declared.whole.Part.Part}
 use Rattle.goblin_pe_c_headers.specs.Onward.{batch_at}
 use Rattle.goblin_pe_c_tables.proofs.BlockBatches.{blocks-answered, blocks-none, directory-inside, directory-read}
 use Rattle.goblin_pe_c_tables.proofs.block.PeRelocationBlockBatched.next.Goals as goal

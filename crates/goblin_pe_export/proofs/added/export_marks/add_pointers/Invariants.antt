@@ -1,7 +1,6 @@
 -- What the name pointers so far lead to is listed.
 use Rattle.std.proofs.Common.{◌≡◌}
-use Rattle.goblin_base.specs.Marks.{marked}
-use Rattle.goblin_base.specs.Tables.{concat_below}
+use Rattle.goblin_base.specs.{Marks.marked, Tables.concat_below}
 use Rattle.goblin_pe_sect.specs.Addresses.{map_of}
 use Rattle.goblin_pe_export.specs.ExportReadings.{numbered_row}
 use Rattle.goblin_pe_export.proofs.added.export_marks.add_pointers.Given as goal

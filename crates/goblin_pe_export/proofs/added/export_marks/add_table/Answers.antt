@@ -1,7 +1,6 @@
 use Rattle.std.proofs.Common.{◌≡◌, ◌+◌, ◌-◌, ◌*◌, ◌/◌, [], length, sym, ◌∙◌, arith, min}
 use Rattle.goblin_base.specs.Footprints.{positions}
-use Rattle.goblin_base.proofs.Marks.{marked_nil}
-use Rattle.goblin_base.proofs.SlotFootprints.{positions-none}
+use Rattle.goblin_base.proofs.{Marks.marked_nil, SlotFootprints.positions-none}
 use Rattle.goblin_pe_export.proofs.added.export_marks.add_table.Goals as goal
 
 pub returns-then-whole-eq0 : goal.returns-then-whole-eq0

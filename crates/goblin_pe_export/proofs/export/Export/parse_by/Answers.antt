@@ -1,9 +1,7 @@
 use Rattle.std.proofs.Common.{ℕ, List, Option, [], ap, arith, length, sym, unwrap_or, ◌≡◌, ◌∙◌, option_to_list}
 use Rattle.goblin_base.specs.Tables.{concat_below}
-use Rattle.goblin_pe_sect.specs.Addresses.{map_of}
-use Rattle.goblin_pe_sect.specs.declared.address_map.AddressMap.{AddressMap}
-use Rattle.goblin_pe_export.specs.ExportRecords.{ExportRow}
-use Rattle.goblin_pe_export.specs.Exports.{export_row}
+use Rattle.goblin_pe_sect.specs.{Addresses.map_of, declared.address_map.AddressMap.AddressMap}
+use Rattle.goblin_pe_export.specs.{ExportRecords.ExportRow, Exports.export_row}
 use Rattle.goblin_pe_export.proofs.ExportRows.{row_more, row_none, rows_listed}
 use Rattle.goblin_pe_export.proofs.export.Export.parse_by.Goals as goal
 use Rattle.goblin_pe_export.proofs.export.Export.parse_by.Goals.{in-Some+in_ok-make_room, in_default}

@@ -1,8 +1,7 @@
 use Rattle.std.proofs.Common.{◌≡◌, [], ◌++◌, append-nil, ap, ◌∙◌}
-use Rattle.goblin_base.specs.Footprints.{slice_footprint}
-use Rattle.goblin_base.specs.Marks.{marked}
+use Rattle.goblin_base.specs.{Footprints.slice_footprint, Marks.marked}
 use Rattle.goblin_base.proofs.Ranges.{marked_then}
-use Rattle.goblin_pe_head.specs.declared.header.dos.DosHeader.{DosHeader}
+use Rattle.goblin_pe_head.specs.DosHeader.{DosHeader}
 use Rattle.goblin_pe_head.proofs.added.HeaderRanges.{dos-reaches, signature_reach}
 use Rattle.goblin_pe_head.proofs.added.header_marks.add_dos_header.Goals as goal
 

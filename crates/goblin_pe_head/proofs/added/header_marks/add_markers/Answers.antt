@@ -1,6 +1,5 @@
 use Rattle.std.proofs.Common.{◌≡◌, ◌+◌, ℕ, Option, Some, take, ap, sym, ◌∙◌}
-use Rattle.goblin_base.specs.Marks.{marked}
-use Rattle.goblin_base.specs.Parts.{moved_by, search_footprint}
+use Rattle.goblin_base.specs.{Marks.marked, Parts.moved_by, Parts.search_footprint}
 use Rattle.goblin_base.proofs.Ranges.{marked_then}
 use Rattle.goblin_pe_head.specs.RichHeader.{dans_place, marker_place, word_at}
 use Rattle.goblin_pe_head.proofs.added.HeaderRanges.{dans_reach, marker_reach, marker_there}

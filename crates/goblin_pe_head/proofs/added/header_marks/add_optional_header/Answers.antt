@@ -1,9 +1,7 @@
 use Rattle.std.proofs.Common.{◌≡◌, None, Some, [], ◌++◌, append-nil, drop}
-use Rattle.goblin_base.specs.declared.endian.Endian.TheVariants.{Little}
-use Rattle.goblin_base.specs.Bytes.{number_at}
+use Rattle.goblin_base.specs.{declared.endian.Endian.TheVariants.Little, Bytes.number_at}
 use Rattle.goblin_base.specs.Footprints.{slice_footprint}
-use Rattle.goblin_base.proofs.Numbers.{rest_is_drop}
-use Rattle.goblin_base.proofs.Ranges.{marked_then}
+use Rattle.goblin_base.proofs.{Numbers.rest_is_drop, Ranges.marked_then}
 use Rattle.readings.specs.Reads.{in_rest}
 use Rattle.goblin_pe_head.specs.HeaderReadings.{fixed_fields}
 use Rattle.goblin_pe_head.proofs.added.HeaderRanges.{led_by, optional-reaches}

@@ -1,9 +1,7 @@
 -- The sections so far are listed.
 use Rattle.std.proofs.Common.{◌≡◌, ◌+◌, ◌*◌}
-use Rattle.goblin_base.specs.Marks.{marked}
-use Rattle.goblin_base.specs.Tables.{concat_below}
-use Rattle.goblin_pe_sect.specs.Options.{is_strict}
-use Rattle.goblin_pe_sect.specs.SectionReadings.{named_section_at}
+use Rattle.goblin_base.specs.{Marks.marked, Tables.concat_below}
+use Rattle.goblin_pe_sect.specs.{Options.is_strict, SectionReadings.named_section_at}
 use Rattle.goblin_pe_head.specs.CoffHeader.{symbols_end}
 use Rattle.goblin_pe_head.proofs.added.section_marks.add_sections.Given as goal
 

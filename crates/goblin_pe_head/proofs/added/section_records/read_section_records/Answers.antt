@@ -1,7 +1,6 @@
 use Rattle.std.proofs.Common.{◌≡◌, ◌+◌, ◌*◌, ℕ, Bor, List, None, Some, ap, arith, refl, sym, subst, ◌∙◌, option_map}
 use Rattle.std.proofs.lemmas.Result.{err_from_is_err_and}
-use Rattle.goblin_pe_sect.specs.Options.{is_strict}
-use Rattle.goblin_pe_sect.specs.SectionReadings.{named_section_at}
+use Rattle.goblin_pe_sect.specs.{Options.is_strict, SectionReadings.named_section_at}
 use Rattle.goblin_pe_sect.specs.SectionTable.{Section, sections_in, unnamed}
 use Rattle.goblin_pe_head.proofs.added.SectionRecords.{section_end, section_more, sections_from, sections_of_got, unnamed_from, unnamed_refused}
 use Rattle.goblin_pe_head.proofs.added.section_records.read_section_records.Goals as goal

@@ -1,8 +1,7 @@
 use Rattle.std.proofs.Common.{◌+◌, ◌*◌, ℕ, List, ap, arith, subst, sym, ◌∙◌, Option, Some}
 use Rattle.std.proofs.lemmas.Result.{err_from_is_err_and}
 use Rattle.goblin_base.proofs.Steps.{all_at-each, all_at-more, all_at-none}
-use Rattle.goblin_pe_sect.specs.Options.{is_strict}
-use Rattle.goblin_pe_sect.specs.SectionReadings.{named_section_at}
+use Rattle.goblin_pe_sect.specs.{Options.is_strict, SectionReadings.named_section_at}
 use Rattle.goblin_pe_sect.specs.SectionTable.{Section}
 use Rattle.goblin_pe_head.specs.TeHeader.{moved_section}
 use Rattle.goblin_pe_head.proofs.Sections.{moved-cause, moved-none, moved-value}

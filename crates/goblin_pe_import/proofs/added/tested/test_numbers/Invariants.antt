@@ -1,7 +1,6 @@
 use Rattle.std.proofs.Common.{length, ◌-◌, ◌≤◌, ℕ, List}
 use Rattle.readings.proofs.Loops.{AtRead}
-use Rattle.goblin_pe_import.specs.ImportEntries.{entry_slots}
-use Rattle.goblin_pe_import.specs.LookupReadings.{entry_number}
+use Rattle.goblin_pe_import.specs.{ImportEntries.entry_slots, LookupReadings.entry_number}
 use Rattle.goblin_pe_import.proofs.added.tested.test_numbers.Given as goal
 
 abbrev pub invariant-slots : goal.invariant-slots

@@ -1,8 +1,7 @@
 use Rattle.std.proofs.Common.{◌≤◌, ◌∙◌, ℕ, arith, refl, subst, sym}
 use Rattle.goblin_base.specs.declared.error.ErrorOf.TheVariants.{Malformed}
 use Rattle.goblin_base.specs.declared.error.CauseOf.TheVariants.{LookupEnd}
-use Rattle.goblin_pe_import.specs.ImportEntries.{entry_slots}
-use Rattle.goblin_pe_import.specs.Steps.{AreCounted, slots_ahead}
+use Rattle.goblin_pe_import.specs.{ImportEntries.entry_slots, Steps.AreCounted, Steps.slots_ahead}
 use Rattle.goblin_pe_import.proofs.LookupWalk.{refused-strictly, rest-end, rest-kept, rest-missing, rest-refused, rest-skip}
 use Rattle.goblin_pe_import.proofs.Modes.{ends, lacks_end}
 use Rattle.goblin_pe_import.proofs.SlotSteps.{counted-one, grown_spent}

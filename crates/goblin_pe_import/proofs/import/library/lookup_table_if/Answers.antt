@@ -1,5 +1,4 @@
-use Rattle.std.proofs.Common.{ap, option_map}
-use Rattle.std.proofs.lemmas.Result.{err_from_is_err_and}
+use Rattle.std.proofs.{Common.ap, Common.option_map, lemmas.Result.err_from_is_err_and}
 use Rattle.goblin_pe_import.specs.ImportReadings.{lookup_if}
 use Rattle.goblin_pe_import.proofs.import.library.lookup_table_if.Goals as goal
 

@@ -1,6 +1,5 @@
 use Rattle.std.proofs.Common.{ap, sym, ◌∙◌, Some, inr}
-use Rattle.std.proofs.lemmas.Option.{slice_get-get_or}
-use Rattle.std.proofs.lemmas.Result.{err_from_is_err_and}
+use Rattle.std.proofs.{lemmas.Option.slice_get-get_or, lemmas.Result.err_from_is_err_and}
 use Rattle.goblin_pe_import.proofs.Imports.{library-next, library-refused, slots-refused, slots-there}
 use Rattle.goblin_pe_import.proofs.import.listed.imports_of.Goals as goal
 

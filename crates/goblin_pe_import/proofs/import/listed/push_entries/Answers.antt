@@ -1,6 +1,5 @@
 use Rattle.std.proofs.Common.{◌<◌, length, map, sym, arith, refl}
-use Rattle.std.proofs.lemmas.List.{length-map}
-use Rattle.std.proofs.lemmas.Result.{err_from_is_err_and}
+use Rattle.std.proofs.{lemmas.List.length-map, lemmas.Result.err_from_is_err_and}
 use Rattle.goblin_pe_import.specs.ImportLookup.{entry_model}
 use Rattle.goblin_pe_import.proofs.Imports.{entry-next, entry-read, entry-refused, entry-end, slot-read}
 use Rattle.goblin_pe_import.proofs.import.listed.push_entries.Goals as goal

@@ -1,8 +1,7 @@
 use Rattle.std.proofs.Common.{length, ◌-◌}
 use Rattle.goblin_base.proofs.SlotFootprints.{AtRanges}
 use Rattle.readings.proofs.Loops.{reach_of}
-use Rattle.goblin_pe_import.specs.ImportEntries.{entry_slots}
-use Rattle.goblin_pe_import.specs.LookupReadings.{entry_number}
+use Rattle.goblin_pe_import.specs.{ImportEntries.entry_slots, LookupReadings.entry_number}
 use Rattle.goblin_pe_import.proofs.laws.footprint.add_address_table.Given as goal
 
 abbrev pub invariant-slots : goal.invariant-slots

@@ -1,8 +1,7 @@
 use Rattle.std.proofs.Common.{ℕ, ◌+◌, Bool, List, ◌++◌, length, sym, ap, ◌∙◌}
-use Rattle.goblin_base.specs.Footprints.{Range, positions}
+use Rattle.goblin_base.specs.{Footprints.Range, Footprints.positions, Marks.marked}
 use Rattle.readings.specs.Reads.{text_within}
 use Rattle.goblin_pe_import.proofs.Listed.{hint-none, hint-some}
-use Rattle.goblin_base.specs.Marks.{marked}
 use Rattle.goblin_base.proofs.Marks.{marked_append, marked_nil}
 use Rattle.goblin_pe_import.proofs.laws.footprint.add_hint.Goals as goal
 

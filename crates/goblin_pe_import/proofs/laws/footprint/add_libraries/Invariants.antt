@@ -2,8 +2,7 @@ use Rattle.std.proofs.Common.{length, ◌-◌}
 use Rattle.goblin_base.proofs.SlotFootprints.{AtRanges}
 use Rattle.readings.proofs.Loops.{reach_of}
 use Rattle.goblin_pe_sect.specs.Addresses.{map_of, reads_strictly}
-use Rattle.goblin_pe_import.specs.ImportReadings.{kept_library}
-use Rattle.goblin_pe_import.specs.ImportRecords.{import_slots}
+use Rattle.goblin_pe_import.specs.{ImportReadings.kept_library, ImportRecords.import_slots}
 use Rattle.goblin_pe_import.proofs.laws.footprint.add_libraries.Given as goal
 
 abbrev pub invariant-records : goal.invariant-records

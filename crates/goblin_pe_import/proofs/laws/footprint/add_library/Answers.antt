@@ -1,7 +1,6 @@
 use Rattle.std.proofs.Common.{◌≡◌, ℕ, Option, ap, ◌∙◌, subst}
-use Rattle.goblin_base.specs.Footprints.{led_to}
+use Rattle.goblin_base.specs.{Footprints.led_to, Marks.marked}
 use Rattle.readings.specs.Reads.{text_within}
-use Rattle.goblin_base.specs.Marks.{marked}
 use Rattle.goblin_base.proofs.Ranges.{marked_then}
 use Rattle.goblin_pe_sect.specs.Addresses.{map_of, reads_strictly}
 use Rattle.goblin_pe_sect.specs.AddressReadings.{name_at}

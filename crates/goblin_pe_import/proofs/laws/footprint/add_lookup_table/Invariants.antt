@@ -2,8 +2,7 @@ use Rattle.std.proofs.Common.{length, ◌-◌}
 use Rattle.goblin_base.proofs.SlotFootprints.{AtRanges}
 use Rattle.readings.proofs.Loops.{reach_of}
 use Rattle.goblin_pe_sect.specs.Addresses.{map_of, reads_strictly}
-use Rattle.goblin_pe_import.specs.ImportEntries.{entry_slots}
-use Rattle.goblin_pe_import.specs.LookupReadings.{kept_entry}
+use Rattle.goblin_pe_import.specs.{ImportEntries.entry_slots, LookupReadings.kept_entry}
 use Rattle.goblin_pe_import.proofs.laws.footprint.add_lookup_table.Given as goal
 
 abbrev pub invariant-slots : goal.invariant-slots

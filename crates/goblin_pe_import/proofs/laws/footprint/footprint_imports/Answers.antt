@@ -1,7 +1,6 @@
 use Rattle.std.proofs.Common.{◌≡◌, Bool, List, false, length, replicate, ap, subst, sym, ◌∙◌}
 use Rattle.std.proofs.lemmas.Result.{IfOk-weaker}
-use Rattle.goblin_base.specs.Footprints.{Range}
-use Rattle.goblin_base.specs.Marks.{marked}
+use Rattle.goblin_base.specs.{Footprints.Range, Marks.marked}
 use Rattle.goblin_base.proofs.MarkRanges.{footprint_of}
 use Rattle.goblin_pe_sect.specs.Addresses.{MapOfAddresses, map_by, map_of, reads_strictly}
 use Rattle.goblin_pe_import.specs.ImportReadings.{import_data}

@@ -1,6 +1,5 @@
 use Rattle.std.proofs.Common.{◌≡◌, ℕ, ◌+◌, ◌-◌, ◌^◌, Bool, true, false, cond, ap, arith, refl, ◌∙◌, count_by, min}
-use Rattle.std.proofs.lemmas.Result.{err_from_is_err_and}
-use Rattle.std.proofs.lemmas.Fn.{says_at}
+use Rattle.std.proofs.{lemmas.Result.err_from_is_err_and, lemmas.Fn.says_at}
 use Rattle.goblin_pe.proofs.added.Folds.{count_more, gathers_all, gathers_fault}
 use Rattle.goblin_pe.proofs.added.file_imports.FileImports.count_imports.Goals as goal
 

@@ -1,9 +1,7 @@
 use Rattle.std.proofs.Common.{Bool}
 use Rattle.std.specs.Fn.{FnReturnsAt}
-use Rattle.goblin_pe_import.specs.Imports.{NumberedImport}
-use Rattle.goblin_pe_import.specs.added.ImportWalks.{walked_value}
-use Rattle.readings.specs.Tests.{IsTest}
-use Rattle.readings.specs.added.Questions.{counted}
+use Rattle.goblin_pe_import.specs.{Imports.NumberedImport, added.ImportWalks.walked_value}
+use Rattle.readings.specs.{Tests.IsTest, added.Questions.counted}
 use Rattle.goblin_pe.proofs.added.Folds.{Gathers}
 use Rattle.goblin_pe.proofs.added.file_imports.FileImports.count_imports.Given as goal
 

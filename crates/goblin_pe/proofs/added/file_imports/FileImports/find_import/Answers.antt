@@ -1,7 +1,6 @@
 use Rattle.std.proofs.Common.{◌≡◌, Bool, true, false, cond, not, Option, Some, None, ap, refl, ◌∙◌, option_map}
 use Rattle.std.specs.Option.{is_some, option_or}
-use Rattle.std.proofs.lemmas.Result.{err_from_is_err_and}
-use Rattle.std.proofs.lemmas.Fn.{says_at}
+use Rattle.std.proofs.{lemmas.Result.err_from_is_err_and, lemmas.Fn.says_at}
 use Rattle.goblin_pe_import.specs.declared.added.imports.WalkedImport.{WalkedImport}
 use Rattle.goblin_pe_import.specs.added.ImportWalks.{walked_value}
 use Rattle.goblin_pe.proofs.added.Folds.{find_more, gathers_all, gathers_fault}

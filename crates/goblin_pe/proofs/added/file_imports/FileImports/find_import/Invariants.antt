@@ -1,7 +1,6 @@
 use Rattle.std.proofs.Common.{Bool, find, option_map}
 use Rattle.std.specs.Fn.{FnReturnsAt}
-use Rattle.goblin_pe_import.specs.Imports.{NumberedImport}
-use Rattle.goblin_pe_import.specs.added.ImportWalks.{walked_value}
+use Rattle.goblin_pe_import.specs.{Imports.NumberedImport, added.ImportWalks.walked_value}
 use Rattle.readings.specs.Tests.{IsTest}
 use Rattle.goblin_pe.proofs.added.Folds.{Gathers}
 use Rattle.goblin_pe.proofs.added.file_imports.FileImports.find_import.Given as goal

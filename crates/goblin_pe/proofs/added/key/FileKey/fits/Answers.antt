@@ -1,6 +1,5 @@
 use Rattle.std.proofs.Common.{List, subst, sym, All}
-use Rattle.goblin_pe.specs.added.Keys.{HasKeptRange, KeptRange}
-use Rattle.goblin_pe.specs.Whole.{whole_file}
+use Rattle.goblin_pe.specs.{added.Keys.HasKeptRange, added.Keys.KeptRange, Whole.whole_file}
 use Rattle.goblin_pe.proofs.added.Keys.{agree-there, there-agree}
 use Rattle.goblin_pe.proofs.added.key.FileKey.fits.Goals as goal
 

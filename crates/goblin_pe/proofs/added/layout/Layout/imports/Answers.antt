@@ -2,8 +2,7 @@ use Rattle.std.proofs.Common.{◌≡◌, ◌∙◌, ap, sym, true, false, inl, i
 use Rattle.std.proofs.lemmas.Result.{err_from_is_err_and}
 use Rattle.goblin_pe_sect.specs.declared.options.ParseOptions.{ParseOptions}
 use Rattle.goblin_pe_sect.specs.Addresses.{reads_strictly}
-use Rattle.goblin_pe_import.specs.ImportReadings.{numbered_data}
-use Rattle.goblin_pe_import.specs.Imports.{numbered_imports}
+use Rattle.goblin_pe_import.specs.{ImportReadings.numbered_data, Imports.numbered_imports}
 use Rattle.goblin_pe.specs.added.Layouts.{layout_bytes, layout_map, layout_places}
 use Rattle.goblin_pe.specs.Whole.{directory_at, entry_format, import_list, numbered_data_part}
 use Rattle.goblin_pe.proofs.added.ImportStarts.{begin-cause, begin-value}

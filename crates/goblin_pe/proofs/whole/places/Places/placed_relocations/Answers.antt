@@ -1,8 +1,7 @@
 use Rattle.std.proofs.Common.{◌∙◌, ℕ, Option, subst, sym}
 use Rattle.goblin_base.specs.Reading.{Reads}
 use Rattle.goblin_pe_sect.specs.declared.options.ParseOptions.{ParseOptions}
-use Rattle.goblin_pe_sect.specs.AddressReadings.{relocation_data}
-use Rattle.goblin_pe_sect.specs.BaseRelocations.{relocation_bytes}
+use Rattle.goblin_pe_sect.specs.{AddressReadings.relocation_data, BaseRelocations.relocation_bytes}
 use Rattle.goblin_pe_sect.specs.Options.{is_strict}
 use Rattle.goblin_pe_sect.specs.Addresses.{map_of, offset_of, reads_strictly}
 use Rattle.goblin_pe.specs.Whole.{BecomesPart, relocation_part}

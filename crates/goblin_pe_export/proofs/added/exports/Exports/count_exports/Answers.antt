@@ -1,6 +1,5 @@
 use Rattle.std.proofs.Common.{rules, ◌≡◌, ◌+◌, Bool, true, false, cond, List, ◌∷◌, count_by, arith, refl}
-use Rattle.std.proofs.lemmas.Fn.{says_at}
-use Rattle.std.proofs.lemmas.List.Sums.{sum_by-cons}
+use Rattle.std.proofs.{lemmas.Fn.says_at, lemmas.List.Sums.sum_by-cons}
 use Rattle.goblin_pe_export.specs.added.ExportWalks.{NumberedExport, exports_left, walked_export}
 use Rattle.goblin_pe_export.proofs.added.exports.Exports.count_exports.Goals as goal
 

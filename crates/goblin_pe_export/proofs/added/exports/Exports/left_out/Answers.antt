@@ -1,8 +1,6 @@
 use Rattle.std.proofs.Common.{◌≡◌, ◌≤◌, ◌+◌, ℕ, Bool, true, false, ap, arith, length, rules, sym, ◌∙◌, count_by, not}
-use Rattle.std.specs.Int.{from_bool}
-use Rattle.std.specs.List.{range_with_len}
-use Rattle.goblin_pe_sect.specs.declared.address_map.AddressMap.{AddressMap}
-use Rattle.goblin_pe_sect.specs.Addresses.{map_of}
+use Rattle.std.specs.{Int.from_bool, List.range_with_len}
+use Rattle.goblin_pe_sect.specs.{declared.address_map.AddressMap.AddressMap, Addresses.map_of}
 use Rattle.goblin_pe_export.specs.added.ExportWalks.{exports_at, walked_tables}
 use Rattle.goblin_pe_export.specs.added.LeftOutExports.{gives_export, pointers_left_out}
 use Rattle.goblin_pe_export.proofs.added.LeftOutExports.{counted-more, listed_or_left_out}

@@ -2,8 +2,7 @@
 use Rattle.std.proofs.Common.{◌≡◌, ◌≤◌, count_by, not}
 use Rattle.std.specs.List.{range_with_len}
 use Rattle.goblin_pe_sect.specs.Addresses.{map_of}
-use Rattle.goblin_pe_export.specs.ExportRecords.{tables_in}
-use Rattle.goblin_pe_export.specs.added.LeftOutExports.{gives_export}
+use Rattle.goblin_pe_export.specs.{ExportRecords.tables_in, added.LeftOutExports.gives_export}
 use Rattle.goblin_pe_export.proofs.added.exports.Exports.left_out.Given as goal
 
 abbrev pub invariant-pointers : goal.invariant-pointers

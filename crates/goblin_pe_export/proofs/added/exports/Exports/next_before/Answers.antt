@@ -1,6 +1,5 @@
 use Rattle.std.proofs.Common.{ℕ, ◌∷◌, ◌+◌, ap, arith, length, Some, sym, ◌∙◌}
-use Rattle.goblin_pe_sect.specs.Addresses.{map_of}
-use Rattle.goblin_pe_sect.specs.declared.address_map.AddressMap.{AddressMap}
+use Rattle.goblin_pe_sect.specs.{Addresses.map_of, declared.address_map.AddressMap.AddressMap}
 use Rattle.goblin_pe_export.specs.ExportRecords.{ExportTables, name_pointers, tables_in}
 use Rattle.goblin_pe_export.specs.added.ExportWalks.{NumberedExport, exports_at, numbered_from, walked_export}
 use Rattle.goblin_pe_export.proofs.added.ExportWalk.{from_export, from_none}

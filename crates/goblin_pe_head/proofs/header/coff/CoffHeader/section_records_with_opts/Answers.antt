@@ -1,8 +1,7 @@
 use Rattle.std.proofs.Common.{None, ap, arith, inl, map, refl, option_map}
 use Rattle.goblin_pe_sect.specs.Options.{is_strict}
 use Rattle.goblin_pe_sect.specs.SectionTable.{recorded_sections, unnamed}
-use Rattle.goblin_pe_head.specs.CoffHeader.{symbols_end}
-use Rattle.goblin_pe_head.specs.CoffReadings.{sections_at}
+use Rattle.goblin_pe_head.specs.{CoffHeader.symbols_end, CoffReadings.sections_at}
 use Rattle.goblin_pe_head.specs.TeHeader.{moved_sections}
 use Rattle.goblin_pe_head.proofs.Sections.{in_room_made, sections_at-too_short}
 use Rattle.goblin_pe_head.proofs.header.coff.CoffHeader.section_records_with_opts.Goals as goal

@@ -1,7 +1,6 @@
 use Rattle.std.proofs.Common.{None, arith, inl, refl}
 use Rattle.goblin_pe_sect.specs.Options.{is_strict}
-use Rattle.goblin_pe_head.specs.CoffHeader.{symbols_end}
-use Rattle.goblin_pe_head.specs.CoffReadings.{sections_at}
+use Rattle.goblin_pe_head.specs.{CoffHeader.symbols_end, CoffReadings.sections_at}
 use Rattle.goblin_pe_head.specs.TeHeader.{moved_sections}
 use Rattle.goblin_pe_head.proofs.Sections.{in_room, sections_at-too_short}
 use Rattle.goblin_pe_head.proofs.header.coff.CoffHeader.sections_with_opts.Goals as goal

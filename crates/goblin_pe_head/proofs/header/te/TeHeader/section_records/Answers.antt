@@ -1,9 +1,7 @@
 use Rattle.std.proofs.Common.{◌+◌, ◌*◌, ap, arith, inl, map, refl, subst, true, Some, option_map}
-use Rattle.goblin_base.specs.declared.error.CauseOf.TheVariants.{StrippedSize}
-use Rattle.goblin_base.specs.Reading.{Reads}
+use Rattle.goblin_base.specs.{declared.error.CauseOf.TheVariants.StrippedSize, Reading.Reads}
 use Rattle.readings.specs.Reads.{◌>>=◌, each, mapped, needs}
-use Rattle.goblin_pe_sect.specs.declared.options.ParseOptions.{ParseOptions}
-use Rattle.goblin_pe_sect.specs.Options.{is_strict}
+use Rattle.goblin_pe_sect.specs.{declared.options.ParseOptions.ParseOptions, Options.is_strict}
 use Rattle.goblin_pe_sect.specs.SectionReadings.{named_section_at}
 use Rattle.goblin_pe_sect.specs.SectionTable.{recorded_sections, unnamed}
 use Rattle.goblin_pe_head.specs.TeHeader.{displacement, section_moved, moved_sections, te_sections_at}

@@ -1,6 +1,5 @@
 use Rattle.goblin_pe_sect.specs.Addresses.{reads_strictly}
-use Rattle.goblin_pe_import.specs.KeptEntries.{entries_from}
-use Rattle.goblin_pe_import.specs.added.ImportWalks.{imports_next}
+use Rattle.goblin_pe_import.specs.{KeptEntries.entries_from, added.ImportWalks.imports_next}
 use Rattle.goblin_pe_import.proofs.added.ImportsWalk.{imports-once}
 use Rattle.goblin_pe_import.proofs.added.imports.ImportCursor.at_record.Goals as goal
 

@@ -1,7 +1,6 @@
 use Rattle.std.proofs.Common.{arith}
 use Rattle.goblin_pe_sect.specs.Addresses.{map_of}
-use Rattle.goblin_pe_import.proofs.added.ImportsValue.{imports-walked}
-use Rattle.goblin_pe_import.proofs.LibraryIndexes.{counted}
+use Rattle.goblin_pe_import.proofs.{added.ImportsValue.imports-walked, LibraryIndexes.counted}
 use Rattle.goblin_pe_import.proofs.added.imports.Imports.at.Goals as goal
 
 pub returns-clause-walks : goal.returns-clause-walks

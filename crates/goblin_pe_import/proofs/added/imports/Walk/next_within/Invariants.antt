@@ -1,7 +1,6 @@
 use Rattle.std.proofs.Common.{length}
-use Rattle.goblin_pe_import.specs.KeptEntries.{slots_bound}
+use Rattle.goblin_pe_import.specs.{KeptEntries.slots_bound, Steps.HasNotGrown}
 use Rattle.goblin_pe_import.specs.added.StepsAhead.{AtSteps, walk_ahead}
-use Rattle.goblin_pe_import.specs.Steps.{HasNotGrown}
 use Rattle.goblin_pe_import.proofs.added.ImportSteps.{AtImports}
 use Rattle.goblin_pe_import.proofs.added.imports.Walk.next_within.Given as goal
 

@@ -2,8 +2,7 @@ use Rattle.std.proofs.Common.{◌+◌, ◌==◌, refl, arith, lit≤}
 use Rattle.goblin_base.proofs.Records.{record_at-some}
 use Rattle.goblin_pe_sect.specs.Addresses.{map_of}
 use Rattle.goblin_base.specs.declared.endian.Endian.TheVariants.{Little}
-use Rattle.goblin_pe_import.specs.ImportRecords.{import_record}
-use Rattle.goblin_pe_import.specs.added.LeftOut.{is_library_left_out}
+use Rattle.goblin_pe_import.specs.{ImportRecords.import_record, added.LeftOut.is_library_left_out}
 use Rattle.goblin_pe_import.proofs.added.SlotSums.{from_bool-few, sum-few, sum-next, sum-start, sum-stop}
 use Rattle.goblin_pe_import.proofs.added.left_out.LeftOut.of.Goals as goal
 

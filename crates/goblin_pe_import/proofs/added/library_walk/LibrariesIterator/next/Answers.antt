@@ -2,8 +2,7 @@ use Rattle.std.proofs.Common.{ap, refl, sym, ◌∙◌}
 use Rattle.goblin_base.specs.declared.endian.Endian.TheVariants.{Little}
 use Rattle.goblin_base.specs.declared.error.ErrorOf.TheVariants.{Malformed}
 use Rattle.goblin_base.specs.declared.error.CauseOf.TheVariants.{ImportRecordEnd}
-use Rattle.goblin_pe_import.specs.ImportRecords.{import_record}
-use Rattle.goblin_pe_import.specs.added.Libraries.{after_library}
+use Rattle.goblin_pe_import.specs.{ImportRecords.import_record, added.Libraries.after_library}
 use Rattle.goblin_pe_import.proofs.added.LibrariesWalk.{end-left, ended-left, given-left, missing-left, none-left, same-over}
 use Rattle.goblin_pe_import.proofs.Modes.{ends, lacks_end}
 use Rattle.goblin_pe_import.proofs.added.library_walk.LibrariesIterator.next.Goals as goal

@@ -1,6 +1,5 @@
-use Rattle.std.proofs.Common.{map, ap, arith, ◌∙◌}
-use Rattle.std.proofs.lemmas.List.{length-map, map-append}
-use Rattle.std.proofs.lemmas.Result.{err_from_is_err_and}
+use Rattle.std.proofs.{Common.map, Common.ap, Common.arith, Common.◌∙◌, lemmas.List.length-map}
+use Rattle.std.proofs.{lemmas.List.map-append, lemmas.Result.err_from_is_err_and}
 use Rattle.goblin_pe_import.specs.ImportLookup.{entry_model}
 use Rattle.goblin_pe_import.proofs.LookupWalk.{entries-all, entries-counted, entries-fault, entries-more}
 use Rattle.goblin_pe_import.proofs.import.lookup_table.SyntheticImportLookupTableEntry.parse_by.Goals as goal

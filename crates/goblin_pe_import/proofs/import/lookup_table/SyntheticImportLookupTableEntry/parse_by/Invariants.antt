@@ -1,7 +1,6 @@
 use Rattle.std.proofs.Common.{◌≡◌, map}
 use Rattle.goblin_pe_sect.specs.Addresses.{map_of, reads_strictly}
-use Rattle.goblin_pe_import.specs.ImportLookup.{entry_model}
-use Rattle.goblin_pe_import.specs.KeptEntries.{slots_bound}
+use Rattle.goblin_pe_import.specs.{ImportLookup.entry_model, KeptEntries.slots_bound}
 use Rattle.goblin_pe_import.proofs.LookupWalk.{AtEntries}
 use Rattle.goblin_pe_import.proofs.import.lookup_table.SyntheticImportLookupTableEntry.parse_by.Given as goal
 
