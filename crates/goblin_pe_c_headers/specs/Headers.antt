@@ -1,7 +1,8 @@
 -- The record of an optional header, as a definition.
 use Rattle.std.specs.Prelude.{Option, Some, None}
 use Rattle.goblin_pe_head.specs.declared.optional_header.OptionalHeader.{OptionalHeader}
-use Rattle.goblin_pe_head.specs.declared.optional_header.standard_fields.StandardFields.{StandardFields}
+use Rattle.goblin_pe_head.specs.declared.optional_header.standard_fields as standard
+use standard.StandardFields.{StandardFields}
 use Rattle.goblin_pe_head.specs.added.HeaderParts.{no_windows_fields}
 use Rattle.goblin_pe_c_headers.specs.declared.headers.PeOptionalHeader.{PeOptionalHeader}
 

@@ -3,9 +3,10 @@ use Rattle.std.specs.Prelude.{ℕ, ◌+◌, Bool, true, false, List, [], ◌∷�
 use Rattle.std.specs.Prelude.{replicate}
 use Rattle.std.specs.List.{enumerate_from}
 use Rattle.goblin_base.specs.declared.endian.Endian.TheVariants.{Little}
-use Rattle.goblin_pe_export.specs.declared.export.tables.ExportAddressTableEntry.{ExportAddressTableEntry}
-use Rattle.goblin_pe_export.specs.declared.export.tables.ExportAddressTableEntry.TheVariants as variant
-use Rattle.goblin_pe_export.specs.declared.export.tables.ExportDirectoryTable.{ExportDirectoryTable}
+use Rattle.goblin_pe_export.specs.declared.export.tables as tables
+use tables.ExportAddressTableEntry.{ExportAddressTableEntry}
+use tables.ExportAddressTableEntry.TheVariants as variant
+use tables.ExportDirectoryTable.{ExportDirectoryTable}
 use Rattle.goblin_pe_export.specs.ExportRecords.{ExportTables, export_directory_record, rva_of}
 use Rattle.goblin_pe_sect.specs.Addresses.{Addressing}
 pub use Rattle.goblin_pe_c_tables.specs.declared.export_directory.PeExportAddress.{PeExportAddress}

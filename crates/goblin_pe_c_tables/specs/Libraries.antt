@@ -2,7 +2,8 @@
 use Rattle.std.specs.Prelude.{◌≡◌, ◌==◌, if◌then◌else◌, IsSome, Some, ℕ, Bool, false, List, [], ◌∷◌}
 use Rattle.std.specs.Prelude.{option_map, take, unwrap_or}
 use Rattle.std.specs.Result.{result_ok}
-use Rattle.goblin_pe_import.specs.declared.import.directory_entry.ImportDirectoryEntry.{ImportDirectoryEntry}
+use Rattle.goblin_pe_import.specs.declared.import.directory_entry as directory
+use directory.ImportDirectoryEntry.{ImportDirectoryEntry}
 use Rattle.goblin_pe_sect.specs.Addresses.{MapOfAddresses, reads_strictly}
 use Rattle.goblin_pe_import.specs.added.ImportWalks.{library_items, library_name, no_imports}
 use Rattle.readings.specs.Walks.{until_refused}

@@ -16,7 +16,8 @@ use Rattle.goblin_pe_export.specs.ExportRecords.{ExportAddressTableEntry, Export
 use Rattle.goblin_pe_export.specs.Forwarders.{Forwarder, forwarder_within}
 use Rattle.goblin_pe_sect.specs.AddressReadings.{at_address, name_at}
 use Rattle.goblin_pe_sect.specs.Addresses.{Addressing}
-use Rattle.goblin_pe_export.specs.declared.export.tables.ExportAddressTableEntry.TheVariants as variant
+use Rattle.goblin_pe_export.specs.declared.export.tables as tables
+use tables.ExportAddressTableEntry.TheVariants as variant
 
 -- ---- export data
 

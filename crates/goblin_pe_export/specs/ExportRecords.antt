@@ -9,9 +9,10 @@ use Rattle.goblin_base.specs.{declared.endian.Endian.TheVariants.Little, Bytes.n
 use Rattle.goblin_base.specs.{Record.FieldValue, Record.uint, Tables.Format, Tables.records_in}
 use Rattle.goblin_pe_sect.specs.declared.data_directories.DataDirectory.{DataDirectory}
 use Rattle.goblin_pe_export.specs.declared.export.entries.TablesInFile.{TablesInFile}
-pub use Rattle.goblin_pe_export.specs.declared.export.tables.ExportAddressTableEntry.{ExportAddressTableEntry}
-use Rattle.goblin_pe_export.specs.declared.export.tables.ExportAddressTableEntry.TheVariants as variant
-pub use Rattle.goblin_pe_export.specs.declared.export.tables.ExportDirectoryTable.{ExportDirectoryTable}
+use Rattle.goblin_pe_export.specs.declared.export.tables as tables
+pub use tables.ExportAddressTableEntry.{ExportAddressTableEntry}
+use tables.ExportAddressTableEntry.TheVariants as variant
+pub use tables.ExportDirectoryTable.{ExportDirectoryTable}
 use Rattle.goblin_pe_export.specs.Forwarders.{Forwarder}
 
 -- Source: PE Format, "The .edata Section (Image Only)".

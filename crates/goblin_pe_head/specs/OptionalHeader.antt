@@ -12,11 +12,13 @@ use Rattle.goblin_base.specs.declared.container.Container.TheVariants as contain
 use Rattle.goblin_base.specs.Answers.{Answers, ◌>>=◌}
 use Rattle.goblin_base.specs.Record.{FieldValue, encoding}
 use Rattle.goblin_pe_sect.specs.DataDirectories.{entries_fields}
-pub use Rattle.goblin_pe_head.specs.declared.optional_header.standard_fields.StandardFields32.{StandardFields32}
-pub use Rattle.goblin_pe_head.specs.declared.optional_header.standard_fields.StandardFields64.{StandardFields64}
-pub use Rattle.goblin_pe_head.specs.declared.optional_header.standard_fields.StandardFields.{StandardFields}
-pub use Rattle.goblin_pe_head.specs.declared.optional_header.windows_fields.WindowsFields32.{WindowsFields32}
-pub use Rattle.goblin_pe_head.specs.declared.optional_header.windows_fields.WindowsFields64.{WindowsFields64}
+use Rattle.goblin_pe_head.specs.declared.optional_header.standard_fields as standard
+pub use standard.StandardFields32.{StandardFields32}
+pub use standard.StandardFields64.{StandardFields64}
+pub use standard.StandardFields.{StandardFields}
+use Rattle.goblin_pe_head.specs.declared.optional_header.windows_fields as windows
+pub use windows.WindowsFields32.{WindowsFields32}
+pub use windows.WindowsFields64.{WindowsFields64}
 pub use Rattle.goblin_pe_head.specs.declared.optional_header.OptionalHeader.{OptionalHeader}
 use Rattle.goblin_pe_head.specs.declared.optional_header.WrittenHeader.{WrittenHeader}
 use Rattle.goblin_pe_head.specs.declared.optional_header.WrittenHeader.TheVariants.{Absent, Narrow}

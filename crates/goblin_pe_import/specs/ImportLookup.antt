@@ -8,9 +8,10 @@ use Rattle.goblin_pe_import.specs.ImportEntries.LookupEntry.{ByName, ByOrdinal}
 pub use Rattle.goblin_pe_import.specs.ImportEntries.{EntryValue, HintName, LookupEntry, entries_32}
 pub use Rattle.goblin_pe_import.specs.ImportEntries.{entries_64, entry_slots, entry_value}
 use Rattle.goblin_pe_import.specs.LookupReadings.{kept_entry}
-use Rattle.goblin_pe_import.specs.declared.import.lookup_table.HintNameTableEntry.{HintNameTableEntry}
-use Rattle.goblin_pe_import.specs.declared.import.lookup_table.SyntheticImportLookupTableEntry.{SyntheticImportLookupTableEntry}
-use Rattle.goblin_pe_import.specs.declared.import.lookup_table.SyntheticImportLookupTableEntry.TheVariants as variant
+use Rattle.goblin_pe_import.specs.declared.import.lookup_table as lookup
+use lookup.HintNameTableEntry.{HintNameTableEntry}
+use lookup.SyntheticImportLookupTableEntry.{SyntheticImportLookupTableEntry}
+use lookup.SyntheticImportLookupTableEntry.TheVariants as variant
 use Rattle.goblin_pe_sect.specs.Addresses.{Addressing}
 
 -- The indexes of the slots whose entries the lookup table at an offset keeps: one for each kept

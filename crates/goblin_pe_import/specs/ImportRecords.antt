@@ -6,7 +6,8 @@ use Rattle.goblin_base.specs.declared.endian.Endian.{Endian}
 use Rattle.goblin_base.specs.{declared.endian.Endian.TheVariants.Little, Bytes.number}
 use Rattle.goblin_base.specs.{Record.FieldValue, Record.uint, Tables.SlotFormat}
 use Rattle.goblin_pe_import.specs.ImportEntries.{LookupEntry}
-pub use Rattle.goblin_pe_import.specs.declared.import.directory_entry.ImportDirectoryEntry.{ImportDirectoryEntry}
+use Rattle.goblin_pe_import.specs.declared.import.directory_entry as directory
+pub use directory.ImportDirectoryEntry.{ImportDirectoryEntry}
 use Rattle.goblin_pe_sect.specs.Addresses.{Addressing}
 
 -- Source: PE Format, "Import Directory Table".

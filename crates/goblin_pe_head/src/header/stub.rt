@@ -14,8 +14,8 @@ pub const DOS_STUB_OFFSET: u32 = 0x40;
 const _: () = prove!(DOS_STUB_OFFSET == 0x40);
 
 // The program that most linkers put there: it prints its message and ends.
-const DEFAULT_STUB: &[u8; 64] =
-    b"\x0E\x1F\xBA\x0E\x00\xB4\x09\xCD\x21\xB8\x01\x4C\xCD\x21This program cannot be run in DOS mode.\x0D\x0D\x0A\x24\0\0\0\0\0\0\0";
+const DEFAULT_STUB: &[u8; 64] = b"\x0E\x1F\xBA\x0E\x00\xB4\x09\xCD\x21\xB8\x01\x4C\xCD\x21\
+    This program cannot be run in DOS mode.\x0D\x0D\x0A\x24\0\0\0\0\0\0\0";
 
 /// The program that runs if a PE file is started under DOS, and what the linker puts after it.
 ///

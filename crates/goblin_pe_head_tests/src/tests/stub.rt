@@ -5,8 +5,8 @@ use goblin_pe_head::{DosStub, Header};
 
 #[test]
 fn the_default_stub_prints_its_message(rt: HostRuntime) {
-    let want: &[u8; 64] =
-        b"\x0E\x1F\xBA\x0E\x00\xB4\x09\xCD\x21\xB8\x01\x4C\xCD\x21This program cannot be run in DOS mode.\x0D\x0D\x0A\x24\0\0\0\0\0\0\0";
+    let want: &[u8; 64] = b"\x0E\x1F\xBA\x0E\x00\xB4\x09\xCD\x21\xB8\x01\x4C\xCD\x21\
+        This program cannot be run in DOS mode.\x0D\x0D\x0A\x24\0\0\0\0\0\0\0";
     let stub = DosStub::default();
     assert!(rt; stub.bytes == want.as_slice() && Header::default().dos_stub == stub);
 }
