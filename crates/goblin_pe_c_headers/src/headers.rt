@@ -17,7 +17,6 @@ pub struct PeOptionalHeader {
 
 /// Fills a record with the fields of an optional header, or with zeros.
 #[inline(always)]
-#[tactic(auto, unfolding(goblin_base::specs::Bytes::number))]
 pub fn fill_optional(fields: &mut PeOptionalHeader, header: &Option<OptionalHeader>)
     ensures { fields.new ≡ optional_record header.now }
 {

@@ -91,7 +91,6 @@ pub struct PeImage<'a> {
 }
 
 /// An image of zeros, except its bytes, its options and its kind.
-#[tactic(auto, unfolding(goblin_base::specs::Bytes::number))]
 pub fn zero_image<'a>(bytes: &'a [u8], options: &PeOptions, kind: u32) -> PeImage<'a>
     ensures bytes { result.bytes.now ≡ bytes.now }
     ensures zeros { result ≡ zero_image options.now kind result }

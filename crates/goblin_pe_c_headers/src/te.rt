@@ -40,6 +40,7 @@ pub fn read<'a>(
         section_table,
         section_count: read.number_of_sections as usize,
         coff_header,
+        // (What was stripped, beyond the 40 bytes of this header.)
         moved_by: read.stripped_size.saturating_sub(40),
         ..zero_image(bytes, options, Kind::Te as u32)
     };

@@ -16,7 +16,8 @@ use Rattle.goblin_pe.specs.declared.whole.Part.TheVariants.{Absent, Refused}
 use Rattle.goblin_pe_c_headers.specs.Onward.{GivesOnward, row_table, unrefused, Batch}
 use Rattle.goblin_pe_c_headers.specs.declared.batch.PeBatch.{PeBatch}
 use Rattle.goblin_pe_c_headers.proofs.Batches.{none-given}
-use Rattle.goblin_pe_c_tables.specs.Batches.{GivesAddresses, at_room, part_or}
+use Rattle.goblin_pe_c_tables.specs.Batches.{GivesAddresses, at_room}
+use Rattle.goblin_pe.specs.added.Layouts.{read_or}
 use Rattle.goblin_pe_c_tables.specs.ExportDirectories.{address_for_c, addresses_for_c}
 
 -- ---- items with their indexes
@@ -67,10 +68,10 @@ onward-none {W} items from old past =
 
 module _ (m : MapOfAddresses) (places : TablePlaces) (bytes : List ℕ) (found : Part Exports)
     (read : (address_part m.opts m.addressing places).value bytes ≡ Some (part_map walked_tables found)) (old : Batch ℕ PeExportAddress) where
-  given : (p : Part ExportTables) → part_map walked_tables found ≡ p → (batch : PeBatch) (new : Batch ℕ PeExportAddress) → GivesOnward (part_or [] (addresses_for_c m.addressing) p) old new batch
+  given : (p : Part ExportTables) → part_map walked_tables found ≡ p → (batch : PeBatch) (new : Batch ℕ PeExportAddress) → GivesOnward (read_or [] (addresses_for_c m.addressing) p) old new batch
       → GivesAddresses m places bytes old new batch
   given p is batch new gives =
-      subst (λ (v : Option (Part ExportTables)). IsSomeAnd v (λ p. GivesOnward (part_or [] (addresses_for_c m.addressing) p) old new batch))
+      subst (λ (v : Option (Part ExportTables)). IsSomeAnd v (λ p. GivesOnward (read_or [] (addresses_for_c m.addressing) p) old new batch))
       (sym (read ∙ ap (λ (p : Part ExportTables). Some p) is)) gives
 
   -- where there are none

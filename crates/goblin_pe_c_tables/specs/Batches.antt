@@ -10,13 +10,13 @@ use Rattle.goblin_pe_import.specs.ImportLookup.{entries_32, entries_64}
 use Rattle.goblin_pe_import.specs.declared.added.imports.ImportCursor.{ImportCursor}
 use Rattle.goblin_pe_import.specs.{Imports.NumberedImport, TableSums.amount_of}
 use Rattle.goblin_pe_import.specs.added.StepsAhead.{AtSteps}
-use Rattle.goblin_pe_sect.specs.Addresses.{MapOfAddresses, Addressing}
+use Rattle.goblin_pe_sect.specs.Addresses.{MapOfAddresses}
 use Rattle.goblin_pe_export.specs.ExportRecords.{ExportTables}
 use Rattle.goblin_pe_export.specs.added.ExportWalks.{NumberedExport, numbered_from}
-use Rattle.goblin_pe.specs.added.Layouts.{IsFileCursorCause, IsImportWalk, file_cursor_left}
-use Rattle.goblin_pe.specs.added.Layouts.{file_ahead, file_cursor_ahead, import_begin}
+use Rattle.goblin_pe.specs.added.Layouts.{read_or, IsFileCursorCause, IsImportWalk}
+use Rattle.goblin_pe.specs.added.Layouts.{file_cursor_left, file_ahead, file_cursor_ahead}
+use Rattle.goblin_pe.specs.added.Layouts.{import_begin, address_part, file_imports_left}
 use Rattle.readings.specs.Reads.{given, pick}
-use Rattle.goblin_pe.specs.added.Layouts.{address_part, file_imports_left}
 use Rattle.goblin_pe.specs.Whole.{TablePlaces, directory_offset, export_part, relocation_part}
 use Rattle.goblin_pe.specs.declared.whole.Part.{Part}
 use Rattle.goblin_pe.specs.declared.whole.Part.TheVariants as part
@@ -45,12 +45,6 @@ SaysBatch P R = MapOfAddresses → TablePlaces → List ℕ → Batch P R → Ba
 -- what is said of why a batch of a file is refused
 abbrev pub SaysRefused : Type 0 → Type 0 → Type 1
 SaysRefused P R = MapOfAddresses → TablePlaces → List ℕ → Batch P R → ErrorOf → Type 0
-
--- what is made of a table that was read, or `other` if none was
-abbrev pub part_or : {A B : Type 0} → B → (A → B) → Part A → B
-part_or other of_read part.Absent = other
-part_or other of_read (part.Read table) = of_read table
-part_or other of_read part.Refused = other
 
 -- what a call says that gave `count` records: without room it does not say that it is done
 abbrev pub at_room : ℕ → ℕ → Bool → PeBatch
@@ -150,12 +144,12 @@ pub record GoesOn (m : MapOfAddresses) (places : TablePlaces) (bytes : List ℕ)
 -- the exports of tables from a name pointer on
 abbrev pub exports_in : MapOfAddresses → List ℕ → Part (ExportTables × List NumberedExport) → ℕ
     → List NumberedExport
-exports_in m bytes p x = part_or [] (λ read. numbered_from m.addressing bytes read.0 x) p
+exports_in m bytes p x = read_or [] (λ read. numbered_from m.addressing bytes read.0 x) p
 
 abbrev pub pointers_in : Part (ExportTables × List NumberedExport) → ℕ
-pointers_in p = part_or 0 (λ read. length read.0.export_name_pointer_table) p
+pointers_in p = read_or 0 (λ read. length read.0.export_name_pointer_table) p
 
--- exports, of which these are left from a position on
+-- a table of exports; `left` are those from a position on
 abbrev pub exports_table : {P : Type 0} → (P → List NumberedExport)
     → Table P PeExport NumberedExport ExportModel
 exports_table left =
@@ -184,7 +178,7 @@ IsExportBatchFault m places bytes old e =
 abbrev pub SaysDirectory : MapOfAddresses → TablePlaces → List ℕ → DirectoryModel → Type 0
 SaysDirectory m places bytes directory =
     IsSomeAnd ((address_part m.opts m.addressing places).value bytes)
-    (λ p. directory ≡ part_or no_export_directory directory_for_c p)
+    (λ p. directory ≡ read_or no_export_directory directory_for_c p)
 
 -- it is refused, for another reason than the number of its name pointers
 abbrev pub IsAddressesFault : MapOfAddresses → TablePlaces → List ℕ → ErrorOf → Type 0
@@ -197,7 +191,7 @@ IsAddressesFault m places bytes e = IsRefused (address_part m.opts m.addressing 
 abbrev pub GivesAddresses : SaysBatch ℕ PeExportAddress
 GivesAddresses m places bytes old new batch =
     IsSomeAnd ((address_part m.opts m.addressing places).value bytes) (λ p.
-    GivesOnward (part_or [] (addresses_for_c m.addressing) p) old new batch)
+    GivesOnward (read_or [] (addresses_for_c m.addressing) p) old new batch)
 
 -- ---- blocks of base relocations
 
@@ -215,7 +209,7 @@ placed p (None ∷ items) = None ∷ placed p items
 -- perhaps a refusal
 abbrev pub blocks_from : ℕ → Part (List ℕ) → ℕ → List (Option (ℕ × Block))
 blocks_from begin p x =
-    part_or [] (λ directory. placed (begin + x) (without_causes (block_items directory x))) p
+    read_or [] (λ directory. placed (begin + x) (without_causes (block_items directory x))) p
 
 abbrev pub block_for_c : ℕ × Block → PeRelocationBlock
 block_for_c x = record {

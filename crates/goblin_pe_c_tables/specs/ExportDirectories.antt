@@ -1,13 +1,11 @@
 -- The records of what an export directory says, and of the export address table, as definitions.
 use Rattle.std.specs.Prelude.{ℕ, ◌+◌, Bool, true, false, List, [], ◌∷◌, map, unwrap_or, is_some}
-use Rattle.std.specs.Prelude.{replicate}
 use Rattle.std.specs.List.{enumerate_from}
-use Rattle.goblin_base.specs.declared.endian.Endian.TheVariants.{Little}
 use Rattle.goblin_pe_export.specs.declared.export.tables as tables
 use tables.ExportAddressTableEntry.{ExportAddressTableEntry}
 use tables.ExportAddressTableEntry.TheVariants as variant
 use tables.ExportDirectoryTable.{ExportDirectoryTable}
-use Rattle.goblin_pe_export.specs.ExportRecords.{ExportTables, export_directory_record, rva_of}
+use Rattle.goblin_pe_export.specs.ExportRecords.{ExportTables, rva_of}
 use Rattle.goblin_pe_sect.specs.Addresses.{Addressing}
 pub use Rattle.goblin_pe_c_tables.specs.declared.export_directory.PeExportAddress.{PeExportAddress}
 use Rattle.goblin_pe_c_tables.specs.declared.export_directory.PeExportDirectory.{PeExportDirectory}
@@ -53,7 +51,19 @@ directory_for_c tables = record {
 abbrev pub no_export_directory : DirectoryModel
 no_export_directory = record {
   name = [];
-  table = export_directory_record Little (replicate 40 0);
+  table = record {
+    export_flags = 0;
+    time_date_stamp = 0;
+    major_version = 0;
+    minor_version = 0;
+    name_rva = 0;
+    ordinal_base = 0;
+    address_table_entries = 0;
+    number_of_name_pointers = 0;
+    export_address_table_rva = 0;
+    name_pointer_rva = 0;
+    ordinal_table_rva = 0;
+  };
   has_name = false;
   is_present = false;
   reserved = 0 ∷ 0 ∷ 0 ∷ 0 ∷ 0 ∷ 0 ∷ [];

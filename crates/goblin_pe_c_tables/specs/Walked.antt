@@ -21,7 +21,8 @@ use Rattle.goblin_pe_import.specs.Imports.{NumberedImport}
 use Rattle.goblin_pe.specs.Whole.{NumberedTables, TableParts, by_layout, collected_tables}
 use Rattle.goblin_pe.specs.Whole.{imports_in, IfRead, TablePlaces, export_part, layout, part_map}
 use Rattle.goblin_pe.specs.Whole.{places_in, relocation_part, tables_with}
-use Rattle.goblin_pe_c_tables.specs.Batches.{exports_in, import_table, part_or, PeImportCursor}
+use Rattle.goblin_pe_c_tables.specs.Batches.{exports_in, import_table, PeImportCursor}
+use Rattle.goblin_pe.specs.added.Layouts.{read_or}
 use Rattle.goblin_pe_c_tables.specs.Places.{map_at, places_record, places_from_c}
 use Rattle.goblin_pe_c_headers.specs.Places.{placed_sections, image_places}
 use Rattle.goblin_pe_c_tables.specs.declared.ranges.PeFootprint.{PeFootprint}
@@ -97,7 +98,7 @@ Lists bytes reached old new (Err e) = IsMemory e × (new ≡ old)
 
 -- the items of a table, none where it was not read
 abbrev pub items_in : {A : Type 0} → Part (List A) → List A
-items_in p = part_or [] (λ items. items) p
+items_in p = read_or [] (λ items. items) p
 
 -- These tables are what the walks over the tables at these places give, each from its beginning on.
 pub record AreItems (tables : WalkedTables) (m : MapOfAddresses) (places : TablePlaces)

@@ -34,7 +34,7 @@ pub struct PeExport<'a> {
     pub reserved: [u8; 6],
 }
 
-// The record of an export that is forwarded there.
+// The record of an export with this forwarder, which may be none.
 #[inline(always)]
 pub(crate) fn export_record<'a>(
     bytes: &'a [u8],

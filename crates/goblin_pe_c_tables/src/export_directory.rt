@@ -4,7 +4,8 @@ ghost use Rattle.std.specs.Prelude.{◌≡◌, slice_get};
 ghost use Rattle.goblin_pe_sect.specs.Addresses.{map_of};
 ghost use Rattle.goblin_pe_export.specs.added.ExportWalks.{walked_tables};
 ghost use Rattle.goblin_pe_c_tables.specs.Batches.{GivesAddresses, GivesBatch, SaysDirectory};
-ghost use Rattle.goblin_pe_c_tables.specs.Batches.{IsAddressesFault, part_or};
+ghost use Rattle.goblin_pe_c_tables.specs.Batches.{IsAddressesFault};
+ghost use Rattle.goblin_pe.specs.added.Layouts.{read_or};
 ghost use Rattle.goblin_pe_c_headers.specs.Onward.{batch_at, GivesOnward};
 ghost use Rattle.goblin_pe.specs.Whole.{part_map};
 ghost use Rattle.goblin_pe_c_tables.specs.ExportDirectories.{address_for_c, addresses_for_c};
@@ -76,10 +77,9 @@ fn address_record(entry: Entry, ordinal: usize, address_map: &AddressMap) -> PeE
 }
 
 // The record of an export directory; zeros if none is read.
-#[tactic(auto, unfolding(goblin_base::specs::Bytes::number))]
 fn directory_record<'a>(bytes: &'a [u8], exports: &Part<Exports<'a, '_>>) -> PeExportDirectory<'a>
     ensures { directory_model result
-        ≡ part_or no_export_directory directory_for_c (part_map walked_tables exports.now) }
+        ≡ read_or no_export_directory directory_for_c (part_map walked_tables exports.now) }
 {
     let Part::Read(exports) = exports else {
         return PeExportDirectory {

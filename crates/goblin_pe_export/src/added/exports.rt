@@ -172,6 +172,7 @@ impl<'a, 'm> Exports<'a, 'm> {
         let table = ExportDirectoryTable::parse(bytes, offset)?;
         test_address_count(bytes, &table)?;
         let mut tables = TablesInFile::of_record(bytes, table, directory, &mut finder);
+        // (These give no entries, and their names are not looked at.)
         tables.name_pointers = &[];
         tables.ordinals = &[];
         Ok(Exports {

@@ -14,7 +14,7 @@ use Rattle.goblin_pe_head.specs.CoffHeader.{CoffHeader, coff_header}
 use Rattle.goblin_pe_head.specs.declared.added.parts.HeaderParts.{HeaderParts}
 use Rattle.goblin_pe_head.specs.{CoffReadings.with_room, PeHeader.PeHeader}
 use Rattle.goblin_pe_head.specs.OptionalHeader.{OptionalHeader, StandardFields, WindowsFields64}
-use Rattle.goblin_pe_head.specs.OptionalHeader.{fields_size, windows_record}
+use Rattle.goblin_pe_head.specs.OptionalHeader.{fields_size}
 use Rattle.goblin_pe_head.specs.HeaderReadings.{dos_header, optional_with, pe_header, standard_by}
 use Rattle.goblin_pe_head.specs.HeaderReadings.{windows_by}
 
@@ -97,7 +97,29 @@ pub record ArePartsOf (bytes : List ℕ) (parts : HeaderParts) : Type 0 where
 
 -- Windows fields of zeros
 abbrev pub no_windows_fields : WindowsFields64
-no_windows_fields = windows_record 8 Little (replicate 88 0)
+no_windows_fields = record {
+  image_base = 0;
+  section_alignment = 0;
+  file_alignment = 0;
+  major_operating_system_version = 0;
+  minor_operating_system_version = 0;
+  major_image_version = 0;
+  minor_image_version = 0;
+  major_subsystem_version = 0;
+  minor_subsystem_version = 0;
+  win32_version_value = 0;
+  size_of_image = 0;
+  size_of_headers = 0;
+  check_sum = 0;
+  subsystem = 0;
+  dll_characteristics = 0;
+  size_of_stack_reserve = 0;
+  size_of_stack_commit = 0;
+  size_of_heap_reserve = 0;
+  size_of_heap_commit = 0;
+  loader_flags = 0;
+  number_of_rva_and_sizes = 0;
+}
 
 -- the part of an optional header, if it could be read
 abbrev pub part_given : {A : Type 0} → Result (Option A) ErrorOf → Option A

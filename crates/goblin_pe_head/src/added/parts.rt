@@ -219,7 +219,6 @@ impl<'a> HeaderParts<'a> {
     }
 }
 
-#[tactic(auto, unfolding(goblin_base::specs::Bytes::number))]
 fn windows_or_zeros(fields: Option<WindowsFields>) -> WindowsFields
     ensures { result ≡ unwrap_or fields no_windows_fields }
 {

@@ -6,7 +6,7 @@ ghost use Rattle.std.specs.Prelude.{suc};
 ghost use Rattle.std.specs.Iterator.{UpTo, at_most};
 ghost use Rattle.std.specs.{Iterator.SizeHint.IsWithinCount, List.flat_map, Option.option_len};
 ghost use Rattle.goblin_base.specs.{declared.error.ErrorOf.ErrorOf, Reading.Reads};
-ghost use Rattle.readings.specs.{Reads.mapped, Walks.GivesNext, Walks.IsWalkOf, Walks.Walks};
+ghost use Rattle.readings.specs.{Reads.mapped, Walks.IsWalkOf, Walks.Walks};
 ghost use Rattle.goblin_pe_sect.specs.Addresses.{map_of, reads_strictly};
 ghost use Rattle.goblin_pe_import.specs.added.ImportCursors.{BeginsAt, before_record, first_import};
 ghost use Rattle.goblin_pe_import.specs.ImportReadings.{indexed_at, numbered_data};
@@ -19,7 +19,7 @@ ghost use Rattle.goblin_pe_import.specs.added.ImportWalks.{cursor_of, IsWalkCaus
 ghost use Rattle.goblin_pe_import.specs.added.ImportWalks.{bound_next, imports_bound, imports_map};
 ghost use Rattle.goblin_pe_import.specs.added.ImportWalks.{imports_bytes, imports_left};
 ghost use Rattle.goblin_pe_import.specs.added.ImportWalks.{kept_import, no_imports, finder_of};
-ghost use Rattle.goblin_pe_import.specs.added.ImportWalks.{ascii_at, ascii_walk, walk_at};
+ghost use Rattle.goblin_pe_import.specs.added.ImportWalks.{ascii_at, ascii_walk};
 ghost use Rattle.goblin_pe_import.specs.added.ImportWalks.{record_index, pending_table, walk_bound};
 ghost use Rattle.goblin_pe_import.specs.added.ImportWalks.{walk_left, walked_value};
 ghost use Rattle.goblin_pe_import.specs.KeptEntries.{kept_value, slots_bound};
