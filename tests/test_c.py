@@ -29,10 +29,18 @@ class C(Case):
         succeed([*CC, *(flags or ["-std=c99"]), *FLAGS, *STRICT, "-I", library(), "-o", made, source, library() / "libgoblin_pe.a"])
         return made
 
-    def test_the_program_of_the_manual_ends_on_each_file_in_a_tenth_of_a_second(self):
+    def of_the_manual(self):
+        """The program of the manual."""
         text = (BINDINGS / "c/goblin_pe.h").read_text("utf-8")
-        program = re.sub("(?m)^       ", "", PROGRAM.search(text)[1])
-        made = self.built(self.written("imports.c", program.encode()))
+        return self.written("imports.c", re.sub("(?m)^       ", "", PROGRAM.search(text)[1]).encode())
+
+    def of_the_page(self):
+        """The program of the page: all its pieces."""
+        page = (BINDINGS / "c/README.md").read_text("utf-8")
+        return self.written("page.c", "\n".join(re.findall("(?s)```c\n(.*?)```", page)).encode())
+
+    def test_the_program_of_the_manual_ends_on_each_file_in_a_tenth_of_a_second(self):
+        made = self.built(self.of_the_manual())
         self.assertEqual(run([made], BY_NAME)[:2], (0, b"KERNEL32.dll 0 GetTickCount\n"))
         # (imports at the end of 17 MiB)
         large = images.with_data_behind(images.importer([(b"fruit.dll", [b"Apple"])]), 17 << 20)
@@ -64,6 +72,38 @@ class C(Case):
                     status, out, errors = run([made, *words], os.devnull if words else file, env=env)
                     self.assertIn(status, (0, 1, 2), errors)
                     self.assertRegex(out + errors, rb"\A[ -~\n]*\Z")
+
+    def test_no_program_works_on_the_first_part_of_a_large_file(self):
+        """None reads one that fills its buffer."""
+        image, a_object, to = self.folder / "large.dll", self.folder / "large.obj", self.folder / "to.dll"
+        for sample, large in (BY_NAME, image), (OBJECTS[0], a_object):
+            shutil.copy(sample, large)
+            os.truncate(large, 1 << 26)
+        commands = (["imports"], ["walk", "7", image], ["libraries", image], ["damage", image], ["object", a_object],
+                    ["patch", image, "7", ".text", ".code", to])
+        programs = [(BINDINGS / f"c/examples/{name}.c", words) for name, *words in commands]
+        for source, words in ((self.of_the_manual(), []), (self.of_the_page(), []), *programs):
+            with self.subTest(source.name):
+                self.assertEqual(run([self.built(source), *words], os.devnull if words else image)[0], 2)
+        self.assertFalse(to.exists())
+
+    def test_a_program_that_loads_the_library_at_run_time(self):
+        """It is linked without the library, and uses a constant."""
+        source = b"""#define GOBLIN_PE_LOADED_AT_RUN_TIME
+#include "goblin_pe.h"
+#include <dlfcn.h>
+#include <stdio.h>
+int main(int argc, char **argv)
+{
+    uint32_t (*interface)(void);
+    void *library = dlopen(argv[argc - 1], RTLD_NOW);
+    *(void **)&interface = library ? dlsym(library, "goblin_pe_interface") : NULL;
+    return printf("0x%x\\n", GOBLIN_PE_MAGIC_64) < 0 || !interface || interface() != GOBLIN_PE_INTERFACE;
+}
+"""
+        program = self.folder / "program"
+        succeed([*CC, "-std=c99", *FLAGS, "-I", library(), "-o", program, self.written("loads.c", source), "-ldl"])
+        self.assertEqual(run([program, library() / "libgoblin_pe.so"]), (0, b"0x20b\n", b""))
 
     def test_a_null_pointer_where_there_is_room_is_written_to(self):
         """The call stops the program before it writes there."""
@@ -123,9 +163,8 @@ int main(int argc, char **argv)
                 self.assertEqual(refused > 0, call == "footprint" or call in walks and count > 96)
 
     def test_the_program_of_the_page(self):
-        """All its pieces; and what the page says that it prints."""
-        page = (BINDINGS / "c/README.md").read_text("utf-8")
-        made = self.built(self.written("page.c", "\n".join(re.findall("(?s)```c\n(.*?)```", page)).encode()))
+        """It prints what the page says that it prints."""
+        page, made = (BINDINGS / "c/README.md").read_text("utf-8"), self.built(self.of_the_page())
         listing = re.search(r"(?s)```console\n\$ \./program < samples/(.*?)\n(.*?)```", page)
         self.assertEqual(run([made], SAMPLES / listing[1]), (0, listing[2].encode(), b""))
         self.assertEqual(run([made], images.library(b"some.dll", [(b"Ap\x1bple", 0x3010)])), (0, b"1 0x3010 Ap?ple\n0 imports are skipped\n", b""))

@@ -18,6 +18,7 @@
            struct goblin_pe_batch batch; char text[GOBLIN_PE_FAULT_ROOM];
            size_t steps = 10000, damage_steps = 100000;
            size_t length = fread(file, 1, sizeof file, stdin);
+           if (length == sizeof file || ferror(stdin)) return puts("it can't be read whole"), 2;
            struct goblin_pe_fault fault = goblin_pe_read_image(file, length, &options, &image);
            if (!fault.status) do {
                fault = goblin_pe_next_imports(&image, &cursor, rows, 4096, &steps, &batch);
@@ -241,7 +242,8 @@ extern "C" {
 
 /* The number of this interface. A program and a library that declare different records or calls
    have different numbers. A program linked in C gets the matching library, or does not link.
-   One that loads the library at run time compares the two numbers first. */
+   One that loads the library at run time defines GOBLIN_PE_LOADED_AT_RUN_TIME before it includes
+   this header, and compares the two numbers first. */
 #define GOBLIN_PE_INTERFACE 0x525a1e8fu
 uint32_t goblin_pe_interface(void);
 
@@ -250,7 +252,7 @@ uint32_t goblin_pe_interface(void);
 
 /* Only a library of this interface has this call. */
 uint32_t goblin_pe_interface_525a1e8f(void);
-#ifdef __GNUC__
+#if defined(__GNUC__) && !defined(GOBLIN_PE_LOADED_AT_RUN_TIME)
 __attribute__((used)) static uint32_t (*const goblin_pe_needs_interface)(void) = goblin_pe_interface_525a1e8f;
 #endif
 

@@ -232,7 +232,8 @@ extern "C" {
 
 /* The number of this interface. A program and a library that declare different records or calls
    have different numbers. A program linked in C gets the matching library, or does not link.
-   One that loads the library at run time compares the two numbers first. */
+   One that loads the library at run time defines GOBLIN_PE_LOADED_AT_RUN_TIME before it includes
+   this header, and compares the two numbers first. */
 #define GOBLIN_PE_INTERFACE 0xSUM_OFu
 uint32_t goblin_pe_interface(void);
 
@@ -241,7 +242,7 @@ uint32_t goblin_pe_interface(void);
 
 /* Only a library of this interface has this call. */
 uint32_t goblin_pe_interface_SUM_OF(void);
-#ifdef __GNUC__
+#if defined(__GNUC__) && !defined(GOBLIN_PE_LOADED_AT_RUN_TIME)
 __attribute__((used)) static uint32_t (*const goblin_pe_needs_interface)(void) = goblin_pe_interface_SUM_OF;
 #endif
 

@@ -70,8 +70,8 @@ int main(int argc, char **argv)
     struct goblin_pe_image image, as_stored;
     FILE *from = argc == 2 ? fopen(argv[1], "rb") : NULL;
     size_t length = from ? fread(file, 1, sizeof file, from) : 0;
-    if (!from)
-        return fprintf(stderr, "usage: damage FILE\n"), 2;
+    if (!from || ferror(from) || length == sizeof file)
+        return fprintf(stderr, "usage: damage FILE (below 64 MiB)\n"), 2;
     bool is_refused = tell("refused", goblin_pe_read_partial_image(file, length, &options, &image, &faults));
     tell_header(&faults);
     tell_damage(&image, is_refused);

@@ -65,6 +65,8 @@ int main(int argc, char **argv)
     struct goblin_pe_batch batch;
     FILE *from = argc == 2 ? fopen(argv[1], "rb") : NULL;
     size_t length = from ? fread(file, 1, sizeof file, from) : 0;
+    if (!from || ferror(from) || length == sizeof file)
+        return fprintf(stderr, "usage: object FILE (below 64 MiB)\n"), 2;
     if (goblin_pe_kind_of(file, length) != GOBLIN_PE_KIND_OBJECT)
         return fprintf(stderr, "it is no object\n"), 2;
     struct goblin_pe_fault fault = goblin_pe_read_object(file, length, &options, &image);

@@ -54,8 +54,8 @@ int main(int argc, char **argv)
     struct goblin_pe_section section;
     FILE *from = argc == 6 ? fopen(argv[1], "rb") : NULL, *to;
     size_t length = from ? fread(file, 1, sizeof file, from) : 0;
-    if (!from || ferror(from) || strlen(argv[4]) > sizeof section.stored_name)
-        return fprintf(stderr, "usage: patch FROM STAMP SECTION NAME TO\n"), 2;
+    if (!from || ferror(from) || length == sizeof file || strlen(argv[4]) > sizeof section.stored_name)
+        return fprintf(stderr, "usage: patch FROM STAMP SECTION NAME TO (FROM below 64 MiB)\n"), 2;
     struct goblin_pe_fault fault = goblin_pe_read_image(file, length, &options, &image);
     if (!fault.status) {
         if (!find(&image, argv[3], &section))
