@@ -75,12 +75,26 @@ def documented_examples():
     return found
 
 
-class Rust(Case):
+class Crate(Case):
+    """A case that builds with the crate."""
+
     def cargo(self, *words):
         need("cargo")
         succeed(["cargo", words[0], "--offline", "--quiet", *words[1:]], cwd=BINDINGS / "rust", env=environment(
             GOBLIN_PE_LIB=str(library()), GOBLIN_PE_SAMPLES=str(SAMPLES), CARGO_TARGET_DIR=str(folder() / "rust")))
 
+    def user(self, name, source):
+        """A program of a user of the crate."""
+        need("cargo")
+        user, env = self.folder / name, environment(GOBLIN_PE_LIB=str(library()), CARGO_TARGET_DIR=str(folder() / "rust"))
+        succeed(["cargo", "new", "-q", "--vcs", "none", user])
+        succeed(["cargo", "add", "-q", "--offline", "--manifest-path", user / "Cargo.toml", "--path", BINDINGS / "rust"], env=env)
+        (user / "src/main.rs").write_text(source, "utf-8")
+        succeed(["cargo", "build", "-q", "--offline", "--manifest-path", user / "Cargo.toml"], env=env)
+        return folder() / "rust/debug" / name
+
+
+class Rust(Crate):
     def test_the_crate(self):
         """Its own tests and the programs of its documents pass."""
         self.cargo("test")
@@ -105,16 +119,6 @@ class Rust(Case):
         shutil.copy(BINDINGS / "rust/tests/newcomer.rs", user / "tests")
         printed = succeed(["cargo", "test", "-q", "--offline", "--manifest-path", user / "Cargo.toml", "--test", "newcomer"], env=env)
         self.assertIn("test result: ok. 10 passed", printed)
-
-    def user(self, name, source):
-        """A program of a user of the crate."""
-        need("cargo")
-        user, env = self.folder / name, environment(GOBLIN_PE_LIB=str(library()), CARGO_TARGET_DIR=str(folder() / "rust"))
-        succeed(["cargo", "new", "-q", "--vcs", "none", user])
-        succeed(["cargo", "add", "-q", "--offline", "--manifest-path", user / "Cargo.toml", "--path", BINDINGS / "rust"], env=env)
-        (user / "src/main.rs").write_text(source, "utf-8")
-        succeed(["cargo", "build", "-q", "--offline", "--manifest-path", user / "Cargo.toml"], env=env)
-        return folder() / "rust/debug" / name
 
     def test_the_programs_of_the_page(self):
         """They print what the page shows below them."""
@@ -163,6 +167,27 @@ class Rust(Case):
         files = [self.written(f"{index}.bin", data) for index, data in enumerate(hostile.files(3))]
         ran = subprocess.run([self.user("hostile", HOSTILE % (functions, table)), *files], stdout=subprocess.DEVNULL, stderr=subprocess.PIPE, check=False)
         self.assertEqual((ran.returncode, re.findall(rb"(?m)^.* panics on .*$", ran.stderr)), (0, []), ran.stderr[-2000:])
+
+    def example(self, name, *words):
+        self.cargo("build", "--release", "--examples")
+        return succeed([folder() / f"rust/release/examples/{name}", *words])
+
+    def test_an_export_is_followed_within_the_folder(self):
+        """Names are bytes of any kind, and a DLL names no file outside of the folder."""
+        inside = self.folder / "inside"
+        inside.mkdir()
+        names = [("größe".encode(), 0x3010)]
+        self.written("inside/a.dll", images.library(b"a.dll", [(b"f", str(self.folder).encode() + b"/other.gr\xc3\xb6\xc3\x9fe")]))
+        self.written("other.dll", images.library(b"other.dll", names, base=7))
+        with self.assertRaisesRegex(AssertionError, "No such file"):
+            self.example("export", inside, "a.dll", "f")
+        self.written("inside/other.dll", images.library(b"other.dll", names))
+        found = self.example("export", inside, "a.dll", "f").splitlines()[-1]
+        self.assertEqual(found, r"other.dll gr\xc3\xb6\xc3\x9fe is at 0x3010, offset None")
+
+    def test_the_entropy_of_bytes_that_are_all_alike_is_zero(self):
+        printed = self.example("triage", self.written("a.dll", images.importer([(b"a.dll", [1])])))
+        self.assertIn("section .data    0.000 ", printed)
 
     def test_examples_end_on_each_hostile_file_in_a_second(self):
         """And write less than ten megabytes."""

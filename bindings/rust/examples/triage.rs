@@ -7,7 +7,7 @@ fn entropy(data: &[u8]) -> f64 {
     data.iter().for_each(|&byte| counts[usize::from(byte)] += 1);
     let present = counts.iter().filter(|&&it| it > 0);
     let shares = present.map(|&it| f64::from(it) / data.len() as f64);
-    shares.map(|share| -share * share.log2()).sum()
+    shares.fold(0.0, |sum, share| sum - share * share.log2())
 }
 
 // (a crate for MD5 makes the two hashes of these texts)

@@ -60,7 +60,7 @@ pub(crate) const STUB: usize = 0x40;
 
 /// The stub that permissive mode puts in place of an unreadable one.
 pub(crate) fn default_stub(image: &ffi::Image) -> &'static [u8] {
-    static WRITTEN: OnceLock<Vec<u8>> = OnceLock::new();
+    static WRITTEN: OnceLock<[u8; 256]> = OnceLock::new();
     let written = WRITTEN.get_or_init(|| {
         let replaced = ffi::Image {
             kind: 1,
@@ -68,7 +68,12 @@ pub(crate) fn default_stub(image: &ffi::Image) -> &'static [u8] {
             is_dos_stub_replaced: true,
             ..ffi::Image::default()
         };
-        written(&replaced).unwrap_or_default()
+        let (mut bytes, mut size) = ([0; 256], 0);
+        // SAFETY: the array has this length.
+        let fault =
+            unsafe { ffi::goblin_pe_write_header(&replaced, bytes.as_mut_ptr(), 256, &mut size) };
+        debug_assert_eq!(fault.status, 0);
+        bytes
     });
     written.get(STUB..STUB + image.dos_stub_size).unwrap_or_default()
 }

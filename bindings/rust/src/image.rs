@@ -234,7 +234,7 @@ impl<'a> Image<'a> {
         self.is_executable() && !self.is_dll() && !self.is_driver()
     }
 
-    /// The RVA of the entry point; 0 if there is none.
+    /// The RVA of the entry point of an optional header; 0 if there is none.
     #[must_use]
     pub fn entry(&self) -> u32 {
         let fields = &self.record.optional_header.standard_fields;
@@ -419,8 +419,11 @@ impl<'a> Image<'a> {
     /// the numbers 0, -1 and -2 of symbols without a section, and if there is no such section.
     #[must_use]
     pub fn section_by_number(&self, number: i16) -> Option<Section<'a>> {
-        let index = usize::try_from(number).ok()?.checked_sub(1)?;
-        self.first(ffi::SectionCursor { index }).ok()?
+        // (of 16 bits without a sign: 40,000 is stored as -25,536)
+        let is_one = !(-2..=0).contains(&number);
+        let index = usize::from(u16::from_ne_bytes(number.to_ne_bytes()));
+        let found = self.first(ffi::SectionCursor { index: index.checked_sub(1)? });
+        found.ok()?.filter(|_| is_one)
     }
 
     /// The export directory; `None` if the image has none, or permissive mode skips a damaged one.
@@ -433,7 +436,8 @@ impl<'a> Image<'a> {
         Ok(ExportDirectory::of(&it))
     }
 
-    /// The first export of this name; `None` if there is none.
+    /// The first export of this name, as the walk gives it; `None` if there is none, or if the options
+    /// cut this name.
     ///
     /// # Errors
     /// As a walk over the exports, and [`ErrorKind::Steps`](crate::ErrorKind::Steps).
@@ -451,19 +455,13 @@ impl<'a> Image<'a> {
         name: impl AsRef<[u8]>,
         budget: &mut Budget,
     ) -> Result<Option<Export<'a>>, Error> {
-        // (a name that is longer than the wanted one need not be read whole)
-        let name = name.as_ref();
-        let longest = u32::try_from(name.len().max(1)).unwrap_or(0);
-        let image = self.with_options(self.options().with_longest_name(longest));
-        let wanted = Some(Text(name));
-        let found = |row: &Result<Export, _>| row.as_ref().map_or(true, |it| it.name == wanted);
-        let Some(mut export) = image.exports().within(budget).find(found).transpose()? else {
+        let (name, longest) = (name.as_ref(), self.options().longest_name as usize);
+        if longest > 0 && longest < name.len() {
             return Ok(None);
-        };
-        if export.forwarder.is_some() {
-            export.forwarder = Some(self.forwarder_at(export.rva)?);
         }
-        Ok(Some(export))
+        let name = Some(Text(name));
+        let is_it = |row: &Result<Export, _>| row.as_ref().map_or(true, |it| it.name == name);
+        self.exports().within(budget).find(is_it).transpose()
     }
 
     /// The export of this ordinal, also one without a name; `None` if there is none, or the ordinal

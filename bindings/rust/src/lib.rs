@@ -71,7 +71,8 @@
 //!   So you can pass the RVA of a directory, a section or a row to any look-up, without a cast. The
 //!   index of a symbol and the offset of a string are a `u32`, too.
 //! - A file offset, a size and the index of a row are a `usize`, so that you can index bytes and
-//!   slices with them. An ordinal is a `usize`, too: it is an index plus a base.
+//!   slices with them. What is a base plus an index is a `usize`, too: an ordinal, and the RVA of a
+//!   thunk and of a base relocation. From 2^32 on nothing is mapped.
 //! - Names are a [`Text`]: bytes that need not be UTF-8. `{}` prints them safely escaped.
 //!
 //! # Platforms

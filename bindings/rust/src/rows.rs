@@ -65,9 +65,9 @@ walked! {
         };
 }
 
-// An RVA, which the library may count past 2^32, or the index of a symbol, which it does not.
+// An RVA or an index that the file stores in 32 bits, so it fits.
 #[allow(clippy::cast_possible_truncation)]
-const fn rva(number: usize) -> u32 {
+const fn stored(number: usize) -> u32 {
     number as u32
 }
 
@@ -278,9 +278,9 @@ pub struct Import<'a> {
     pub dll: Text<'a>,
     /// What is imported: a name or an ordinal.
     pub name: Imported<'a>,
-    /// The RVA of its thunk in the import address table, where the loader puts the address. It is
-    /// counted modulo 2^32.
-    pub iat_rva: u32,
+    /// The RVA of its thunk in the import address table, where the loader puts the address. It may
+    /// pass 2^32, from where on nothing is mapped.
+    pub iat_rva: usize,
     /// The RVA of its hint and name; 0 if it is imported by ordinal.
     pub hint_name_rva: u32,
     /// The index of the DLL's entry in the import directory. Skipped entries count.
@@ -299,8 +299,8 @@ impl<'a> Import<'a> {
             } else {
                 Imported::Ordinal(number)
             },
-            iat_rva: rva(it.iat_rva),
-            hint_name_rva: rva(it.hint_name_rva),
+            iat_rva: it.iat_rva,
+            hint_name_rva: stored(it.hint_name_rva),
             library: it.library_index,
             thunk_index: it.thunk_index,
         }
@@ -430,8 +430,8 @@ impl<'a> Export<'a> {
             name: it.has_name.then(|| Text(it.name.get())),
             ordinal: it.ordinal,
             hint: it.hint,
-            rva: rva(it.rva),
-            name_rva: rva(it.name_rva),
+            rva: stored(it.rva),
+            name_rva: stored(it.name_rva),
             offset: it.has_offset.then_some(it.offset),
             forwarder: Forwarder::of(&it.forwarder),
         }
@@ -552,7 +552,7 @@ impl ExportAddress {
     pub(crate) fn of(it: &ffi::ExportAddress) -> ExportAddress {
         ExportAddress {
             ordinal: it.ordinal,
-            rva: rva(it.rva),
+            rva: stored(it.rva),
             is_forwarder: it.is_forwarder,
         }
     }
@@ -578,7 +578,7 @@ impl<'a> RelocationBlock<'a> {
     fn of(it: &ffi::RelocationBlock, image: &Image<'a>) -> RelocationBlock<'a> {
         let at = &it.relocations;
         RelocationBlock {
-            rva: rva(it.rva),
+            rva: stored(it.rva),
             size: it.size,
             entries: image.bytes().get(at.offset..at.end).unwrap_or_default(),
         }
@@ -591,7 +591,7 @@ impl<'a> Listed<'a> for BaseRelocation {
     fn at(&mut (page, entries): &mut (u32, &'a [u8]), index: usize) -> BaseRelocation {
         let word = u16::from_le_bytes([entries[2 * index], entries[2 * index + 1]]);
         BaseRelocation {
-            rva: page.wrapping_add((word & 0xFFF).into()),
+            rva: page as usize + usize::from(word & 0xFFF),
             typ: (word >> 12) as u8,
         }
     }
@@ -601,8 +601,8 @@ impl<'a> Listed<'a> for BaseRelocation {
 #[derive(Clone, Copy, Debug, PartialEq, Eq, PartialOrd, Ord, Hash)]
 #[non_exhaustive]
 pub struct BaseRelocation {
-    /// The RVA of what is relocated. It is counted modulo 2^32.
-    pub rva: u32,
+    /// The RVA of what is relocated. It may pass 2^32, from where on nothing is mapped.
+    pub rva: usize,
     /// The type, an `IMAGE_REL_BASED_*`; `IMAGE_REL_BASED_ABSOLUTE` is padding.
     pub typ: u8,
 }
@@ -659,7 +659,7 @@ impl<'a> Symbol<'a> {
     fn of(it: &ffi::Symbol<'a>) -> Symbol<'a> {
         let record = &it.record;
         Symbol {
-            index: rva(it.index),
+            index: stored(it.index),
             name: it.has_name.then(|| Text(it.name.get())),
             stored_name: record.name,
             value: record.value,

@@ -174,6 +174,25 @@ fn forwarders_are_those_at_their_addresses() -> Result<(), Error> {
     Ok(())
 }
 
+// Two exports have one name. The forwarder of the first has no dot, so a walk does not give it.
+#[test]
+fn an_export_is_found_as_a_walk_gives_it() -> Result<(), Error> {
+    let mut bytes = sample("forwarders_x64.dll");
+    let pe = Pe::parse(&bytes)?;
+    let names = pe.export_directory.expect("a directory").name_pointer_rva;
+    let [text, pointer] = [pe.exports[1].rva + 6, names + 8].map(|it| pe.image.find_offset(it));
+    let (name, wanted) = (pe.exports[1].name_rva, pe.exports[2].rva);
+    bytes[text.expect("a dot")] = b'x';
+    put(&mut bytes, pointer.expect("a pointer"), name);
+    let image = Image::parse(&bytes)?;
+    let found = image.find_export("fo", &mut Budget::steps(100))?;
+    assert_eq!(found, image.exports().nth(1).transpose()?);
+    assert_eq!(found.map(|it| it.rva), Some(wanted));
+    let cut = image.with_options(Options::default().with_longest_name(1));
+    assert_eq!(cut.find_export("fo", &mut Budget::steps(100))?, None);
+    Ok(())
+}
+
 // The name of the first import is in the headers, where packers put it: Windows maps them, and goblin
 // does not.
 #[test]
@@ -218,7 +237,7 @@ fn libraries_of_shared_imports() -> Vec<u8> {
     }
     bytes[begin + 0xF0..][..5].copy_from_slice(b"a.dll");
     let (dead, flag) = (0x7FFF_FFF0, 1 << 63);
-    let slots = [dead, flag | 7, flag | 8, dead, dead, dead, flag | 9];
+    let slots = [dead, flag | 7, flag | 8, dead, dead, dead, flag | 900];
     for (slot, number) in bytes[begin + 0x100..].chunks_mut(8).zip(slots) {
         slot.copy_from_slice(&u64::to_le_bytes(number));
     }
@@ -266,6 +285,37 @@ fn walks_go_on_after_their_steps_ran_out() -> Result<(), Error> {
     let imports = damage.imports.expect("a library without an address table");
     assert_eq!(imports.kind(), ErrorKind::Malformed(Cause::Unmapped));
     assert_eq!((damage.skipped_libraries, damage.unmapped_entries), (1, 12));
+    Ok(())
+}
+
+// (`ord900` is longer than the limit, but no name of the file)
+#[test]
+fn a_limit_of_the_length_of_all_names_changes_no_imphash() -> Result<(), Error> {
+    let bytes = libraries_of_shared_imports();
+    for (longest, is_there) in [(0, true), (5, true), (4, false)] {
+        let image = Image::read(&bytes, Options::permissive().with_longest_name(longest))?;
+        let text = image.imphash_text(&mut Budget::unlimited())?;
+        assert_eq!(text.is_some_and(|it| it.starts_with("a.ord7,a.ord8,a.ord900,")), is_there);
+    }
+    Ok(())
+}
+
+// The last section ends at 2^32; the address table of the first library passes that.
+#[test]
+fn addresses_may_pass_32_bits() -> Result<(), Error> {
+    let mut bytes = libraries_of_shared_imports();
+    let (image, which) = (Image::parse(&bytes)?, DirectoryType::BaseRelocationTable);
+    let (header, block) = (entry(&image, DirectoryType::ExportTable) + 128, place(&image, which));
+    let (imports, entry) = (place(&image, DirectoryType::ImportTable), entry(&image, which));
+    put(&mut bytes, header + 3 * 40 + 12, 0xFFFF_FF00);
+    put(&mut bytes, entry, 0xFFFF_FF00);
+    put(&mut bytes, imports + 16, 0xFFFF_FFF0);
+    put(&mut bytes, block, u32::MAX);
+    let image = Image::read(&bytes, Options::permissive())?;
+    let found = image.imports().map(|it| it.map(|it| it.iat_rva)).take(3);
+    assert_eq!(found.collect::<Result<Vec<_>, _>>()?, [0xFFFF_FFF8, 1 << 32, 0x1_0000_0020]);
+    let page = image.relocation_blocks().next().expect("a block")?;
+    assert!(page.relocations().all(|it| it.rva >= page.rva as usize));
     Ok(())
 }
 

@@ -87,6 +87,18 @@ fn an_image_and_its_look_ups_take_no_memory() -> Result<(), Error> {
     Ok(())
 }
 
+// The PE signature lies in the DOS header.
+#[test]
+fn the_stub_in_place_of_an_unreadable_one_takes_no_memory() -> Result<(), Error> {
+    let mut bytes = vec![0; 0x60];
+    bytes[..2].copy_from_slice(b"MZ");
+    bytes[0x38..0x3D].copy_from_slice(b"PE\0\08");
+    let image = Image::read(&bytes, Options::permissive())?;
+    let stub = starved(|| image.header().dos_stub);
+    assert_eq!((stub.len(), &stub[14..20]), (64, &b"This p"[..]));
+    Ok(())
+}
+
 #[test]
 fn a_walk_without_memory_ends_with_the_error() -> Result<(), Error> {
     let bytes = sample("forwarders_x64.dll");

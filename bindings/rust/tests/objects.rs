@@ -114,6 +114,16 @@ fn more_symbols_than_a_walk_reads_at_once() {
     }
 }
 
+#[test]
+fn sections_have_numbers_of_16_bits_without_a_sign() {
+    let mut bytes = vec![0; 20 + 40 * 0xFFFF];
+    bytes[2..4].fill(0xFF);
+    let object = object(&bytes);
+    let found = |number| object.section_by_number(number).map(|it| it.index);
+    let wanted = [Some(0), Some(32_767), Some(39_999), Some(65_532), None, None, None];
+    assert_eq!([1, i16::MIN, -25_536, -3, -2, -1, 0].map(found), wanted);
+}
+
 // Of one section of uninitialized data, larger than the file, and one symbol, whose name is at 4 in
 // these strings.
 fn odd_object(strings: &[u8]) -> Vec<u8> {

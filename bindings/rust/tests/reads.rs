@@ -153,6 +153,9 @@ fn a_budget_ends_each_walk_and_a_kept_walk_goes_on() -> Result<(), Error> {
             assert_eq!(read.len(), wanted.len());
         }
     }
+    let mut unlimited = Budget::unlimited();
+    assert_eq!(image.exports().within(&mut unlimited).count(), wanted.len());
+    assert_eq!(unlimited, Budget::unlimited());
     let (mut walk, mut rows) = (image.exports(), Vec::new());
     for _ in 0..10 {
         let mut budget = Budget::steps(1);

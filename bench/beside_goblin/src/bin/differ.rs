@@ -160,8 +160,8 @@ fn ours(file: &[u8]) -> Result<(Lines, Option<usize>), goblin_pe::Error> {
     for x in &pe.imports {
         kept = if library == Some(x.library) { kept + 1 } else { 0 };
         library = Some(x.library);
-        let table = x.iat_rva.wrapping_sub((x.thunk_index * size) as u32);
-        lines.push(import_line(x, table as usize + kept * size, size));
+        let place = x.iat_rva - x.thunk_index * size + kept * size;
+        lines.push(import_line(x, place, size));
     }
     // goblin 0.2.1 leaves out what has no file offset.
     for x in pe.exports.iter().filter(|x| x.offset.is_some()) {
