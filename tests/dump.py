@@ -211,8 +211,8 @@ def lines(paths):
             if kind is it.Kind.TE:
                 out.put(shown(image.te_header))
             elif kind is not it.Kind.OBJECT:
-                out.put(some(image.refusal))
-                faults = (f'("{name}", Error({error.args[0]}))' for name, error in image.header_faults.items())
+                out.put(some(image.refusal and f"({kind_of(image.refusal)}, {shown(image.refusal)})"))
+                faults = (f'("{name}", {kind_of(error)}, Error({error.args[0]}))' for name, error in image.header_faults.items())
                 out.put("[" + ", ".join(faults) + "]")
             out.put(f"Image {{ kind: {shown(image.kind)}, machine: {image.coff_header.machine}, sections: {len(image.sections)}, .. }}")
             headers(out, image)

@@ -114,8 +114,8 @@ fn main() -> std::io::Result<()> {
                 }),
                 _ => {
                     let (image, faults) = Image::read_partial(&bytes, options);
-                    println!("{:?}", faults.refusal);
-                    println!("{:?}", Vec::from_iter(faults.errors()));
+                    println!("{:?}", faults.refusal.map(|it| (it.kind(), it)));
+                    println!("{:?}", Vec::from_iter(faults.errors().map(|it| (it.0, it.1.kind(), it.1))));
                     Ok(image)
                 }
             };

@@ -19,9 +19,11 @@ def setUpModule():
 
 
 def numbered():
-    """The small image. Each field of its first import descriptor and of its export directory has another number."""
+    """The small image. Each field of its first import descriptor and of its export directory has another number. The second import
+    descriptor has no address table. The image has the subsystem of a driver, without the flag of an executable image."""
     exports = struct.pack("<2I2H", 0x11121314, 0x21222324, 0x3132, 0x4142)
-    return images.sample((0x204, struct.pack("<2I", 0x51525354, 0x61626364)), (0x2A0, exports))
+    imports = struct.pack("<2I", 0x51525354, 0x61626364), struct.pack("<5I", 0x1040, 0, 0, 0x1080, 0x70000000)
+    return images.sample((0x204, imports[0]), (0x214, imports[1]), (0x2A0, exports), (0x56, b"\0\x21"), (0x9C, b"\1"))
 
 
 def with_auxiliary_records():
