@@ -6,7 +6,7 @@ use Rattle.std.proofs.{lemmas.Option.cond_some, lemmas.List.nil_from_length}
 use Rattle.goblin_base.specs.Bytes.{IsTextTo, before_nul, begins_character, cut_text, cut_window, stretch, stretch_at, text_at, text_of, text_within}
 use Rattle.goblin_base.specs.Footprints.{positions, stretch_footprint, Agree}
 use Rattle.goblin_base.specs.{Parts.moved_by, Parts.text_footprint, declared.error.ErrorOf.ErrorOf}
-use Rattle.goblin_base.proofs.{Numbers.rest_is_drop, Ranges.moved-positions, Texts.test_fails}
+use Rattle.goblin_base.proofs.{Numbers.rest_is_drop, Texts.test_fails}
 use Rattle.goblin_base.proofs.{TextEnds.stretch_ends, Inside.AreInside, Inside.stretch-in}
 use Rattle.goblin_base.proofs.Parts.{agree-moved_slice, slice-moved-in}
 use Rattle.goblin_base.specs.Answers.{FirstFault, IsMemory, IsNoText, IsOffsetFault, IsTextFaultWithin}
@@ -70,15 +70,6 @@ window_none bytes p n past =
     (omega (arith, past, length-take (p + n + 4 - p) (drop p bytes), length-drop p bytes))
 
 pub ruleset window = (window_all, window_part, window_none)
-
--- what a text at the front reaches, counted from a place
-pub moved_stretch : (w : List ℕ) (p m : ℕ) → m ≡ min (length w) (length (before_nul w) + 1)
-    → positions p (p + m) ≡ moved_by p (stretch_footprint w 0)
-unfolding stretch_footprint
-moved_stretch w p m is =
-    let end : m ≡ min (length w) (0 + length (before_nul w) + 1) = omega (arith, is) in
-    sym (moved-positions p 0 m ∙ ap (λ (k : ℕ). positions k (p + m)) (add-zero p))
-    ∙ ap (λ (k : ℕ). moved_by p (positions 0 k)) end
 
 -- ---- a text up to a limit
 

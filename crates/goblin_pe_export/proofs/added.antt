@@ -1,4 +1,3 @@
 pub mod ExportAddresses
-pub mod ExportRanges
 pub mod ExportWalk
 pub mod LeftOutExports

@@ -1,4 +1,3 @@
-pub mod HeaderRanges
 pub mod SectionRecords
 pub mod SectionsThere
 pub mod WholeParts

@@ -4,5 +4,5 @@
 mod footprint;
 mod imports;
 
-pub use footprint::{add_imports, footprint_imports};
+pub use footprint::footprint_imports;
 pub use imports::{twin_imports, twin_lookup};

@@ -1,3 +1,2 @@
 pub mod Backward
-pub mod CutOffsets
 pub mod UnnamedMaps

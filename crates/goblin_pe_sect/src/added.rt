@@ -1,9 +1,7 @@
-//! What goblin does not have. `goblin_pe` re-exports all but the marks.
+//! What goblin does not have. `goblin_pe` re-exports it.
 
-mod marks;
 mod record_map;
 mod rva;
 
-pub use marks::{add_directories, add_section};
 pub use record_map::{MOST_WITHOUT_INDEX, offset_by_records};
 pub use rva::{find_rva, rva_in};

@@ -7,7 +7,6 @@ pub mod added;
 pub mod address_map;
 pub mod data_directories;
 mod digits;
-pub mod footprint;
 pub mod options;
 pub mod relocation;
 pub mod section_table;

@@ -1,12 +1,11 @@
-//! The positions of a file on which its imports depend.
+//! The positions of a file on which a read of imports depends. What is added to a list of ranges
+//! are the ranges of the reading, in its order.
 
-ghost use Rattle.std.specs.Prelude.{◌≡◌, ◌+◌, ◌<◌, ◌++◌, IfErr, IfOk, if◌then◌else◌};
-ghost use Rattle.std.specs.Prelude.{length, is_some};
+ghost use Rattle.std.specs.Prelude.{◌≡◌, ◌+◌, ◌++◌, if◌then◌else◌, is_some, None, IfErr, IfOk, OnOk};
 ghost use Rattle.goblin_base.specs.{Answers.IsMemory, Bytes.slice_at};
-ghost use Rattle.goblin_base.specs.Marks.{IsFootprint, marked};
 ghost use Rattle.goblin_base.specs.Footprints.{led_to, positions, slice_footprint};
-ghost use Rattle.readings.specs.Reads.{text_within};
-ghost use Rattle.goblin_pe_sect.specs.Addresses.{map_by, map_of, reads_strictly};
+ghost use Rattle.goblin_base.specs.Footprints.{stretch_footprint};
+ghost use Rattle.goblin_pe_sect.specs.Addresses.{map_by, map_of, reads_strictly, with_longest};
 ghost use Rattle.goblin_pe_import.specs.ImportReadings.{import_data, libraries_at, library_of};
 ghost use Rattle.goblin_pe_import.specs.ImportReadings.{lookup_if};
 ghost use Rattle.goblin_pe_import.specs.LookupReadings.{address_table, kept_entry};
@@ -15,180 +14,203 @@ use crate::import::{
     Bitfield, ImportDirectoryEntry, SIZEOF_IMPORT_DIRECTORY_ENTRY, address_table_rva,
     first_record_offset, lookup_offset, next_entry, next_record,
 };
-use goblin_base::footprint::{Marks, add_text};
-use goblin_base::{ResultOf, pread_slice};
+use goblin_base::{ResultOf, pread_slice, text_end};
 use goblin_pe_sect::address_map::{AddressMap, Finder};
 use goblin_pe_sect::data_directories::DataDirectory;
-use goblin_pe_sect::footprint::add_text_at;
 use goblin_pe_sect::options::ParseOptions;
 use goblin_pe_sect::section_table::SectionTable;
 use std::alloc::Global;
 
-// Marks the hint at an offset, and the text after it, up to a limit.
-#[tactic(auto, using(goblin_base::proofs::Marks::marking))]
-fn add_hint(marks: &mut Marks, bytes: &[u8], offset: usize, longest: Option<u32>)
-    ensures { let text = (text_within longest (offset + 2)).reaches bytes.now in
-        let hint_name = slice_footprint bytes.now offset 2 ++ text in
-        marks.new ≡ marked marks.old hint_name }
+// Adds the positions from `begin` up to, but not including, `end`, if there are any.
+#[tactic(auto, unfolding(goblin_base::specs::Footprints::positions), using(goblin_base::proofs::SlotFootprints::adding))]
+fn add<'e>(ranges: &mut Vec<(usize, usize)>, begin: usize, end: usize) -> ResultOf<'e, ()>
+    ensures added { OnOk result (ranges.new.items ≡ ranges.old.items ++ positions begin end) }
+    ensures refused { IfErr result IsMemory }
 {
-    let Ok(hint) = pread_slice(bytes, offset, 2) else {
-        return;
-    };
-    let end = offset + hint.len();
-    marks.add(offset, end);
-    add_text(marks, bytes, end, longest)
+    if begin < end {
+        ranges.push((begin, end))?;
+    }
+    Ok(())
 }
 
-// Marks what an entry of a lookup table leads to.
-#[tactic(auto, unfolding(crate::specs::LookupReadings::kept_entry), using(goblin_base::proofs::Marks::marking))]
-fn add_entry<'a, T: Bitfield<'a>>(
-    marks: &mut Marks,
+// Adds the text at a place, if there is one.
+#[tactic(auto, using(goblin_base::proofs::SlotFootprints::adding))]
+fn add_text<'e>(
+    ranges: &mut Vec<(usize, usize)>,
+    bytes: &[u8],
+    place: Option<usize>,
+) -> ResultOf<'e, ()>
+    ensures added { let reached = led_to place (stretch_footprint bytes.now) in
+        OnOk result (ranges.new.items ≡ ranges.old.items ++ reached) }
+    ensures refused { IfErr result IsMemory }
+{
+    match place {
+        Some(offset) => add(ranges, offset, text_end(bytes, offset)),
+        None => Ok(()),
+    }
+}
+
+// Adds the hint at an offset, and the text after it.
+#[tactic(auto, using(goblin_base::proofs::SlotFootprints::adding))]
+fn add_hint<'e>(ranges: &mut Vec<(usize, usize)>, bytes: &[u8], offset: usize) -> ResultOf<'e, ()>
+    ensures added { let text = stretch_footprint bytes.now (offset + 2) in
+        let reached = slice_footprint bytes.now offset 2 ++ text in
+        OnOk result (ranges.new.items ≡ ranges.old.items ++ reached) }
+    ensures refused { IfErr result IsMemory }
+{
+    let Ok(hint) = pread_slice(bytes, offset, 2) else {
+        return Ok(());
+    };
+    let end = offset + hint.len();
+    add(ranges, offset, end)?;
+    add_text(ranges, bytes, Some(end))
+}
+
+// Adds what an entry of a lookup table leads to.
+#[tactic(auto, unfolding(crate::specs::LookupReadings::kept_entry), using(goblin_base::proofs::SlotFootprints::adding))]
+fn add_entry<'a, 'e, T: Bitfield<'a>>(
+    ranges: &mut Vec<(usize, usize)>,
     entry: &T,
     bytes: &'a [u8],
     address_map: &AddressMap,
-)
-    ensures { let m = map_of address_map.now in
+) -> ResultOf<'e, ()>
+    ensures added { let m = with_longest None (map_of address_map.now) in
         let reached =
         (kept_entry (reads_strictly m) m.addressing (T.value entry.now)).reaches bytes.now in
-        marks.new ≡ marked marks.old reached }
+        OnOk result (ranges.new.items ≡ ranges.old.items ++ reached) }
+    ensures refused { IfErr result IsMemory }
 {
     if entry.is_ordinal() {
-        return;
+        return Ok(());
     }
     match address_map.offset_of(entry.to_rva()) {
-        Some(offset) => add_hint(marks, bytes, offset, address_map.longest_name()),
-        None => (),
+        Some(offset) => add_hint(ranges, bytes, offset),
+        None => Ok(()),
     }
 }
 
-// Marks the slots of `width` bytes from an offset up to `last`, and the one at `last` if the file
+// Adds the slots of `width` bytes from an offset up to `last`, and the one at `last` if the file
 // has all of it.
-#[tactic(auto, using(goblin_base::proofs::Marks::marking))]
-fn add_slots(marks: &mut Marks, bytes: &[u8], offset: usize, last: usize, width: usize)
-    ensures { let is_whole = is_some (slice_at bytes.now last width) in
-        marks.new ≡ marked marks.old (positions offset (if is_whole then last + width else last)) }
+fn add_slots<'e>(
+    ranges: &mut Vec<(usize, usize)>,
+    bytes: &[u8],
+    offset: usize,
+    last: usize,
+    width: usize,
+) -> ResultOf<'e, ()>
+    ensures added { let is_whole = is_some (slice_at bytes.now last width) in
+        let reached = positions offset (if is_whole then last + width else last) in
+        OnOk result (ranges.new.items ≡ ranges.old.items ++ reached) }
+    ensures refused { IfErr result IsMemory }
 {
     match pread_slice(bytes, last, width) {
-        Ok(slot) => marks.add(offset, last + slot.len()),
-        Err(_) => marks.add(offset, last),
+        Ok(slot) => add(ranges, offset, last + slot.len()),
+        Err(_) => add(ranges, offset, last),
     }
 }
 
-// Marks the footprint of the lookup table at a place, if there is one.
-#[tactic(auto, unfolding(crate::specs::ImportReadings::lookup_if), using(goblin_base::proofs::Marks::marking))]
-fn add_lookup_table<'a, T: Bitfield<'a>>(
-    marks: &mut Marks,
+// Adds the lookup table at a place, if there is one, and what its entries lead to.
+#[tactic(auto, unfolding(crate::specs::ImportReadings::lookup_if), using(goblin_base::proofs::SlotFootprints::adding))]
+fn add_lookup_table<'a, 'e, T: Bitfield<'a>>(
+    ranges: &mut Vec<(usize, usize)>,
     bytes: &'a [u8],
     table: Option<usize>,
     address_map: &AddressMap,
-)
-    ensures { let m = map_of address_map.now in
+) -> ResultOf<'e, ()>
+    ensures added { let m = with_longest None (map_of address_map.now) in
         let reached =
         (lookup_if (reads_strictly m) T.format m.addressing table).reaches bytes.now in
-        marks.new ≡ marked marks.old reached }
+        OnOk result (ranges.new.items ≡ ranges.old.items ++ reached) }
+    ensures refused { IfErr result IsMemory }
 {
     let Some(offset) = table else {
-        return;
+        return Ok(());
     };
     let size = T::size_of();
     let mut place = offset;
     'slots: while let Some(entry) = next_entry::<T>(bytes, place) {
-        add_entry(marks, &entry, bytes, address_map);
+        add_entry(ranges, &entry, bytes, address_map)?;
         place += size;
     }
-    add_slots(marks, bytes, offset, place, size)
+    add_slots(ranges, bytes, offset, place, size)
 }
 
-// Marks the footprint of the address table at a place, if there is one.
-#[tactic(auto, using(goblin_base::proofs::Marks::marking))]
-fn add_address_table<'a, T: Bitfield<'a>>(marks: &mut Marks, bytes: &'a [u8], table: Option<usize>)
-    ensures { let reached =
+// Adds the address table at a place, if there is one.
+#[tactic(auto, using(goblin_base::proofs::SlotFootprints::adding))]
+fn add_address_table<'a, 'e, T: Bitfield<'a>>(
+    ranges: &mut Vec<(usize, usize)>,
+    bytes: &'a [u8],
+    table: Option<usize>,
+) -> ResultOf<'e, ()>
+    ensures added { let reached =
         led_to table (λ o. (address_table T.format o).reaches bytes.now) in
-        marks.new ≡ marked marks.old reached }
+        OnOk result (ranges.new.items ≡ ranges.old.items ++ reached) }
+    ensures refused { IfErr result IsMemory }
 {
     let Some(offset) = table else {
-        return;
+        return Ok(());
     };
     let size = T::size_of();
     let mut place = offset;
     'slots: while let Some(_) = next_entry::<T>(bytes, place) {
         place += size;
     }
-    add_slots(marks, bytes, offset, place, size)
+    add_slots(ranges, bytes, offset, place, size)
 }
 
-// Marks what an import descriptor leads to.
-#[tactic(auto, unfolding(crate::specs::ImportReadings::library_of, goblin_pe_sect::specs::AddressReadings::name_at), using(goblin_base::proofs::Marks::marking))]
-fn add_library<'a, T: Bitfield<'a>>(
-    marks: &mut Marks,
+// Adds what an import descriptor leads to.
+fn add_library<'a, 'e, T: Bitfield<'a>>(
+    ranges: &mut Vec<(usize, usize)>,
     bytes: &'a [u8],
     entry: &ImportDirectoryEntry,
     address_map: &AddressMap,
-)
-    ensures { let m = map_of address_map.now in
+) -> ResultOf<'e, ()>
+    ensures added { let m = with_longest None (map_of address_map.now) in
         let reached =
         (library_of (reads_strictly m) T.format m.addressing entry.now).reaches bytes.now in
-        marks.new ≡ marked marks.old reached }
+        OnOk result (ranges.new.items ≡ ranges.old.items ++ reached) }
+    ensures refused { IfErr result IsMemory }
 {
-    let name = address_map.offset_of(entry.name_rva);
-    add_text_at(marks, bytes, name, address_map.longest_name());
+    add_text(ranges, bytes, address_map.offset_of(entry.name_rva))?;
     let lookup = lookup_offset(entry, &mut Finder::of(address_map));
-    add_lookup_table::<T>(marks, bytes, lookup, address_map);
+    add_lookup_table::<T>(ranges, bytes, lookup, address_map)?;
     let addresses = address_map.offset_of(address_table_rva(entry));
-    add_address_table::<T>(marks, bytes, addresses)
+    add_address_table::<T>(ranges, bytes, addresses)
 }
 
-// Marks the footprint of the import directory at an offset.
-#[tactic(auto, using(goblin_base::proofs::Marks::marking))]
-fn add_libraries<'a, T: Bitfield<'a>>(
-    marks: &mut Marks,
+// Adds the import directory at an offset, and what its descriptors lead to.
+fn add_libraries<'a, 'e, T: Bitfield<'a>>(
+    ranges: &mut Vec<(usize, usize)>,
     bytes: &'a [u8],
     offset: usize,
     address_map: &AddressMap,
-)
-    ensures { let m = map_of address_map.now in
+) -> ResultOf<'e, ()>
+    ensures added { let m = with_longest None (map_of address_map.now) in
         let reached =
         (libraries_at (reads_strictly m) T.format m.addressing offset).reaches bytes.now in
-        marks.new ≡ marked marks.old reached }
+        OnOk result (ranges.new.items ≡ ranges.old.items ++ reached) }
+    ensures refused { IfErr result IsMemory }
 {
     let size = SIZEOF_IMPORT_DIRECTORY_ENTRY;
     let mut place = offset;
     'records: while let Some(record) = next_record(bytes, place) {
-        add_library::<T>(marks, bytes, &record, address_map);
+        add_library::<T>(ranges, bytes, &record, address_map)?;
         place += size;
     }
-    add_slots(marks, bytes, offset, place, size)
+    add_slots(ranges, bytes, offset, place, size)
 }
 
-/// Marks the footprint of the import data of a directory at the address `rva`.
-#[tactic(auto, unfolding(crate::specs::ImportReadings::import_data), using(goblin_base::proofs::Marks::marking))]
-pub fn add_imports<'a, T: Bitfield<'a>>(
-    marks: &mut Marks,
-    bytes: &'a [u8],
-    rva: u32,
-    address_map: &AddressMap,
-)
-    ensures { let m = map_of address_map.now in
-        let reached =
-        (import_data (reads_strictly m) T.format m.addressing rva).reaches bytes.now in
-        marks.new ≡ marked marks.old reached }
-{
-    match first_record_offset(address_map.offset_of(rva), address_map.reads_strictly()) {
-        Some(offset) => add_libraries::<T>(marks, bytes, offset, address_map),
-        None => (),
-    }
-}
-
-/// The footprint of the imports of a file: the positions on which the import data of a directory
-/// depends, as ranges (begin, end). [`twin_imports`](crate::laws::twin_imports) says which parts of
-/// the file it has.
+/// The footprint of the imports of a file: exactly the positions on which the import data of a
+/// directory depends, as ranges (begin, end). [`twin_imports`](crate::laws::twin_imports) says
+/// which parts of the file it has.
 ///
-/// A position is in the footprint exactly if it lies in one of the ranges. They come in order, none
-/// is empty, and none runs past the end of the file. At least one position lies between each range
-/// and the next.
+/// No range is empty or runs past the end of the file. They come in the order in which the import
+/// data is read, so they may overlap. They are as many as its records, entries and texts, and each
+/// has 16 bytes.
 ///
 /// # Errors
 /// [`Error::Memory`](goblin_base::Error::Memory) only.
+#[tactic(auto, unfolding(crate::specs::ImportReadings::import_data))]
 pub fn footprint_imports<'a, 'e, T: Bitfield<'a>>(
     alloc: Global,
     bytes: &'a [u8],
@@ -199,13 +221,16 @@ pub fn footprint_imports<'a, 'e, T: Bitfield<'a>>(
 ) -> ResultOf<'e, Vec<(usize, usize)>>
     ensures ranges { let m = map_by opts.now sections.now file_alignment in
         let rva = directory.virtual_address in
-        let footprint =
+        let reached =
         (import_data (reads_strictly m) T.format m.addressing rva).reaches bytes.now in
-        IfOk result (λ v. IsFootprint (length bytes.now) footprint v.items) }
+        IfOk result (λ v. v.items ≡ reached) }
     ensures refused { IfErr result IsMemory }
 {
-    let address_map = AddressMap::prepare(alloc, sections, file_alignment, opts)?;
-    let mut marks = Marks::with_room_for(alloc, bytes.len())?;
-    add_imports::<T>(&mut marks, bytes, directory.virtual_address, &address_map);
-    marks.ranges(alloc)
+    let m = AddressMap::prepare(alloc, sections, file_alignment, opts)?;
+    let mut ranges = Vec::new(alloc);
+    let place = m.offset_of(directory.virtual_address);
+    if let Some(offset) = first_record_offset(place, m.reads_strictly()) {
+        add_libraries::<T>(&mut ranges, bytes, offset, &m)?;
+    }
+    Ok(ranges)
 }

@@ -1,15 +1,15 @@
-use Rattle.std.proofs.Common.{length, ◌-◌}
+use Rattle.std.proofs.Common.{None, length, ◌-◌}
 use Rattle.goblin_base.proofs.SlotFootprints.{AtRanges}
 use Rattle.readings.proofs.Loops.{reach_of}
-use Rattle.goblin_pe_sect.specs.Addresses.{map_of, reads_strictly}
+use Rattle.goblin_pe_sect.specs.Addresses.{map_of, reads_strictly, with_longest}
 use Rattle.goblin_pe_import.specs.{ImportEntries.entry_slots, LookupReadings.kept_entry}
 use Rattle.goblin_pe_import.proofs.laws.footprint.add_lookup_table.Given as goal
 
 abbrev pub invariant-slots : goal.invariant-slots
 invariant-slots g l =
     AtRanges (entry_slots g.T.Bitfield.format)
-    (reach_of (kept_entry (reads_strictly (map_of l.fn.address_map)) (map_of l.fn.address_map).addressing)
-    l.fn.bytes) l.fn.bytes l.offset l.place l.initial.marks l.marks
+    (reach_of (kept_entry (reads_strictly (map_of l.fn.address_map)) (with_longest None (map_of l.fn.address_map)).addressing)
+    l.fn.bytes) l.fn.bytes l.offset l.place l.initial.ranges.items l.ranges.items
 
 abbrev pub decreases-slots : goal.decreases-slots
 decreases-slots g l = length l.fn.bytes - l.place
