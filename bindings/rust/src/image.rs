@@ -1,8 +1,6 @@
 //! The image.
 
 use std::fmt;
-use std::io::{self, Write};
-use std::ops::Range;
 use std::ptr::NonNull;
 
 use crate::constants::{
@@ -597,56 +595,6 @@ impl<'a> Image<'a> {
             damage.dos_stub = damage.dos_stub.filter(|_| self.record.dos_header.signature != 0);
         }
         Ok(damage)
-    }
-
-    /// The file offsets of the bytes on which these answers depend: the header, the section headers,
-    /// and all rows of the imports, exports and base relocations, with the options of the image.
-    /// Another file of the same length, with the same bytes there, gets the same answers with the same
-    /// options. It may differ in everything else: in its symbols, the data of sections, what is at
-    /// addresses, the overlay, the checksum, and its [`damage`](Self::damage). The ranges are in
-    /// order, and at least a byte lies between two of them.
-    ///
-    /// Names are read whole, whatever the options say. So the budget does not limit the time: if long
-    /// names overlap, a file of a megabyte needs half a minute.
-    ///
-    /// # Errors
-    /// [`ErrorKind::Steps`](crate::ErrorKind::Steps) and
-    /// [`ErrorKind::Memory`](crate::ErrorKind::Memory).
-    pub fn footprint(&self, budget: &mut Budget) -> Result<Vec<Range<usize>>, Error> {
-        // (the library looks at the whole image, so the budget has to suffice for all of it)
-        if budget.left() != usize::MAX {
-            self.damage(budget)?;
-        }
-        let mut footprint = ffi::Footprint {
-            ranges: NonNull::dangling().as_ptr(),
-            count: 0,
-        };
-        let fault = ffi::goblin_pe_read_footprint(&self.record, &mut footprint);
-        Error::test(fault, None)?;
-        // SAFETY: the library has filled this many ranges.
-        let found = unsafe { std::slice::from_raw_parts(footprint.ranges, footprint.count) };
-        let ranges = room(found.len()).map(|mut ranges| {
-            ranges.extend(found.iter().map(|it| it.offset..it.offset + it.length));
-            ranges
-        });
-        // SAFETY: the library made it, and it is freed once.
-        unsafe { ffi::goblin_pe_free_footprint(&mut footprint) };
-        ranges
-    }
-
-    /// Writes the key of the image for a cache: the length of the file, and the ranges of its
-    /// footprint with their bytes. Its SHA-256 is `Image.fingerprint` of the package for Python. The
-    /// options are not in it: keep them beside it.
-    ///
-    /// # Errors
-    /// As [`footprint`](Self::footprint), and the errors of the writer.
-    pub fn write_key(&self, mut to: impl Write, budget: &mut Budget) -> io::Result<()> {
-        write!(to, "{}", self.bytes().len())?;
-        for range in self.footprint(budget)? {
-            write!(to, " {} {} ", range.start, range.end)?;
-            to.write_all(&self.bytes()[range])?;
-        }
-        Ok(())
     }
 
     /// The text whose MD5 is the imphash that analysts compare, as pefile's `get_imphash` hashes it.

@@ -63,7 +63,6 @@ fn each_refused_request_is_an_error() -> Result<(), Error> {
     let (bytes, unlimited) = (sample("imports_by_name_x64.dll"), Budget::unlimited);
     let image = Image::parse(&bytes)?;
     assert!(requests(|| Pe::parse(&bytes)) > 4);
-    assert!(requests(|| image.footprint(&mut unlimited())) > 0);
     assert!(requests(|| image.imphash_text(&mut unlimited())) > 0);
     assert!(requests(|| image.patched(&image.header(), &[])) > 0);
     assert!(requests(|| image.memory_at(0x1000, 0x1000).to_vec()) > 0);
