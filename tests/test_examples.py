@@ -369,7 +369,7 @@ int main(void)
             with self.subTest(index=index):
                 self.assertEqual((status, errors), (0, b""))
                 if not index:
-                    self.assertRegex(out, rb"\AKERNEL32.dll GetTickCount\n[0-9a-f]{64}\n\Z")
+                    self.assertEqual(out, b"KERNEL32.dll GetTickCount\n")
 
     def test_in_c(self):
         text = (self.C % self.program("c")).encode()
