@@ -141,7 +141,7 @@ def tables(out, image):
     for it in list(out.rows(image.libraries(budget(20)))):
         list(out.rows(it.imports(image, budget(100))))
     out.put(result(image.export_directory, to=some))
-    for export in list(out.rows(image.exports(budget(300)))):
+    for export in list(out.rows(image.exports(budget(300))))[:20]:
         out.put(result(image.find_export_by_ordinal, export.ordinal, to=some))
         name = export.name if export.name and len(export.name) <= 9 else b""
         out.put(result(image.find_export, name, budget(300), to=some))
