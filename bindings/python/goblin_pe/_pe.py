@@ -97,8 +97,10 @@ class Pe:
             return tuple(found)
 
         budget = Budget(_STEPS) if budget is None else budget
+        if image._sections is None:
+            image._sections = tuple(image.section_headers(budget))
         self.image, self.sections = image, image.sections
-        self.rich_entries = listed(image.rich_entries(), True)
+        self.rich_entries = listed(image.rich_entries(budget), True)
         self.imports = listed(image.imports(budget))
         self.export_directory = next(iter(listed(image.export_directory() for _ in range(1))), None)
         self.exports = listed(image.exports(budget))
