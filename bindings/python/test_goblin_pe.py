@@ -193,7 +193,7 @@ class Errors(unittest.TestCase):
             for what in ("dos_header", "coff_header", "optional_header", "directories", "sections"):
                 self.assertEqual(getattr(pe.image, what), getattr(wanted.image, what))
             rva = pe.sections[0].virtual_address
-            self.assertEqual((pe.image.find_offset(rva), pe.image.footprint()), (wanted.image.find_offset(rva), wanted.image.footprint()))
+            self.assertEqual(pe.image.find_offset(rva), wanted.image.find_offset(rva))
 
     def test_of_two_refused_tables_the_first_is_raised(self):
         """The imports, whose directory has an address that no section maps, before the exports."""
@@ -284,7 +284,7 @@ class Buffers(unittest.TestCase):
                            memoryview(b"." + DATA)[1:], io.BytesIO(DATA).getbuffer()):
                 with Pe(buffer) as pe:
                     self.assertEqual(tables_of(pe), tables_of(wanted))
-                    self.assertEqual((pe.image.footprint(), pe.image.data), (wanted.image.footprint(), DATA))
+                    self.assertEqual(pe.image.data, DATA)
         self.assertEqual((pe.imports, pe.sections), (wanted.imports, wanted.sections))
         self.assertEqual([*Image.object(bytearray(OBJECT)).symbols()], [*Image.object(OBJECT).symbols()])
         data = sample("firmware_x64.te")
@@ -303,7 +303,7 @@ class Buffers(unittest.TestCase):
             for buffer, copies in ((data, 0), (memoryview(data), 0), (memoryview(memoryview(data)).cast("H"), 0), (mapped, 0),
                                    (bytearray(data), 1), (memoryview(bytearray(data)).toreadonly(), 1)):
                 # (the mapped file has no bytes but zeros)
-                call = (lambda: self.assertRaises(PeError, Image, buffer)) if buffer is mapped else lambda: Image(buffer).footprint()
+                call = (lambda: self.assertRaises(PeError, Image, buffer)) if buffer is mapped else lambda: Image(buffer).checksum()
                 self.assertLess(most_memory(call), copies * len(data) + (1 << 20))
         data = bytearray(data)
         image = Image(data)
@@ -324,7 +324,7 @@ class Buffers(unittest.TestCase):
 
                 with unittest.mock.patch.object(_library.LIB, "goblin_pe_read_image", changes):
                     image = Image(buffer)
-                self.assertEqual((walks_of(image), image.footprint()), (walks_of(Image(DATA)), Image(DATA).footprint()))
+                self.assertEqual((walks_of(image), image.data), (walks_of(Image(DATA)), DATA))
                 self.assertRaises(PeError, Image, buffer)
 
     def test_views_that_are_released_are_not_those_of_the_image(self):
@@ -342,7 +342,7 @@ class Buffers(unittest.TestCase):
         with Pe(with_rich_header(1, 2)[0]) as pe:
             image = pe.image
         image.close()  # (again)
-        for closed in (image.footprint, lambda: image.data, lambda: next(image.exports()), image.patched, image.damage, image.checksum,
+        for closed in (lambda: image.data, lambda: next(image.exports()), image.patched, image.damage, image.checksum,
                        image.overlay, lambda: image.find_offset(0x1020), lambda: image.sections[0].data(image), image.export_directory,
                        lambda: pickle.dumps(image), lambda: image.dos_stub, lambda: image.rich_header, lambda: whole.sections):
             self.assertRaisesRegex(ValueError, "the image is closed", closed)
@@ -532,7 +532,7 @@ class Walks(unittest.TestCase):
         budget = Budget(1500)
         self.assertEqual(sum(1 for _ in image.imports(budget)), 1000)
         self.assertLess(budget.left, 500)
-        for call in image.imphash, image.damage, image.footprint, image.fingerprint, lambda it: [*image.imports(it)]:
+        for call in image.imphash, image.damage, lambda it: [*image.imports(it)]:
             self.assertRaises(OutOfSteps, call, budget)
         self.assertRaises(OutOfSteps, Pe, image.data, IDENTITY, Budget(900))
         with unittest.mock.patch("goblin_pe._pe._STEPS", 900):
@@ -830,6 +830,7 @@ class Places(unittest.TestCase):
     def test_the_data_of_sections(self):
         data = sample("align16_x64.dll")
         image = Image(data)
+        self.assertEqual((Image(DATA).overlay(), Image(DATA + b"more").overlay()), (b"", b"more"))
         for s in image.sections:
             found = s.data(image)
             self.assertEqual(found.data, data[s.pointer_to_raw_data:][:s.size_of_raw_data])
@@ -922,19 +923,6 @@ class Places(unittest.TestCase):
         for options in Options(), PERMISSIVE:
             self.assertIsNone(Image(broken, options).find_export(first.name))
             self.assertEqual(Image(both, options).find_export(first.name), second._replace(name=first.name, name_rva=first.name_rva))
-
-    def test_a_file_depends_on_its_footprint_alone(self):
-        image = Image(DATA, PERMISSIVE)
-        other = bytearray(~it & 0xFF for it in DATA)
-        for it in image.footprint():
-            other[it.start: it.stop] = DATA[it.start: it.stop]
-        again = Image(other, PERMISSIVE)
-        self.assertEqual((walks_of(again), again.coff_header), (walks_of(image), image.coff_header))
-        self.assertNotEqual(other, DATA)
-        self.assertEqual((again.fingerprint(), again.imphash()), (image.fingerprint(), image.imphash()))
-        self.assertNotEqual(Image(DATA + b"\0", PERMISSIVE).fingerprint(), image.fingerprint())
-        self.assertRegex(image.fingerprint(Budget(1000)), "^[0-9a-f]{64}$")
-        self.assertEqual((image.overlay(), Image(DATA + b"more").overlay()), (b"", b"more"))
 
     def test_the_relocations_of_a_block(self):
         data = sample("program_x64.exe")
@@ -1270,7 +1258,7 @@ class Names(unittest.TestCase):
 
     def test_help_names_what_is_for_users(self):
         text = pydoc.plain(pydoc.render_doc(goblin_pe))
-        for name in ("class Image", "class Pe", "class Budget", "class PeError", "class Options", "footprint(", "imports(", "symbols(", "patched("):
+        for name in ("class Image", "class Pe", "class Budget", "class PeError", "class Options", "damage(", "imports(", "symbols(", "patched("):
             self.assertIn(name, text)
         self.assertNotIn("ctypes", text)
         self.assertNotIn("ForwardRef", text)

@@ -494,35 +494,6 @@ class Image:
                 separator = b","
         return digest.hexdigest() if separator else ""
 
-    def footprint(self, budget: Budget | None = None) -> list[range]:
-        """The file offsets of the bytes on which these answers depend: the headers, the section
-        headers, and the rows of imports, exports and base relocations, with the options of the
-        image. Another file of the same length that has the same bytes there gives the same answers.
-        It may differ in everything else: symbols, the data of sections, what is at addresses, the
-        overlay, the checksum, and the damage.
-
-        The budget does not limit the time, because names are read whole: with long names that
-        overlap, a file of a megabyte takes half a minute."""
-        if budget is not None and budget.left is not None:
-            self.damage(budget)  # (the library looks at the whole image, so the budget has to be enough for that)
-        found = _records.Footprint()
-        with self._held() as image:
-            test(LIB.goblin_pe_read_footprint(image, c.byref(found)), None)
-        try:
-            return [range(it.offset, it.offset + it.length) for it in found.ranges[: found.count]]
-        finally:
-            LIB.goblin_pe_free_footprint(c.byref(found))
-
-    def fingerprint(self, budget: Budget | None = None) -> str:
-        """A key for a cache: the SHA-256 of the file's length and its footprint. The options are no
-        part of it, so keep them beside the key. `footprint` says which answers are the same for files
-        with the same key, and how long it takes."""
-        digest = hashlib.sha256(b"%d" % len(self.data))
-        for it in self.footprint(budget):
-            digest.update(b" %d %d " % (it.start, it.stop))
-            digest.update(self.data[it.start: it.stop])
-        return digest.hexdigest()
-
     def overlay(self) -> memoryview:
         """The bytes after the raw data of all sections; empty if there are none. They begin at file
         offset `len(image.data) - len(image.overlay())`. A section with the raw pointer 0 has no raw
