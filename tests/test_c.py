@@ -110,17 +110,17 @@ int main(int argc, char **argv)
             succeed([self.built(source, "-std=c11", "-pthread", "-fsanitize=thread"), "256", "1", BY_NAME, *OTHERS])
 
     def test_each_refused_growth_of_memory_is_reported(self):
-        """The footprint takes memory. A walk takes memory only above 96 sections."""
+        """A walk takes memory only above 96 sections."""
         program = self.built(BINDINGS / "c/tests/memory.c", "-std=c11")
         walks = ("damage", "directory", "imports", "libraries", "exports", "export_addresses", "relocation_blocks")
         # (an import and an export directory of zeros, and a block of two zeros)
         tables = ((0, 0x1800, 40), (1, 0x1800, 40), (5, 0x1900, 12))
         files = {count: self.written(f"{count}.dll", images.with_parts(images.image_headers(0x2000, count, 0x2000, tables), (0x1904, b"\x0c")))
                  for count in (96, 97)}
-        for (count, file), call in itertools.product(files.items(), ("footprint", *walks, "sections", "symbols")):
+        for (count, file), call in itertools.product(files.items(), (*walks, "sections", "symbols")):
             with self.subTest(call=call, sections=count):
                 refused = int(succeed([program, call, file]))
-                self.assertEqual(refused > 0, call == "footprint" or call in walks and count > 96)
+                self.assertEqual(refused > 0, call in walks and count > 96)
 
     def test_the_program_of_the_page(self):
         """All its pieces; and what the page says that it prints."""

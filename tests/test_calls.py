@@ -29,11 +29,7 @@ TAKE_MEMORY = [
     (DEFAULT, "imports", "11"),
     (EACH, "export_data", "2"),
     (EACH, "exports", "6"),
-    (MODES, "footprint_header", "1"),
     (MODES, "footprint_imports", "5"),
-    (MODES, "footprint_exports", "4"),
-    (MODES, "footprint_whole", "9"),
-    (MODES, "key", "1"),
     (MODES, "layout_of_many", "97"),
     (MODES, "whole", "22"),
     (MODES, "twin_lookup", "2 1"),
@@ -82,9 +78,9 @@ FOOTPRINTS = {
     "strings": [(0x211, 0x221)],
     "relocations": [(0x280, 0x285)],
     "value": [(0x200, 0x300)],
+    # (the answer of the call that lists that of imports)
+    "footprint of imports": OF_IMPORTS,
 }
-# Some of them are listed by a call. Its answer depends on the same positions.
-FOOTPRINTS.update({f"footprint of {read}": sorted(set(FOOTPRINTS[read])) for read in ("imports", "exports", "header", "whole")})
 FOOTPRINTS_AT = {
     SECTIONS: {**FOOTPRINTS, "sections": [(0x138, 0x160)]},
     TERSE: {**FOOTPRINTS, "sections": [(0x52, 0x7A)], "terse": [(0x52, 0xCA)]},
@@ -131,36 +127,6 @@ class Answers(Case):
                 data = sample.read_bytes()
                 pe = struct.unpack_from("<I", data, 60)[0]
                 self.assert_shows(sample, data[:pe + 24 + struct.unpack_from("<H", data, pe + 20)[0]], "header")
-
-    def assert_ranges(self, image, wanted, *limit):
-        lines = "".join("%#x %#x\n" % it for it in wanted)
-        self.assert_runs([*limit, PE_REPLAY, "footprint"], (0, lines.encode(), b""), image)
-
-    def test_a_footprint_of_parts_that_are_shared(self):
-        """The libraries share their records as lookup tables, so millions of parts overlap. The footprint is the headers, and the
-        records through the last one, with the name after it."""
-        count = 1609
-        image = images.own_tables(count)
-        self.assertLessEqual(len(image), 32 << 10)
-        limit = with_memory((len(image) + 20_000_000) >> 10, [])
-        self.assert_ranges(image, [(0, 0x160), (0x200, 0x200 + 20 * (count + 1) + len(b"a.dll\0"))], *limit)
-
-    def test_a_footprint_of_sections_with_one_long_name(self):
-        """The name is marked once. A copy of it for each section would need too much memory."""
-        count, length = 1000, 200_000
-        image = images.one_long_name(count, length)
-        limit = with_memory((len(image) + 20_000_000) >> 10, [])
-        end = 0x148 + 40 * count
-        self.assert_ranges(image, [(0, end), (end + 8, end + 8 + length)], *limit)
-
-    def test_a_footprint_of_parts_that_touch(self):
-        """The tables of a large image, without the byte between each library's name and its hints."""
-        image = images.large_image(libraries=64, functions=2400, exports=0, blocks=0, size=1 << 20)
-        library = 16 + 2400 * 24 + 2 * 2401 * 8
-        names = [0x1200 + i * library for i in range(64)]
-        begins = [0, names[0], *(name + 16 for name in names)]
-        ends = [0x170, *(name + 15 for name in names), names[-1] + library + 20 * 65 + 40 + len(b"large.dll\0")]
-        self.assert_ranges(image, zip(begins, ends))
 
     def test_addresses_among_many_sections(self):
         """With both rules for raw pointers, each is found at the place that the format says."""

@@ -645,17 +645,6 @@ class InTheHeaders(Read):
         self.assertEqual([x.name for x in loader.exports()], [b"g", b"a.dll"])
         self.assertEqual([x.name for x in goblin.exports()], [None, b"a.dll"])
 
-    def test_files_that_agree_on_the_footprint_are_read_alike(self):
-        data, goblin, loader = self.views((0x240, b"\xA0\x01\0\0"), (0x1A0, b"\0\0VirtualAlloc\0"))
-        name = set(range(0x1A0, 0x1A0 + 15))
-        for found, wanted in ((goblin, set()), (loader, name)):
-            positions = {p for it in found.footprint() for p in it}
-            self.assertEqual(positions & name, wanted)
-            other = bytes(it if p in positions else it ^ 0xFF for p, it in enumerate(data))
-            again = package().Image(other, found.options)
-            for walk in "imports", "exports":
-                self.assertEqual(list(getattr(again, walk)()), list(getattr(found, walk)()))
-
 
 class OverlappingSections(Read):
     """Each reader reads at the place that find_offset gives: in the first section that has the RVA."""

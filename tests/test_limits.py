@@ -147,12 +147,6 @@ def damage(data):
     return calls().goblin_pe_read_damage(c.byref(image), c.byref(found), c.byref(steps)).status, 0
 
 
-def footprint(data):
-    image, _ = image_of(data)
-    found = records().Footprint()
-    return calls().goblin_pe_read_footprint(c.byref(image), c.byref(found)).status, min(found.count, 1)
-
-
 # The status of a walk without steps.
 OUT = 7
 # A call, its file, how many milliseconds of processor time it may take (ten times as many as measured), its status, and the number
@@ -166,7 +160,6 @@ ROWS = {
         walked("sections", read="read_te"), lambda: te_of_one_name(16 * MIB), 5000, 0, 255),
     "sections of an image, all of one long name": (walked("sections"), lambda: image_of_one_name(MIB), 4500, 0, 13107),
     "sections of an image, of names that are cut": (walked("sections", longest=200), lambda: image_of_one_name(MIB), 100, 0, 13107),
-    "a footprint of one long name": (footprint, lambda: image_of_one_name(MIB), 35000, 0, 1),
     "symbols of one long name that is cut": (
         walked("symbols", read="read_object", longest=200), lambda: symbols_of_one_name(MIB), 100, 0, 29127),
     "many symbols": (walked("symbols", read="read_object"), lambda: object_with_symbols(320000), 500, 0, 320000),

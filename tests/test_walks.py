@@ -261,11 +261,9 @@ class Walks(unittest.TestCase):
     def call_others(self, image):
         """Makes the other calls: those that neither walk nor look up."""
         r, lib, at = records(), calls(), c.byref(image)
-        damage, footprint, steps = r.Damage(), r.Footprint(), c.c_size_t(1000)
+        damage, steps = r.Damage(), c.c_size_t(1000)
         is_image = image.kind == 1
         self.assertEqual(lib.goblin_pe_read_damage(at, c.byref(damage), c.byref(steps)).status == KIND, not is_image)
-        self.assertEqual(lib.goblin_pe_read_footprint(at, c.byref(footprint)).status == KIND, not is_image)
-        lib.goblin_pe_free_footprint(c.byref(footprint))
         out, written, section, number = (c.c_uint8 * (1 << 12))(), c.c_size_t(), r.Section(), c.c_uint32()
         lib.goblin_pe_write_header(at, out, len(out), c.byref(written))
         lib.goblin_pe_checksum(at, c.byref(number))

@@ -159,14 +159,11 @@
 
    Memory
    ------
-   Only these calls need memory, and only they return GOBLIN_PE_STATUS_MEMORY:
-
-   - goblin_pe_read_footprint needs up to 8 n + n / 8 bytes for a file of n bytes. Free its ranges
-     with goblin_pe_free_footprint.
-   - read_damage, read_export_directory, and next_imports, _libraries, _exports, _export_addresses
-     and _relocation_blocks make an index of the sections if there are more than 96, and free it
-     before they return. It has 300 bytes for each section. With 65,535 sections this costs 25
-     milliseconds a call, so walk such an image in batches of thousands of rows.
+   Calls need memory only for an image with more than 96 sections. Then read_damage,
+   read_export_directory, and next_imports, _libraries, _exports, _export_addresses and
+   _relocation_blocks make an index of the sections, and free it before they return. Only these
+   return GOBLIN_PE_STATUS_MEMORY. The index has 300 bytes for each section. With 65,535 sections
+   it costs 25 milliseconds a call, so walk such an image in batches of thousands of rows.
 
    Time
    ----
@@ -197,7 +194,6 @@
    memory_at, section_data    sections
    text_at, forwarder_at      sections, and a name
    read_damage                four times as next_imports and next_exports with these steps
-   read_footprint             ten times the walks over all tables, without limits
    checksum                   n
    write_*, set_name_offset   the bytes written
 
@@ -214,9 +210,6 @@
      some hundreds.
    - Each call costs up to 25 milliseconds more if the image has many sections: a million imports
      cost 7 minutes in batches of 64, but 6 seconds in batches of 4,096.
-   - read_footprint can't be stopped, and reads names whole, also if longest_name cut them for the
-     walks. So it costs up to ten times what walks without limits cost: if names overlap, 1 MB costs
-     half a minute. Call it when the walks came to their ends and cut no long names.
    - The damage of a partial image is that of the parts that could be read. Zeros in place of a DOS
      header count as a damaged stub, and is_sound says nothing of a header that was refused: look at
      the faults of read_partial_image first. */
@@ -242,16 +235,16 @@ extern "C" {
 /* The number of this interface. A program and a library that declare different records or calls
    have different numbers. A program linked in C gets the matching library, or does not link.
    One that loads the library at run time compares the two numbers first. */
-#define GOBLIN_PE_INTERFACE 0x525a1e8fu
+#define GOBLIN_PE_INTERFACE 0x1cdedd26u
 uint32_t goblin_pe_interface(void);
 
 /* What follows .so. in the name of the shared library. */
-#define GOBLIN_PE_SONAME "5.525a1e8f"
+#define GOBLIN_PE_SONAME "5.1cdedd26"
 
 /* Only a library of this interface has this call. */
-uint32_t goblin_pe_interface_525a1e8f(void);
+uint32_t goblin_pe_interface_1cdedd26(void);
 #ifdef __GNUC__
-__attribute__((used)) static uint32_t (*const goblin_pe_needs_interface)(void) = goblin_pe_interface_525a1e8f;
+__attribute__((used)) static uint32_t (*const goblin_pe_needs_interface)(void) = goblin_pe_interface_1cdedd26;
 #endif
 
 /* Calls that return a fault are marked, so that a compiler warns if you drop it. */
@@ -1537,7 +1530,7 @@ GOBLIN_PE_MUST_USE struct goblin_pe_fault goblin_pe_next_coff_relocations(
     const struct goblin_pe_image *image, struct goblin_pe_coff_relocation_cursor *cursor,
     struct goblin_pe_coff_relocation *relocations, size_t room, struct goblin_pe_batch *batch);
 
-/* ---- Damage, footprint, checksum ----------------------------------------------------------- */
+/* ---- Damage, checksum ---------------------------------------------------------------------- */
 
 /* What strict mode refuses of an image, part by part, and what the walks skip. A part that strict
    mode reads, or that the image does not have, has the status 0. */
@@ -1577,35 +1570,6 @@ struct goblin_pe_damage {
    sections. */
 GOBLIN_PE_MUST_USE struct goblin_pe_fault goblin_pe_read_damage(
     const struct goblin_pe_image *image, struct goblin_pe_damage *damage, size_t *steps);
-
-/* A range of the file. */
-struct goblin_pe_range {
-    /* The file offset of the first byte. */
-    size_t offset;
-    /* How many bytes it has: at least 1. */
-    size_t length;
-};
-
-/* Ranges of the file, in order, with a byte between each and the next. */
-struct goblin_pe_footprint {
-    /* The ranges. */
-    struct goblin_pe_range *ranges;
-    size_t count;
-};
-
-/* Finds the bytes on which these answers about an image depend: its header, its sections, and all
-   rows of its imports, exports and base relocations by these options, with whole names. Another
-   file of the same length, with the same bytes there, gets the same answers. Use it as the key of a
-   cache. Symbols, the contents of sections and the checksum are not among them. The header is read
-   again from the bytes, so other numbers in the record change nothing. A file that
-   `goblin_pe_read_image` refuses has the footprint of that refusal.
-
-   Faults: MEMORY; KIND; OPTIONS. Free the footprint with `goblin_pe_free_footprint`. */
-GOBLIN_PE_MUST_USE struct goblin_pe_fault goblin_pe_read_footprint(
-    const struct goblin_pe_image *image, struct goblin_pe_footprint *footprint);
-
-/* Frees a footprint, and leaves zeros. A footprint of zeros may be freed. */
-void goblin_pe_free_footprint(struct goblin_pe_footprint *footprint);
 
 /* Computes the checksum of `image.bytes`, for `optional_header.windows_fields.check_sum`. Windows
    tests it in drivers. Compute it after all other changes to the bytes.

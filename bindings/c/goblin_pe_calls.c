@@ -1,8 +1,5 @@
 /* The calls of goblin_pe.h, over the library's own, which take no null pointers and are proved.
    bindings/generate.py makes this file of what the proved crates declare. */
-#include <stdlib.h>
-#include <string.h>
-
 #include "goblin_pe.h"
 
 /* How the records lie in memory. */
@@ -136,14 +133,6 @@ IS_AT(damage, unmapped_entries, 160);
 IS_AT(damage, skipped_exports, 168);
 IS_AT(damage, is_sound, 176);
 IS_AT(damage, reserved, 177);
-
-HAS_SIZE(range, 16, 8);
-IS_AT(range, offset, 0);
-IS_AT(range, length, 8);
-
-HAS_SIZE(footprint, 16, 8);
-IS_AT(footprint, ranges, 0);
-IS_AT(footprint, count, 8);
 
 HAS_SIZE(export_cursor, 8, 8);
 IS_AT(export_cursor, index, 0);
@@ -423,15 +412,6 @@ struct goblin_pe_fault goblin_pe_read_damage(
     size_t no_limit = SIZE_MAX;
     return goblin_pe_raw_read_damage(
         sound_image(image, &its_image), damage, steps ? steps : &no_limit);
-}
-
-struct goblin_pe_fault goblin_pe_raw_read_footprint(
-    const struct goblin_pe_image *image, struct goblin_pe_footprint *footprint);
-struct goblin_pe_fault goblin_pe_read_footprint(
-    const struct goblin_pe_image *image, struct goblin_pe_footprint *footprint)
-{
-    struct goblin_pe_image its_image;
-    return goblin_pe_raw_read_footprint(sound_image(image, &its_image), footprint);
 }
 
 struct goblin_pe_fault goblin_pe_raw_next_exports(
@@ -723,11 +703,4 @@ const char *goblin_pe_fault_string(const struct goblin_pe_fault *fault, char tex
     size_t length = goblin_pe_raw_fault_text(fault, (uint8_t *)text, GOBLIN_PE_FAULT_ROOM - 1);
     text[length < GOBLIN_PE_FAULT_ROOM ? length : GOBLIN_PE_FAULT_ROOM - 1] = 0;
     return text;
-}
-
-void goblin_pe_free_footprint(struct goblin_pe_footprint *footprint)
-{
-    if (footprint->count)
-        free(footprint->ranges);
-    memset(footprint, 0, sizeof *footprint);
 }

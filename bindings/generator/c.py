@@ -23,11 +23,11 @@ PARTS = (
      " next_base_relocations"),
     ("Symbols and relocations of COFF", "SymbolCursor SymbolRecord Symbol next_symbols string_at AuxiliaryKind Auxiliary read_auxiliary"
      " CoffRelocation next_coff_relocations"),
-    ("Damage, footprint, checksum", "Damage read_damage Range Footprint read_footprint free_footprint checksum"),
+    ("Damage, checksum", "Damage read_damage checksum"),
     ("Writing a header", "write_header"),
 )
-# The calls by hand, with those of the library below them.
-BY_HAND = {"fault_string": "fault_text", "free_footprint": ""}
+# The call by hand, with that of the library below it.
+BY_HAND = {"fault_string": "fault_text"}
 
 
 def c_name(name: str) -> str:
@@ -42,7 +42,7 @@ def comment(it: Interface, doc: str, indent: str = "") -> str:
 
 def kind(of: Type) -> str:
     if of.form == "pointer":
-        return "%s *" % ("const uint8_t" if not of.name else "struct " + c_name(of.name))
+        return "const uint8_t *"
     return NUMBERS[of.name][1] if of.name in NUMBERS else "struct " + c_name(of.name)
 
 
@@ -206,9 +206,6 @@ BY_HAND_DECLARED = {
 /* Writes the text of a fault, with a NUL, and returns `text`. The text of status 0 is empty. */
 const char *goblin_pe_fault_string(
     const struct goblin_pe_fault *fault, char text[GOBLIN_PE_FAULT_ROOM]);
-""",
-    "free_footprint": """/* Frees a footprint, and leaves zeros. A footprint of zeros may be freed. */
-void goblin_pe_free_footprint(struct goblin_pe_footprint *footprint);
 """}
 
 HEADER = """#ifndef GOBLIN_PE_H
@@ -263,9 +260,6 @@ PARTS_OF
 
 CALLS = """/* The calls of goblin_pe.h, over the library's own, which take no null pointers and are proved.
    %s */
-#include <stdlib.h>
-#include <string.h>
-
 #include "goblin_pe.h"
 
 /* How the records lie in memory. */
@@ -286,13 +280,6 @@ const char *goblin_pe_fault_string(const struct goblin_pe_fault *fault, char tex
     size_t length = goblin_pe_raw_fault_text(fault, (uint8_t *)text, GOBLIN_PE_FAULT_ROOM - 1);
     text[length < GOBLIN_PE_FAULT_ROOM ? length : GOBLIN_PE_FAULT_ROOM - 1] = 0;
     return text;
-}
-
-void goblin_pe_free_footprint(struct goblin_pe_footprint *footprint)
-{
-    if (footprint->count)
-        free(footprint->ranges);
-    memset(footprint, 0, sizeof *footprint);
 }
 """
 

@@ -39,7 +39,7 @@ class Refused(Exception):
 
 class Type(NamedTuple):
     """The type of a field or a parameter: a "number" or a "record" of this name; an "array" of `length` numbers or records; a "slice"
-    of bytes; a "table", which is a slice of records; or a "pointer" to bytes or records."""
+    of bytes; a "table", which is a slice of records; or a "pointer" to bytes."""
 
     form: str
     name: str = ""
@@ -136,15 +136,13 @@ def type_of(text: str) -> Type:
 
 
 def record_of(doc: str, text: str) -> Declared:
-    """A record. One that has bytes or records alone is a pointer and a length or count."""
+    """A record. One that has bytes alone is a pointer and a length."""
     (name,) = read(r"pub struct (\w+)(?:<'a>)? \{\n", text)
     items = [Item(field, type_of(it), comment) for field, it, comment in rows_of(text, r"pub (\w+): (.+),")]
-    if any(it.type.is_written or it.type.is_reference and it.type.form not in ("slice", "table") for it in items):
+    if any(it.type.is_written or it.type.is_reference and it.type.form != "slice" for it in items):
         raise Refused("a reference in the record " + name)
     if len(items) == 1 and items[0].type.is_reference:
-        form = items[0].type
-        count = Item("length", Type("number", "usize"), "") if form.form == "slice" else Item("count", Type("number", "usize"), "")
-        items = [items[0]._replace(type=Type("pointer", "" if form.form == "slice" else form.name)), count]
+        items = [items[0]._replace(type=Type("pointer")), Item("length", Type("number", "usize"), "")]
     return Declared(named(name), doc, items)
 
 
@@ -228,7 +226,7 @@ class Interface:
 
     def _reach(self, it: Type) -> None:
         # takes a record up, after those that lie in it
-        if it.form in ("slice", "record", "table", "array", "pointer") and it.name and it.name not in {*self.records, *NUMBERS}:
+        if it.form in ("slice", "record", "table", "array") and it.name not in {*self.records, *NUMBERS}:
             found = [record for record in self._declared.values() if record.name == it.name]
             if len(found) != 1:
                 raise Refused("%d records %s" % (len(found), it.name))

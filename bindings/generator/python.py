@@ -13,7 +13,7 @@ def python_files(it: Interface) -> Dict[str, str]:
 
     def kind(of: Type) -> str:
         if of.form == "pointer":
-            return "c.POINTER(%s)" % of.name if of.name else "c.c_void_p"
+            return "c.c_void_p"
         single = number(of.name) if of.name in NUMBERS else of.name
         return "%s * %d" % (single, of.length) if of.form == "array" else single
 
@@ -61,6 +61,5 @@ INTERFACE = 0x%s
 # The calls: what each returns and takes.
 CALLS: Dict[str, Tuple[Any, List[Any]]] = {
     "goblin_pe_fault_string": (c.c_char_p, [c.POINTER(Fault), c.c_char_p]),
-    "goblin_pe_free_footprint": (None, [c.POINTER(Footprint)]),
 %s}
 """

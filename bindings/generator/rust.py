@@ -18,11 +18,9 @@ def rust_files(it: Interface, ordinals: Dict[str, str]) -> Dict[str, str]:
     """The crate's records, constants and names."""
 
     def lives(name: str) -> bool:
-        return it.holds(name, "slice") or any(f.type.form == "pointer" and not f.type.name for f in it.records[name].items)
+        return it.holds(name, "slice", "pointer")
 
     def kind(of: Type) -> str:
-        if of.form == "pointer":
-            return "*mut " + of.name
         if of.form == "array":
             return "[%s; %d]" % (of.name, of.length)
         return of.name + "<'a>" * (of.name in it.records and lives(of.name))
@@ -31,9 +29,8 @@ def rust_files(it: Interface, ordinals: Dict[str, str]) -> Dict[str, str]:
         if r.name in (*PUBLIC, "Slice"):
             return ""
         head = r.name + "<'a>" * lives(r.name)
-        has_pointer = any(f.type.form == "pointer" for f in r.items)
-        derived = "Clone, Copy" + (", Default" if not has_pointer else "") + (
-            ", Debug, PartialEq, Eq, Hash" if not lives(r.name) and not has_pointer and not any(f.type.name in PUBLIC for f in r.items) else "")
+        derived = "Clone, Copy, Default" + (
+            ", Debug, PartialEq, Eq, Hash" if not lives(r.name) and not any(f.type.name in PUBLIC for f in r.items) else "")
         return "#[repr(C)]\n#[derive(%s)]\npub struct %s {\n%s}\n" % (
             derived, head, "".join("    pub %s: %s,\n" % (f.name, kind(f.type)) for f in r.items))
 
@@ -141,6 +138,5 @@ unsafe extern "C" {
     pub safe fn goblin_pe_interface() -> u32;
     safe fn goblin_pe_interface_%s() -> u32;
     pub safe fn goblin_pe_fault_string(fault: &Fault, text: &mut [u8; 256]) -> *const u8;
-    pub fn goblin_pe_free_footprint(footprint: &mut Footprint);
 %s}
 """

@@ -194,8 +194,6 @@ static void check_image(void)
     const struct goblin_pe_image *image = &read;
     struct goblin_pe_options permissive = { .is_permissive = true };
     struct goblin_pe_damage damage;
-    struct goblin_pe_footprint footprint = { NULL, 0 };
-    goblin_pe_free_footprint(&footprint);
     EXPECT_OK(goblin_pe_read_image(bytes, length, NULL, &read));
     check_header(image);
     read.options = permissive;
@@ -206,10 +204,6 @@ static void check_image(void)
     check_rich_entries(image);
     check_symbols(image);
     EXPECT_OK(goblin_pe_read_damage(image, &damage, NULL));
-    EXPECT_OK(goblin_pe_read_footprint(image, &footprint));
-    EXPECT(footprint.count && !footprint.ranges[0].offset);
-    goblin_pe_free_footprint(&footprint);
-    EXPECT(!footprint.ranges && !footprint.count);
 }
 
 static void check_object(void)

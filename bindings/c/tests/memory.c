@@ -49,7 +49,6 @@ void free(void *block)
 /* What the calls fill. */
 struct records {
     struct goblin_pe_damage damage;
-    struct goblin_pe_footprint footprint;
     struct goblin_pe_export_directory directory;
     struct goblin_pe_section_cursor section;
     struct goblin_pe_import_cursor import;
@@ -69,8 +68,6 @@ struct records {
 
 static struct goblin_pe_fault called(const char *name, struct records *r)
 {
-    if (!strcmp(name, "footprint"))
-        return goblin_pe_read_footprint(&image, &r->footprint);
     if (!strcmp(name, "damage"))
         return goblin_pe_read_damage(&image, &r->damage, &r->steps);
     if (!strcmp(name, "directory"))
@@ -106,8 +103,6 @@ int main(int argc, char **argv)
         was_refused = false;
         is_called = true;
         struct goblin_pe_fault fault = called(argv[1], &new);
-        if (!was_refused)
-            goblin_pe_free_footprint(&new.footprint);
         is_called = false;
         if (!was_refused)
             return printf("%ld\n", growth - 1), fault.status != GOBLIN_PE_STATUS_OK || blocks;

@@ -3,7 +3,7 @@ import ctypes as c
 from typing import Any, Dict, List, Tuple
 
 # The number of this interface.
-INTERFACE = 0x525a1e8f
+INTERFACE = 0x1cdedd26
 
 
 class Slice(c.Structure):
@@ -166,20 +166,6 @@ class Damage(c.Structure):
         ("skipped_exports", c.c_size_t),
         ("is_sound", c.c_bool),
         ("reserved", c.c_uint8 * 7),
-    ]
-
-
-class Range(c.Structure):
-    _fields_ = [
-        ("offset", c.c_size_t),
-        ("length", c.c_size_t),
-    ]
-
-
-class Footprint(c.Structure):
-    _fields_ = [
-        ("ranges", c.POINTER(Range)),
-        ("count", c.c_size_t),
     ]
 
 
@@ -499,10 +485,8 @@ class Auxiliary(c.Structure):
 # The calls: what each returns and takes.
 CALLS: Dict[str, Tuple[Any, List[Any]]] = {
     "goblin_pe_fault_string": (c.c_char_p, [c.POINTER(Fault), c.c_char_p]),
-    "goblin_pe_free_footprint": (None, [c.POINTER(Footprint)]),
     "goblin_pe_checksum": (c.c_bool, [c.POINTER(Image), c.POINTER(c.c_uint32)]),
     "goblin_pe_read_damage": (Fault, [c.POINTER(Image), c.POINTER(Damage), c.POINTER(c.c_size_t)]),
-    "goblin_pe_read_footprint": (Fault, [c.POINTER(Image), c.POINTER(Footprint)]),
     "goblin_pe_next_exports": (Fault, [c.POINTER(Image), c.POINTER(ExportCursor), c.c_void_p, c.c_size_t, c.POINTER(c.c_size_t), c.POINTER(Batch)]),
     "goblin_pe_read_export_directory": (Fault, [c.POINTER(Image), c.POINTER(ExportDirectory)]),
     "goblin_pe_next_export_addresses": (Fault, [c.POINTER(Image), c.POINTER(ExportAddressCursor), c.c_void_p, c.c_size_t, c.POINTER(Batch)]),

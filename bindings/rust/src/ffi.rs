@@ -10,11 +10,11 @@ use crate::headers::{
 };
 
 /// The number of this interface.
-pub const INTERFACE: u32 = 0x525a_1e8f;
+pub const INTERFACE: u32 = 0x1cde_dd26;
 
 // Programs link only with a library of this interface, as no other one has this call.
 #[used]
-static NEEDS_INTERFACE: extern "C" fn() -> u32 = goblin_pe_interface_525a1e8f;
+static NEEDS_INTERFACE: extern "C" fn() -> u32 = goblin_pe_interface_1cdedd26;
 
 /// Bytes of the file.
 #[repr(C)]
@@ -115,20 +115,6 @@ pub struct Damage {
     pub skipped_exports: usize,
     pub is_sound: bool,
     pub reserved: [u8; 7],
-}
-
-#[repr(C)]
-#[derive(Clone, Copy, Default, Debug, PartialEq, Eq, Hash)]
-pub struct Range {
-    pub offset: usize,
-    pub length: usize,
-}
-
-#[repr(C)]
-#[derive(Clone, Copy)]
-pub struct Footprint {
-    pub ranges: *mut Range,
-    pub count: usize,
 }
 
 #[repr(C)]
@@ -546,12 +532,6 @@ const _: () = {
     assert!(offset_of!(Damage, skipped_exports) == 168);
     assert!(offset_of!(Damage, is_sound) == 176);
     assert!(offset_of!(Damage, reserved) == 177);
-    assert!(size_of::<Range>() == 16 && align_of::<Range>() == 8);
-    assert!(offset_of!(Range, offset) == 0);
-    assert!(offset_of!(Range, length) == 8);
-    assert!(size_of::<Footprint>() == 16 && align_of::<Footprint>() == 8);
-    assert!(offset_of!(Footprint, ranges) == 0);
-    assert!(offset_of!(Footprint, count) == 8);
     assert!(size_of::<ExportCursor>() == 8 && align_of::<ExportCursor>() == 8);
     assert!(offset_of!(ExportCursor, index) == 0);
     assert!(size_of::<Forwarder>() == 48 && align_of::<Forwarder>() == 8);
@@ -754,12 +734,10 @@ const _: () = {
 #[rustfmt::skip]
 unsafe extern "C" {
     pub safe fn goblin_pe_interface() -> u32;
-    safe fn goblin_pe_interface_525a1e8f() -> u32;
+    safe fn goblin_pe_interface_1cdedd26() -> u32;
     pub safe fn goblin_pe_fault_string(fault: &Fault, text: &mut [u8; 256]) -> *const u8;
-    pub fn goblin_pe_free_footprint(footprint: &mut Footprint);
     pub safe fn goblin_pe_checksum<'a>(image: &Image<'a>, sum: &mut u32) -> bool;
     pub safe fn goblin_pe_read_damage<'a>(image: &Image<'a>, damage: &mut Damage, steps: &mut usize) -> Fault;
-    pub safe fn goblin_pe_read_footprint<'a>(image: &Image<'a>, footprint: &mut Footprint) -> Fault;
     pub fn goblin_pe_next_exports<'a>(image: &Image<'a>, cursor: &mut ExportCursor, exports: *mut Export<'a>, room: usize, steps: &mut usize, batch: &mut Batch) -> Fault;
     pub safe fn goblin_pe_read_export_directory<'a>(image: &Image<'a>, directory: &mut ExportDirectory<'a>) -> Fault;
     pub fn goblin_pe_next_export_addresses<'a>(image: &Image<'a>, cursor: &mut ExportAddressCursor, addresses: *mut ExportAddress, room: usize, batch: &mut Batch) -> Fault;

@@ -312,11 +312,6 @@ tables_with view opts h sections =
     let places = places_in h.optional_header in
     table_parts opts (addressing_by opts (mapped_in view h sections) places) places
 
--- the file that begins with this header
-abbrev pub whole_after : View → ParseOptions → PeHeader → Reading WholeFile
-whole_after view opts h =
-    sections_after (is_strict opts.parse_mode) h >>= whole_with view opts h
-
 -- a whole file: its header, its sections and its tables, with addresses mapped as the view says
 unfoldable pub whole_in : View → ParseOptions → Reading WholeFile
 whole_in view opts = by_layout opts (whole_with view opts)

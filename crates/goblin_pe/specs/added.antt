@@ -1,4 +1,3 @@
 pub mod Checksums
 pub mod Damages
-pub mod Keys
 pub mod Layouts

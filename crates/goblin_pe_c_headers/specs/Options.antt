@@ -1,5 +1,5 @@
 -- The options that a caller passes.
-use Rattle.std.specs.Prelude.{ℕ, ◌==◌, ◌&&◌, nat_le, false, true, if◌then◌else◌, Bool, List, Option}
+use Rattle.std.specs.Prelude.{ℕ, ◌==◌, ◌&&◌, nat_le, false, true, if◌then◌else◌, Bool, Option}
 use Rattle.std.specs.Prelude.{Some, None}
 use Rattle.std.specs.List.{list_all}
 use Rattle.goblin_base.specs.declared.permissive.ParseMode.TheVariants.{Strict, Permissive}
@@ -7,9 +7,7 @@ use Rattle.goblin_pe_sect.specs.declared.options.ParseOptions.{ParseOptions}
 use Rattle.goblin_pe_sect.specs.declared.options.RawPointerRule.TheVariants.{AsStored}
 use Rattle.goblin_pe_sect.specs.declared.options.View.{View}
 use Rattle.goblin_pe_sect.specs.declared.options.View.TheVariants.{LoadedSections, Loader, Sections}
-use Rattle.goblin_pe_sect.specs.Options.{default_options, is_strict, rule_by_alignment}
-use Rattle.goblin_pe_head.specs.declared.optional_header.OptionalHeader.{OptionalHeader}
-use Rattle.goblin_pe_head.specs.{HeaderReadings.pe_header, PeHeader.PeHeader}
+use Rattle.goblin_pe_sect.specs.Options.{default_options, rule_by_alignment}
 pub use Rattle.goblin_pe_c_headers.specs.declared.options.PeOptions.{PeOptions}
 
 -- the options are known: the mapping has a number of its own, and zeros follow
@@ -51,21 +49,3 @@ name_limit longest = if longest == 0 then None else Some longest
 -- how many bytes of a name are read, if there is a limit
 abbrev pub longest_of : PeOptions → Option ℕ
 longest_of o = name_limit o.longest_name
-
--- the file alignment that an optional header says; 0 without one
-abbrev pub alignment_by : Option OptionalHeader → ℕ
-alignment_by None = 0
-alignment_by (Some h) = h.windows_fields.file_alignment
-
--- that which the header of a file says; 0 without a header
-abbrev pub alignment_of : Option PeHeader → ℕ
-alignment_of None = 0
-alignment_of (Some h) = alignment_by h.optional_header
-
-unfoldable pub alignment_in : PeOptions → List ℕ → ℕ
-alignment_in o bytes =
-    alignment_of ((pe_header (is_strict (header_options o).parse_mode)).value bytes)
-
--- the options that a caller says of a file
-abbrev pub options_in : PeOptions → List ℕ → ParseOptions
-options_in o bytes = options_at o (alignment_in o bytes)

@@ -1,11 +1,9 @@
 //! How a file is read, as a caller says it.
 
 ghost use Rattle.std.specs.Prelude.{◌≡◌};
-ghost use Rattle.goblin_pe_c_headers.specs.Options.{alignment_in, are_known, header_options};
-ghost use Rattle.goblin_pe_c_headers.specs.Options.{longest_of, maps_addresses, name_limit};
-ghost use Rattle.goblin_pe_c_headers.specs.Options.{options_at, options_in, view_of};
+ghost use Rattle.goblin_pe_c_headers.specs.Options.{are_known, header_options, longest_of};
+ghost use Rattle.goblin_pe_c_headers.specs.Options.{maps_addresses, name_limit, options_at, view_of};
 
-use goblin_pe_head::header::Header;
 use goblin_pe_sect::options::{ParseMode, ParseOptions, RawPointerRule, View};
 
 /// How RVAs are mapped to file offsets, and where the raw data of a section begins. The first three
@@ -127,30 +125,5 @@ pub fn options_at(options: &PeOptions, file_alignment: u32) -> ParseOptions
         resolve_rva: maps_addresses(options),
         raw_pointer_rule,
         ..header_options(options)
-    }
-}
-
-// The file alignment that the header of a file says; 0 where it says none, or can't be read.
-#[tactic(auto, unfolding(crate::specs::Options::alignment_in))]
-fn alignment_in(bytes: &[u8], options: &PeOptions) -> u32
-    ensures { result ≡ alignment_in options.now bytes.now }
-{
-    match Header::parse_with_opts(bytes, &header_options(options)) {
-        Ok(header) => match &header.optional_header {
-            Some(optional) => optional.windows_fields.file_alignment,
-            None => 0,
-        },
-        Err(_) => 0,
-    }
-}
-
-/// The options that a caller says, of a file whose header says its file alignment. The header is
-/// read only for the mappings that ask for it.
-pub fn options_in(bytes: &[u8], options: &PeOptions) -> ParseOptions
-    ensures { result ≡ options_in options.now bytes.now }
-{
-    match options.mapping {
-        0 | 1 => options_at(options, alignment_in(bytes, options)),
-        _ => options_at(options, 0),
     }
 }

@@ -10,5 +10,4 @@ pub mod LibraryEnds
 pub mod Named
 pub mod Placed
 pub mod SoundImages
-pub mod WalkedItems
 pub mod WrittenBack

@@ -5,9 +5,8 @@
 //! refusal as numbers.
 //!
 //! A call borrows the caller's bytes. Each text in a record is a slice of those bytes, as tests
-//! check, so no text is copied. The ranges of the bytes on which a file depends are handed over as
-//! memory that the caller frees; the other calls fill the caller's records, or write to its bytes.
-//! Headers and tables have the libraries' own records where these are plain.
+//! check, so no text is copied. Calls fill the caller's records, or write to its bytes, and hand over
+//! no memory. Headers and tables have the libraries' own records where these are plain.
 #![tactic(auto)]
 
 pub mod batch;
@@ -21,7 +20,6 @@ pub mod library;
 pub mod next;
 pub mod partial;
 pub mod places;
-pub mod ranges;
 pub mod read;
 pub mod steps;
 pub mod write_header;

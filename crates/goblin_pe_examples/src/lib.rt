@@ -8,5 +8,4 @@ pub mod imports;
 pub mod report;
 pub mod stamp;
 pub mod tables;
-pub mod verdict;
 pub mod write_execute;

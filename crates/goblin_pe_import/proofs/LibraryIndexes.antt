@@ -1,7 +1,7 @@
 -- The libraries of a directory with the indexes of their records, record by record.
 use Rattle.std.proofs.Common.{◌≡◌, ◌≤◌, ◌++◌, ◌∷◌, ℕ, zero, suc, Bool, true, false, List, [], Option, Some, None, length, map, cond, not, ◌&&◌, refl, sym, ap, ◌∙◌, arith, option_map, is_some, IfSome}
 use Rattle.std.specs.List.{filter, range_with_len}
-use Rattle.goblin_base.specs.{declared.error.ErrorOf.ErrorOf, Footprints.led_to}
+use Rattle.goblin_base.specs.{declared.error.ErrorOf.ErrorOf}
 use Rattle.goblin_base.specs.Answers.{◌>>=◌, FirstFault}
 use Rattle.goblin_base.specs.Tables.{Format, each_below, is_kept, join, kept_slots, made_of, slot_at, slot_table, stop}
 use Rattle.readings.specs.Reads.{in_its_place, with_slots}
@@ -206,25 +206,3 @@ module _ (strict : Bool) (format : Format EntryValue) (addressing : Addressing)
           (λ p. (read_past_front strict (numbered_libraries_at strict format addressing) p).IsCause bytes) e
       by None h = h
       by (Some p) h = if-cause (first_record_offset strict (Some p)) e h
-
-  if-reach : (p : Option ℕ)
-      → (read_if (libraries_at strict format addressing) p).reaches bytes
-      ≡ (read_if (numbered_libraries_at strict format addressing) p).reaches bytes
-  unfolding numbered_libraries_at
-  if-reach None = refl
-  if-reach (Some o) = refl
-
-  -- what is numbered reaches what import data does
-  pub numbered-reach : (rva : ℕ) → (import_data strict format addressing rva).reaches bytes
-      ≡ (numbered_data strict format addressing rva).reaches bytes
-  unfolding import_data numbered_data
-  numbered-reach rva = by (in_its_place strict 0 (addressing.offset rva))
-    where
-      by : (o : Option ℕ)
-          → [] ++ led_to o
-          (λ p. (read_past_front strict (libraries_at strict format addressing) p).reaches bytes)
-          ≡ [] ++ led_to o
-          (λ p.
-          (read_past_front strict (numbered_libraries_at strict format addressing) p).reaches bytes)
-      by None = refl
-      by (Some p) = if-reach (first_record_offset strict (Some p))

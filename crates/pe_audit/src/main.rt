@@ -13,7 +13,6 @@
 //! | `entered in code: yes` or `no` | whether its entry point lies in an executable section |
 //! | `writable code: N` | the name of a section that is writable and executable |
 //! | `header: D bytes` | the size of its header, written with another time stamp |
-//! | `known by its key: yes` or `no` | whether the key of a verdict on the file fits the file |
 //!
 //! There is one line `writable code` for each such section. N is its name, in which bytes are
 //! escaped as `pe_list` escapes them.
@@ -32,7 +31,6 @@ use goblin_pe_examples::forwarders::forwarders;
 use goblin_pe_examples::imports::imports_from;
 use goblin_pe_examples::report::report;
 use goblin_pe_examples::stamp::stamp;
-use goblin_pe_examples::verdict::Verdict;
 use goblin_pe_examples::write_execute::writable_code;
 use pe_listing::{push_name_bytes, shown_name};
 use std::alloc::Global;
@@ -112,9 +110,7 @@ fn show(rt: &HostRuntime, bytes: &[u8], library: &str) -> io::Result<()> {
         rt.println(line.as_str())?;
     }
     let size = kept(rt, stamped_size(alloc, bytes))?;
-    println!(rt; "header: {size} bytes")?;
-    let same = word(kept(rt, is_known(alloc, bytes))?);
-    println!(rt; "known by its key: {same}")
+    println!(rt; "header: {size} bytes")
 }
 
 fn word(yes: bool) -> &'static str {
@@ -135,10 +131,4 @@ fn stamped_size(alloc: Global, bytes: &[u8]) -> Answer<usize> {
     let size = Header::parse(bytes)?.size_with(Endian::Little)?;
     let mut out = vec![in alloc; 0; size]?;
     stamp(bytes, 0x1122_3344, &mut out)
-}
-
-// Whether the key of a verdict on the file fits the file.
-fn is_known(alloc: Global, bytes: &[u8]) -> Answer<bool> {
-    let verdict = Verdict::of(alloc, bytes)?;
-    Ok(verdict.again(bytes) == Some(true))
 }

@@ -4,7 +4,7 @@ use crate::answer::show_answer;
 use crate::sample::{LIBRARY, counting, no_exports};
 use crate::{laws, refused};
 use fixture::sample::{ALIGNMENT, EXPORTS, IMPORTS, LOOKUP, TABLE, TABLE_END, section};
-use goblin_pe::added::{FileKey, Layout, footprint_exports, footprint_header, footprint_whole};
+use goblin_pe::added::Layout;
 use goblin_pe::export::{Export, ExportData};
 use goblin_pe::import::{
     ImportData, SyntheticImportDirectoryEntry as Library, SyntheticImportLookupTableEntry as Lookup,
@@ -52,9 +52,6 @@ pub fn show_call(
         "index_of_no_alignment" => show_index(rt, 0, opts),
         "index_of_offsets" => show_index(rt, ALIGNMENT, &ParseOptions::te()),
         "whole" => show_answer(rt, Whole::read(alloc, file, opts)),
-        "footprint_header" => show_answer(rt, footprint_header(alloc, file)),
-        "footprint_whole" => show_answer(rt, footprint_whole(alloc, file, opts)),
-        "key" => show_answer(rt, key_of(alloc, file, opts)),
         "layout" => show_layout(rt, file, opts),
         "layout_of_many" => show_layout_of_many(rt, opts),
         "damage" => show_answer(rt, Whole::damage(alloc, file, opts)),
@@ -89,16 +86,6 @@ fn layout_by<'a>(
     };
     let address_map = AddressMap::of_records(alloc, mapped, View::Sections, ALIGNMENT, opts)?;
     Ok(Layout::by(&[], Places::of(&None), records, address_map))
-}
-
-// What is kept of the file: something that the file itself fits.
-fn key_of(alloc: Global, file: &[u8], opts: &ParseOptions) -> goblin_base::Result<Option<usize>> {
-    let key = FileKey::of(alloc, file, opts)?;
-    if key.fits(file) {
-        Ok(Some(file.len()))
-    } else {
-        Ok(None)
-    }
 }
 
 // The index of two sections; the second lies around the first.
@@ -166,10 +153,6 @@ fn show_exports(
         "exports" => show_answer(
             rt,
             read_exports(alloc, file, EXPORTS, sections, ALIGNMENT, opts),
-        ),
-        "footprint_exports" => show_answer(
-            rt,
-            footprint_exports(alloc, file, EXPORTS, sections, ALIGNMENT, opts),
         ),
         "exports_of_no_bytes" => show_answer(
             rt,

@@ -1,12 +1,10 @@
-//! The header of an image, and the footprint of a file.
+//! The header of an image.
 
 ghost use Rattle.std.specs.Prelude.{◌≤◌, IfOk, length};
 
 use crate::refused;
 use goblin_base::Endian;
-use goblin_pe::added::footprint_whole;
 use goblin_pe_head::Header;
-use goblin_pe_sect::ParseOptions;
 use std::io;
 use std::io::Write;
 
@@ -24,14 +22,4 @@ fn write_header(file: &[u8], written: &mut [u8]) -> goblin_base::Result<usize>
     let header = Header::parse(file)?;
     let size = header.try_into_ctx(written, Endian::Little)?;
     Ok(size)
-}
-
-/// Shows the ranges of the footprint of a file.
-pub fn show_footprint(rt: &HostRuntime, file: &[u8]) -> io::Result<()> {
-    let opts = ParseOptions::default();
-    let ranges = footprint_whole(rt.alloc(), file, &opts).map_err(refused)?;
-    for (begin, end) in &ranges {
-        println!(rt; "{begin:#x} {end:#x}")?;
-    }
-    Ok(())
 }

@@ -3,7 +3,6 @@
 use fixture::sample::{
     ALIGNMENT, EXPORTS, IMPORTS, LOOKUP, SAMPLE_LEN, directory, sample, sample_section,
 };
-use goblin_pe::added::{footprint_exports, footprint_header, footprint_whole};
 use goblin_pe::import::ImportDirectoryEntry;
 use goblin_pe::laws::{
     PartsOf, footprint_imports, twin_exports, twin_header, twin_imports, twin_lookup, twin_parts,
@@ -50,25 +49,16 @@ fn show_laws<'a>(rt: &HostRuntime, a: &'a [u8], b: &'a [u8], offset: usize) -> i
     show_both(rt, "header", twin_header(a, b, &opts))?;
     show_both(rt, "whole", twin_whole(alloc, a, b, &opts))?;
     show_parts(rt, a, b, offset)?;
-    show_footprints(rt, a)?;
-    show_footprints(rt, b)
+    show_footprint(rt, a)?;
+    show_footprint(rt, b)
 }
 
-fn show_footprints(rt: &HostRuntime, file: &[u8]) -> io::Result<()> {
+fn show_footprint(rt: &HostRuntime, file: &[u8]) -> io::Result<()> {
     let (alloc, sections) = (rt.alloc(), [sample_section()]);
     let opts = ParseOptions::default();
-    println!(rt; "footprint of header: {:?}", footprint_header(alloc, file))?;
     println!(rt;
         "footprint of imports: {:?}",
         footprint_imports::<u32>(alloc, file, IMPORTS, &sections, ALIGNMENT, &opts)
-    )?;
-    println!(rt;
-        "footprint of exports: {:?}",
-        footprint_exports(alloc, file, EXPORTS, &sections, ALIGNMENT, &opts)
-    )?;
-    println!(rt;
-        "footprint of whole: {:?}",
-        footprint_whole(alloc, file, &opts)
     )
 }
 

@@ -1,6 +1,6 @@
 //! What the examples make of a file.
 
-use fixture::sample::{SAMPLE_LEN, is_err, is_ok, put, put_all, sample};
+use fixture::sample::{is_err, is_ok, put, put_all, sample};
 use goblin_base::Error;
 use goblin_pe::Cause;
 use goblin_pe::export::{
@@ -14,7 +14,6 @@ use goblin_pe_examples::imports::imports_from;
 use goblin_pe_examples::tables::{
     count_entries, count_forwarders, count_imports, has_ordinal, name_pointer, value_at,
 };
-use goblin_pe_examples::verdict::Verdict;
 use std::alloc::{AllocError, Global};
 
 #[test]
@@ -35,22 +34,6 @@ fn imports(alloc: Global, library: &str) -> bool {
 fn the_library_of_an_import_is_found_by_its_case(rt: HostRuntime) {
     assert!(rt; imports(rt.alloc(), "a.dll"));
     assert!(rt; !imports(rt.alloc(), "A.dll"));
-}
-
-/// What the verdict on the sample file says of these bytes.
-fn verdict_on(alloc: Global, file: &[u8]) -> goblin_base::Result<Option<bool>> {
-    let verdict = Verdict::of(alloc, &sample())?;
-    Ok(verdict.again(file))
-}
-
-#[test]
-fn a_verdict_is_on_what_is_read(rt: HostRuntime) {
-    let mut file = sample();
-    // The time stamp is read, the last byte of the file is not.
-    put(&mut file, SAMPLE_LEN - 1, b"\xFF");
-    assert!(rt; is_ok(verdict_on(rt.alloc(), &file), &Some(true)));
-    put(&mut file, 0x48, b"\xFF");
-    assert!(rt; is_ok(verdict_on(rt.alloc(), &file), &None));
 }
 
 /// A Rich header of one entry, from its first marker to the key after its last, and the key alone.
