@@ -963,8 +963,13 @@ class Objects(unittest.TestCase):
         self.assertEqual(([*Image(DATA).symbols()], Image(DATA).symbol_at(0), Image(DATA).string_at(4)), ([], None, None))
 
     def test_a_symbol_has_auxiliary_records_of_its_kind_alone(self):
-        record = struct.pack("<IIIIH", 1, 2, 3, 4, 0)
+        record = struct.pack("<IHHIHBBH", 1, 2, 3, 4, 5, 6, 0, 0)
         kinds = AuxiliaryKind
+        fields = {
+            kinds.FUNCTION_DEFINITION: {"tag_index": 1, "total_size": 0x30002, "pointer_to_line_number": 4, "pointer_to_next_function": 0x60005},
+            kinds.BEGIN_AND_END_FUNCTION: {"line_number": 2, "pointer_to_next_function": 0x60005},
+            kinds.WEAK_EXTERNAL: {"tag_index": 1, "characteristics": 0x30002}, kinds.FILE: {"file": b"\1"},
+            kinds.SECTION_DEFINITION: {"length": 1, "number_of_relocations": 2, "number_of_line_numbers": 3, "checksum": 4, "number": 5, "selection": 6}}
         # (the storage class, the type, the section and the value)
         for row, wanted in (((2, 0x20, 1, 0x10), kinds.FUNCTION_DEFINITION), ((2, 0, 1, 0x10), None), ((101, 0, 1, 5), kinds.BEGIN_AND_END_FUNCTION),
                             ((105, 0, 0, 0), kinds.WEAK_EXTERNAL), ((2, 0, 0, 0), kinds.WEAK_EXTERNAL), ((2, 0, 0, 8), None),
@@ -975,8 +980,7 @@ class Objects(unittest.TestCase):
                 header = struct.pack("<HHIIIHH", 0x8664, 0, 0, 20, 2, 0, 0)
                 symbol, = Image.object(header + records + struct.pack("<I", 4)).symbols()
                 found = symbol.auxiliary()
-                self.assertEqual(found and found.kind, wanted)
-                self.assertEqual(found and wanted is kinds.FILE, found and found.file is not None)
+                self.assertEqual(found and {name: it for name, it in found._asdict().items() if it}, wanted and {"kind": wanted, **fields[wanted]})
                 self.assertIsNone(symbol._replace(aux_bytes=b"").auxiliary())
 
     def test_more_relocations_than_a_counter_says(self):

@@ -58,7 +58,7 @@ def object_lines(image: Image, budget: Budget) -> Iterator[str]:
     for it in image.symbols(budget):
         yield "symbol %d value=%d section=%d class=%d aux=%d name=%s" % (
             it.index, it.value, it.section_number, it.storage_class, it.number_of_aux_symbols, printable(it.name or b""))
-    for s in image.sections:
+    for s in image.section_headers(budget):
         if s.number_of_relocations:
             yield "relocations %s %d" % (printable(s.name), s.number_of_relocations)
 
