@@ -972,8 +972,9 @@ struct goblin_pe_memory {
    without a raw pointer (an object's .bss) has no bytes, and is zeros. If the file ends too early,
    `missing` says how many bytes it lacks, and no zeros follow.
 
-   The raw data begins as `image->options.mapping` says. `section` may be made by hand. With an
-   unknown mapping all is missing. Fills `*memory` in any case.
+   The raw data begins as `image->options.mapping` says, with `GOBLIN_PE_MAPPING_IDENTITY` at the
+   stored raw pointer. In a dump that is another place: use `goblin_pe_memory_at`. `section` may be
+   made by hand. With an unknown mapping all is missing. Fills `*memory` in any case.
 
    Returns whether nothing is missing. */
 bool goblin_pe_section_data(
@@ -997,8 +998,8 @@ GOBLIN_PE_MUST_USE struct goblin_pe_fault goblin_pe_set_name_offset(struct gobli
 /* Sets `*offset` to the file offset of an RVA, as `image->options.mapping` says. If several
    sections hold it, the first one counts. The offset may lie past the end of the file.
 
-   Returns whether the RVA has an offset. It has none outside of sections and mapped headers, in the
-   zeros after raw data, from 2^32 on, and if the file alignment is no power of two. */
+   Returns whether the RVA has an offset. If sections map RVAs, it has none outside of them and of
+   mapped headers, and in the zeros after raw data. */
 bool goblin_pe_find_offset(const struct goblin_pe_image *image, size_t rva, size_t *offset);
 
 /* Sets `*rva` to an RVA that `goblin_pe_find_offset` maps to this offset: that in the first section
@@ -1026,7 +1027,7 @@ bool goblin_pe_memory_at(
 /* Gives the text at an RVA, up to a NUL, the end of the file or `options.longest_name`. The
    section's end is not looked at. To read bytes that may not be UTF-8, use `goblin_pe_find_offset`.
 
-   Faults: UNMAPPED; READ if the offset is past the end, or the text is not UTF-8; OPTIONS. */
+   Faults: UNMAPPED; READ if the offset is at or past the end, or the text is not UTF-8; OPTIONS. */
 GOBLIN_PE_MUST_USE struct goblin_pe_fault goblin_pe_text_at(
     const struct goblin_pe_image *image, size_t rva, struct goblin_pe_slice *text);
 
