@@ -242,16 +242,17 @@ extern "C" {
 /* The number of this interface. A program and a library that declare different records or calls
    have different numbers. A program linked in C gets the matching library, or does not link.
    One that loads the library at run time compares the two numbers first. */
-#define GOBLIN_PE_INTERFACE 0x525a1e8fu
+#define GOBLIN_PE_INTERFACE 0x147e5674u
 uint32_t goblin_pe_interface(void);
 
 /* What follows .so. in the name of the shared library. */
-#define GOBLIN_PE_SONAME "5.525a1e8f"
+#define GOBLIN_PE_SONAME "5.147e5674"
 
 /* Only a library of this interface has this call. */
-uint32_t goblin_pe_interface_525a1e8f(void);
+uint32_t goblin_pe_interface_147e5674(void);
 #ifdef __GNUC__
-__attribute__((used)) static uint32_t (*const goblin_pe_needs_interface)(void) = goblin_pe_interface_525a1e8f;
+__attribute__((used)) static uint32_t (*const goblin_pe_needs_interface)(void) =
+    goblin_pe_interface_147e5674;
 #endif
 
 /* Calls that return a fault are marked, so that a compiler warns if you drop it. */
@@ -448,9 +449,11 @@ enum goblin_pe_read_fault {
 
 /* Why a call gave no value, in numbers; the status 0 is that it gave one. */
 struct goblin_pe_fault {
-    /* What kind of refusal it is, by the numbers of `goblin_pe_status`; 0 where nothing is refused. */
+    /* What kind of refusal it is, by the numbers of `goblin_pe_status`; 0 where nothing is
+       refused. */
     uint32_t status;
-    /* By the status a `goblin_pe_cause`, a `goblin_pe_counted` or a `goblin_pe_read_fault`; else 0. */
+    /* By the status a `goblin_pe_cause`, a `goblin_pe_counted` or a `goblin_pe_read_fault`; else
+       0. */
     uint32_t cause;
     /* The number that the cause, or else the status, calls `first`; else 0. */
     uint64_t first;
@@ -474,7 +477,8 @@ enum goblin_pe_kind {
     GOBLIN_PE_KIND_UNKNOWN = 0,
     /* An image, which begins with `MZ`. */
     GOBLIN_PE_KIND_IMAGE = 1,
-    /* An object, which begins with a machine, a `COFF_MACHINE_*` other than `COFF_MACHINE_UNKNOWN`. */
+    /* An object, which begins with a machine, a `COFF_MACHINE_*` other than
+       `COFF_MACHINE_UNKNOWN`. */
     GOBLIN_PE_KIND_OBJECT = 2,
     /* A Terse Executable, which begins with `VZ`. */
     GOBLIN_PE_KIND_TE = 3,
@@ -857,7 +861,8 @@ struct goblin_pe_te_header {
     /* The data directory of the base relocations, at 24. Its RVA is adjusted in a header that was
        parsed. */
     struct goblin_pe_data_directory reloc_dir;
-    /* The data directory of the debug data, at 32. Its RVA is adjusted in a header that was parsed. */
+    /* The data directory of the debug data, at 32. Its RVA is adjusted in a header that was
+       parsed. */
     struct goblin_pe_data_directory debug_dir;
 };
 
@@ -944,7 +949,8 @@ enum goblin_pe_region {
     GOBLIN_PE_REGION_UNMAPPED = 0,
     /* The headers. */
     GOBLIN_PE_REGION_HEADERS = 1,
-    /* The raw data of a section, in whole file blocks. With `GOBLIN_PE_MAPPING_IDENTITY`, the file. */
+    /* The raw data of a section, in whole file blocks. With `GOBLIN_PE_MAPPING_IDENTITY`, the
+       file. */
     GOBLIN_PE_REGION_RAW_DATA = 2,
     /* The zeros that follow the raw data of a section. */
     GOBLIN_PE_REGION_ZEROS = 3
@@ -991,9 +997,18 @@ GOBLIN_PE_MUST_USE struct goblin_pe_fault goblin_pe_write_section(
 /* Sets `stored_name` to a slash and a string table offset. The field `name` stays as it is.
 
    Faults: NAME_OFFSET if eight bytes can't hold the offset. */
-GOBLIN_PE_MUST_USE struct goblin_pe_fault goblin_pe_set_name_offset(struct goblin_pe_section *section, size_t offset);
+GOBLIN_PE_MUST_USE struct goblin_pe_fault goblin_pe_set_name_offset(
+    struct goblin_pe_section *section, size_t offset);
 
 /* ---- Addresses ----------------------------------------------------------------------------- */
+
+/* The calls that look up an RVA or a file offset of an image. They look the sections up in the
+   file, and take no memory.
+
+   They find nothing in an object or a TE file, at an RVA from 2^32 on, or if the options are
+   unknown. With `GOBLIN_PE_MAPPING_IDENTITY` any other RVA is its own offset, whatever the header
+   says. With another mapping they also find nothing if the file has no room for the section
+   headers, or if the file alignment is no power of two. */
 
 /* Sets `*offset` to the file offset of an RVA, as `image->options.mapping` says. If several
    sections hold it, the first one counts. The offset may lie past the end of the file.
@@ -1055,7 +1070,8 @@ struct goblin_pe_rich_cursor {
 
 /* Gives the next entries of the Rich header.
 
-   Faults: READ if the entries run past the end of the file, or the last bytes are no whole entry. */
+   Faults: READ if the entries run past the end of the file, or the last bytes are no whole
+   entry. */
 GOBLIN_PE_MUST_USE struct goblin_pe_fault goblin_pe_next_rich_entries(
     const struct goblin_pe_image *image, struct goblin_pe_rich_cursor *cursor,
     struct goblin_pe_rich_entry *entries, size_t room, struct goblin_pe_batch *batch);

@@ -3,7 +3,7 @@ import ctypes as c
 from typing import Any, Dict, List, Tuple
 
 # The number of this interface.
-INTERFACE = 0x525a1e8f
+INTERFACE = 0x147e5674
 
 
 class Slice(c.Structure):

@@ -10,11 +10,11 @@ use crate::headers::{
 };
 
 /// The number of this interface.
-pub const INTERFACE: u32 = 0x525a_1e8f;
+pub const INTERFACE: u32 = 0x147e_5674;
 
 // Programs link only with a library of this interface, as no other one has this call.
 #[used]
-static NEEDS_INTERFACE: extern "C" fn() -> u32 = goblin_pe_interface_525a1e8f;
+static NEEDS_INTERFACE: extern "C" fn() -> u32 = goblin_pe_interface_147e5674;
 
 /// Bytes of the file.
 #[repr(C)]
@@ -754,7 +754,7 @@ const _: () = {
 #[rustfmt::skip]
 unsafe extern "C" {
     pub safe fn goblin_pe_interface() -> u32;
-    safe fn goblin_pe_interface_525a1e8f() -> u32;
+    safe fn goblin_pe_interface_147e5674() -> u32;
     pub safe fn goblin_pe_fault_string(fault: &Fault, text: &mut [u8; 256]) -> *const u8;
     pub fn goblin_pe_free_footprint(footprint: &mut Footprint);
     pub safe fn goblin_pe_checksum<'a>(image: &Image<'a>, sum: &mut u32) -> bool;

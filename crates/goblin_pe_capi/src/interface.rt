@@ -6,15 +6,15 @@ ghost use Rattle.std.specs.Prelude.{◌≡◌};
 /// The number of this interface. A caller that declares another one has another number.
 #[unsafe(no_mangle)]
 pub extern "C" fn goblin_pe_interface() -> u32
-    ensures { result ≡ 1381637775 }
+    ensures { result ≡ 343823988 }
 {
-    1_381_637_775
+    343_823_988
 }
 
 /// The same, by a name that no other interface has, with which programs in C are linked.
 #[unsafe(no_mangle)]
-pub extern "C" fn goblin_pe_interface_525a1e8f() -> u32
-    ensures { result ≡ 1381637775 }
+pub extern "C" fn goblin_pe_interface_147e5674() -> u32
+    ensures { result ≡ 343823988 }
 {
-    1_381_637_775
+    343_823_988
 }
