@@ -5,8 +5,10 @@ import struct
 import unittest
 
 from tests import images
-from tests.bindings import Walk, calls, error_of, image_of, package, records, refusal, test, value
-from tests.programs import BY_NAME, CC, need
+from tests.bindings import Walk, calls, error_of, image_of, options, package, records, refusal, test, value
+from tests.programs import BY_NAME, CC, OBJECTS, TERSE, need
+
+UNMAPPED = 22  # The cause of a call for an address without a file offset.
 
 # The parts of a small file with a Rich header, by their offsets: one entry under the key 1, before a signature.
 SMALL = [(0, b"MZ"), (0x3C, b"\x60"), (0x40, b"\x45\x61\x6E\x53\x01\0\0\0\x01\0\0\0\x01\0\0\0"),
@@ -265,6 +267,17 @@ def available(memory):
     return None if memory.region == package().Region.UNMAPPED else (memory.data, memory.zeros)
 
 
+def found_at(data, rva, mapping=0, read="read_image"):
+    """The look-ups that find something at an address, or at an offset of the same number."""
+    it, number, memory = image_of(data, options(mapping=mapping), read)[0], ctypes.c_size_t(), records().Memory()
+    calls().goblin_pe_memory_at(ctypes.byref(it), rva, 8, ctypes.byref(memory))
+    found = {"memory_at": memory.region or memory.missing < 8}
+    for call, result in ("find_offset", number), ("find_rva", number), ("text_at", records().Slice()), ("forwarder_at", records().Forwarder()):
+        answer = getattr(calls(), f"goblin_pe_{call}")(ctypes.byref(it), rva, ctypes.byref(result))
+        found[call] = answer if isinstance(answer, bool) else answer.cause != UNMAPPED
+    return [call for call in found if found[call]]
+
+
 def seen(memory):
     """As available, but None also if something that was asked for is missing."""
     return None if memory.missing else available(memory)
@@ -427,6 +440,23 @@ class Tables(unittest.TestCase):
         dump = found.with_options(how("IDENTITY"))
         self.assertEqual(available(dump.memory_at(0x210, 99)), (b"stored", 0))
         self.assertEqual(available(dump.memory_at(len(dump.data), 1)), None)
+
+    def test_nothing_is_found_where_nothing_is_mapped(self):
+        """In objects and Terse Executables; and, if sections map addresses, in images whose file alignment is no power of two."""
+        data = BY_NAME.read_bytes()
+        uneven = images.with_parts(data, (struct.unpack_from("<I", data, 60)[0] + 60, struct.pack("<I", 0xC2000200)))
+        for mapping, rva in itertools.product(range(4), (0, 8, 0x280, 0xEA8, 0x1000, 0x1030)):
+            with self.subTest(mapping=mapping, rva=hex(rva)):
+                self.assertEqual(found_at(OBJECTS[0].read_bytes(), rva, mapping, "read_object"), [])
+                self.assertEqual(found_at(TERSE[0].read_bytes(), rva, mapping, "read_te"), [])
+                self.assertEqual(found_at(uneven, rva, mapping) != [], mapping == 3)
+        self.assertEqual([len(found_at(data, 0x1030, mapping)) for mapping in range(4)], [4] * 4)
+
+    def test_addresses_end_at_4_gib(self):
+        last = with_sections([(0xFFFFF000, 0x2000, 0x2000, 0x200)]) + bytes(0x3000)
+        self.assertEqual([found_at(last, rva) != [] for rva in (0xFFFFFFF8, 1 << 32, (1 << 32) + 8)], [True, False, False])
+        memory = package().Image(last).memory_at(0xFFFFFFF8, 24)
+        self.assertEqual((memory.data, memory.zeros, memory.missing), (bytes(8), 0, 16))
 
     def test_where_an_address_lies(self):
         headers = with_sections(IN_MEMORY)

@@ -237,16 +237,17 @@ extern "C" {
    have different numbers. A program linked in C gets the matching library, or does not link.
    One that loads the library at run time defines GOBLIN_PE_LOADED_AT_RUN_TIME before it includes
    this header, and compares the two numbers first. */
-#define GOBLIN_PE_INTERFACE 0x1cdedd26u
+#define GOBLIN_PE_INTERFACE 0x022b15e8u
 uint32_t goblin_pe_interface(void);
 
 /* What follows .so. in the name of the shared library. */
-#define GOBLIN_PE_SONAME "5.1cdedd26"
+#define GOBLIN_PE_SONAME "5.022b15e8"
 
 /* Only a library of this interface has this call. */
-uint32_t goblin_pe_interface_1cdedd26(void);
+uint32_t goblin_pe_interface_022b15e8(void);
 #if defined(__GNUC__) && !defined(GOBLIN_PE_LOADED_AT_RUN_TIME)
-__attribute__((used)) static uint32_t (*const goblin_pe_needs_interface)(void) = goblin_pe_interface_1cdedd26;
+__attribute__((used)) static uint32_t (*const goblin_pe_needs_interface)(void) =
+    goblin_pe_interface_022b15e8;
 #endif
 
 /* Calls that return a fault are marked, so that a compiler warns if you drop it. */
@@ -285,7 +286,8 @@ enum goblin_pe_mapping {
        at least 512, and the headers are mapped at RVA 0. The default: packers hide imports from
        readers that map otherwise. */
     GOBLIN_PE_MAPPING_AS_LOADED = 0,
-    /* As pefile maps: the same, without the headers. */
+    /* The same, without the headers. pefile maps so, but it also sorts the sections by their
+       addresses, and ends each where the next begins. */
     GOBLIN_PE_MAPPING_BY_FILE_ALIGNMENT = 1,
     /* As goblin maps: the raw pointer is taken as stored; no headers. A section may reach up to 511
        bytes too far if its raw pointer is not a multiple of 512. */
@@ -296,23 +298,24 @@ enum goblin_pe_mapping {
 
 /* How an image is read. Zeros are the defaults. */
 struct goblin_pe_options {
-    /* A `goblin_pe_mapping`. The calls that read a header or look up an address refuse another
-       number: `GOBLIN_PE_STATUS_OPTIONS`, or false. The other walks look at no address, and do not
-       test it. */
+    /* A `goblin_pe_mapping`. If it is another number, calls that read a header or find a table by
+       its address return `GOBLIN_PE_STATUS_OPTIONS`, and look-ups find nothing. The other walks
+       look at no address, and do not test it. */
     uint32_t mapping;
-    /* How many bytes of a name are read; 0 is no limit. A longer name is cut after the character
-       that reaches past the limit. So a name that is longer than the limit was cut. The rest is not
-       tested: it may not be UTF-8. The limit holds for the names of DLLs, imports, exports and
-       symbols, for section names in a string table, for forwarders and for texts at an RVA. A
-       forwarder is cut as one text; its export name may then be empty. */
+    /* How many bytes of a name are read; 0 is no limit. A longer name ends with the character that
+       passes the limit, and is whole only if that is its last. What follows is not tested: it may
+       not be UTF-8. The limit holds for the names of DLLs, imports and exports, for names in a
+       string table, for forwarders and for texts at an RVA. A forwarder is cut as one text; its
+       export name may then be empty. */
     uint32_t longest_name;
     /* Whether damaged parts are skipped, and not refused. The damage of an image says what was
-       skipped. Neither mode reads a file without a complete header and section table, an optional
-       header of an unknown magic, more than sixteen data directories, a section name of a slash and
-       no number, or a Rich marker without DanS; a partial read does. */
+       skipped. Neither mode reads a file that has one of these; a partial read does: a header or a
+       section table that is cut off, an optional header of an unknown magic, more than sixteen data
+       directories, a section name of a slash and no number, or a marker Rich with no marker DanS
+       before it or with a broken word between them. */
     bool is_permissive;
-    /* Zeros, because later versions may have options here. What refuses an unknown mapping refuses
-       other bytes here, too. */
+    /* Zeros, because later versions may have options here. Other bytes count as an unknown
+       mapping. */
     uint8_t reserved[3];
 };
 
@@ -342,9 +345,10 @@ enum goblin_pe_status {
 };
 
 /* What is wrong with a file. `first` and `second` are the two numbers of the cause; offsets are
-   file offsets in bytes. */
+   file offsets in bytes. No call returns MESSAGE, DIRECTORY_INDEX, SYMBOL_NAME or SLOT_COUNT, which
+   are errors in Rattle alone. */
 enum goblin_pe_cause {
-    /* A message of a caller's own, in Rattle alone. */
+    /* A message of a caller's own. */
     GOBLIN_PE_CAUSE_MESSAGE = 1,
     /* The file is too short for the DOS signature. */
     GOBLIN_PE_CAUSE_NO_DOS_SIGNATURE = 2,
@@ -385,7 +389,7 @@ enum goblin_pe_cause {
     /* A symbol has no name: there is no text at offset `first` of the string table, or the stored
        offset is `first`, below 4. */
     GOBLIN_PE_CAUSE_SYMBOL_NAME = 19,
-    /* A string table at offset `first`, of `second` bytes, would pass the file. */
+    /* The texts of a string table, `second` bytes at offset `first`, would pass the file. */
     GOBLIN_PE_CAUSE_STRING_TABLE = 20,
     /* A Windows field of 64 bits has a value that does not fit 32. */
     GOBLIN_PE_CAUSE_FIELD_TOO_WIDE = 21,
@@ -443,9 +447,11 @@ enum goblin_pe_read_fault {
 
 /* Why a call gave no value, in numbers; the status 0 is that it gave one. */
 struct goblin_pe_fault {
-    /* What kind of refusal it is, by the numbers of `goblin_pe_status`; 0 where nothing is refused. */
+    /* What kind of refusal it is, by the numbers of `goblin_pe_status`; 0 where nothing is
+       refused. */
     uint32_t status;
-    /* By the status a `goblin_pe_cause`, a `goblin_pe_counted` or a `goblin_pe_read_fault`; else 0. */
+    /* By the status a `goblin_pe_cause`, a `goblin_pe_counted` or a `goblin_pe_read_fault`; else
+       0. */
     uint32_t cause;
     /* The number that the cause, or else the status, calls `first`; else 0. */
     uint64_t first;
@@ -469,7 +475,8 @@ enum goblin_pe_kind {
     GOBLIN_PE_KIND_UNKNOWN = 0,
     /* An image, which begins with `MZ`. */
     GOBLIN_PE_KIND_IMAGE = 1,
-    /* An object, which begins with a machine, a `COFF_MACHINE_*` other than `COFF_MACHINE_UNKNOWN`. */
+    /* An object, which begins with a machine, a `COFF_MACHINE_*` other than
+       `COFF_MACHINE_UNKNOWN`. */
     GOBLIN_PE_KIND_OBJECT = 2,
     /* A Terse Executable, which begins with `VZ`. */
     GOBLIN_PE_KIND_TE = 3,
@@ -852,7 +859,8 @@ struct goblin_pe_te_header {
     /* The data directory of the base relocations, at 24. Its RVA is adjusted in a header that was
        parsed. */
     struct goblin_pe_data_directory reloc_dir;
-    /* The data directory of the debug data, at 32. Its RVA is adjusted in a header that was parsed. */
+    /* The data directory of the debug data, at 32. Its RVA is adjusted in a header that was
+       parsed. */
     struct goblin_pe_data_directory debug_dir;
 };
 
@@ -939,7 +947,8 @@ enum goblin_pe_region {
     GOBLIN_PE_REGION_UNMAPPED = 0,
     /* The headers. */
     GOBLIN_PE_REGION_HEADERS = 1,
-    /* The raw data of a section, in whole file blocks. With `GOBLIN_PE_MAPPING_IDENTITY`, the file. */
+    /* The raw data of a section, in whole file blocks. With `GOBLIN_PE_MAPPING_IDENTITY`, the
+       file. */
     GOBLIN_PE_REGION_RAW_DATA = 2,
     /* The zeros that follow the raw data of a section. */
     GOBLIN_PE_REGION_ZEROS = 3
@@ -967,8 +976,9 @@ struct goblin_pe_memory {
    without a raw pointer (an object's .bss) has no bytes, and is zeros. If the file ends too early,
    `missing` says how many bytes it lacks, and no zeros follow.
 
-   The raw data begins as `image->options.mapping` says. `section` may be made by hand. With an
-   unknown mapping all is missing. Fills `*memory` in any case.
+   The raw data begins as `image->options.mapping` says, with `GOBLIN_PE_MAPPING_IDENTITY` at the
+   stored raw pointer. In a dump that is another place: use `goblin_pe_memory_at`. `section` may be
+   made by hand. With an unknown mapping all is missing. Fills `*memory` in any case.
 
    Returns whether nothing is missing. */
 bool goblin_pe_section_data(
@@ -985,15 +995,24 @@ GOBLIN_PE_MUST_USE struct goblin_pe_fault goblin_pe_write_section(
 /* Sets `stored_name` to a slash and a string table offset. The field `name` stays as it is.
 
    Faults: NAME_OFFSET if eight bytes can't hold the offset. */
-GOBLIN_PE_MUST_USE struct goblin_pe_fault goblin_pe_set_name_offset(struct goblin_pe_section *section, size_t offset);
+GOBLIN_PE_MUST_USE struct goblin_pe_fault goblin_pe_set_name_offset(
+    struct goblin_pe_section *section, size_t offset);
 
 /* ---- Addresses ----------------------------------------------------------------------------- */
+
+/* The calls that look up an RVA or a file offset of an image. They look the sections up in the
+   file, and take no memory.
+
+   They find nothing in an object or a TE file, at an RVA from 2^32 on, or if the options are
+   unknown. With `GOBLIN_PE_MAPPING_IDENTITY` any other RVA is its own offset, whatever the header
+   says. With another mapping they also find nothing if the file has no room for the section
+   headers, or if the file alignment is no power of two. */
 
 /* Sets `*offset` to the file offset of an RVA, as `image->options.mapping` says. If several
    sections hold it, the first one counts. The offset may lie past the end of the file.
 
-   Returns whether the RVA has an offset. It has none outside of sections and mapped headers, in the
-   zeros after raw data, from 2^32 on, and if the file alignment is no power of two. */
+   Returns whether the RVA has an offset. If sections map RVAs, it has none outside of them and of
+   mapped headers, and in the zeros after raw data. */
 bool goblin_pe_find_offset(const struct goblin_pe_image *image, size_t rva, size_t *offset);
 
 /* Sets `*rva` to an RVA that `goblin_pe_find_offset` maps to this offset: that in the first section
@@ -1021,7 +1040,7 @@ bool goblin_pe_memory_at(
 /* Gives the text at an RVA, up to a NUL, the end of the file or `options.longest_name`. The
    section's end is not looked at. To read bytes that may not be UTF-8, use `goblin_pe_find_offset`.
 
-   Faults: UNMAPPED; READ if the offset is past the end, or the text is not UTF-8; OPTIONS. */
+   Faults: UNMAPPED; READ if the offset is at or past the end, or the text is not UTF-8; OPTIONS. */
 GOBLIN_PE_MUST_USE struct goblin_pe_fault goblin_pe_text_at(
     const struct goblin_pe_image *image, size_t rva, struct goblin_pe_slice *text);
 
@@ -1049,7 +1068,8 @@ struct goblin_pe_rich_cursor {
 
 /* Gives the next entries of the Rich header.
 
-   Faults: READ if the entries run past the end of the file, or the last bytes are no whole entry. */
+   Faults: READ if the entries run past the end of the file, or the last bytes are no whole
+   entry. */
 GOBLIN_PE_MUST_USE struct goblin_pe_fault goblin_pe_next_rich_entries(
     const struct goblin_pe_image *image, struct goblin_pe_rich_cursor *cursor,
     struct goblin_pe_rich_entry *entries, size_t room, struct goblin_pe_batch *batch);
@@ -1090,7 +1110,8 @@ struct goblin_pe_import {
     /* The name; empty if it is imported by ordinal, or permissive mode could not read the name. To
        see the bytes of such a name, look up the file offset of `hint_name_rva` + 2. */
     struct goblin_pe_slice name;
-    /* The name of the DLL; empty if permissive mode could not read it. */
+    /* The name of the DLL; empty if it can't be read, in permissive mode or in a walk over one
+       library. */
     struct goblin_pe_slice dll;
     /* The RVA of its thunk in the import address table, where the loader puts the address. */
     size_t iat_rva;
@@ -1289,8 +1310,8 @@ struct goblin_pe_export_directory {
 /* Reads the export directory table. It is not present if the image has none, or if permissive mode
    skips a damaged one.
 
-   Faults: in strict mode a damaged export directory; else as `goblin_pe_next_imports`, but no
-   STEPS. */
+   Faults: in strict mode a damaged export directory, whatever its number of name pointers is; else
+   as `goblin_pe_next_imports`, but no STEPS. */
 GOBLIN_PE_MUST_USE struct goblin_pe_fault goblin_pe_read_export_directory(
     const struct goblin_pe_image *image, struct goblin_pe_export_directory *directory);
 
@@ -1309,7 +1330,8 @@ struct goblin_pe_export_address {
     size_t rva;
     /* The file offset of `rva`, if it has one; else 0. */
     size_t offset;
-    /* Whether it is forwarded: its text can be read at `rva`. */
+    /* Whether it is forwarded: `rva` lies in the export directory. `goblin_pe_forwarder_at` reads
+       where to. */
     bool is_forwarder;
     /* Whether `rva` has a file offset. */
     bool has_offset;
@@ -1466,37 +1488,37 @@ enum goblin_pe_auxiliary_kind {
 
 /* The first auxiliary record of a symbol: the fields of its kind; all others are zeros. */
 struct goblin_pe_auxiliary {
-    /* `FunctionDefinition`: the index of the symbol at the function's beginning. `WeakExternal`:
-       the index of the symbol that replaces it. */
+    /* FUNCTION_DEFINITION: the index of the symbol at the function's beginning. WEAK_EXTERNAL: the
+       index of the symbol that replaces it. */
     uint32_t tag_index;
-    /* `FunctionDefinition`. */
+    /* FUNCTION_DEFINITION. */
     uint32_t total_size;
-    /* `FunctionDefinition`. */
+    /* FUNCTION_DEFINITION. */
     uint32_t pointer_to_line_number;
-    /* `FunctionDefinition`, `BeginAndEndFunction`. */
+    /* FUNCTION_DEFINITION, BEGIN_AND_END_FUNCTION. */
     uint32_t pointer_to_next_function;
-    /* `BeginAndEndFunction`. */
+    /* BEGIN_AND_END_FUNCTION. */
     uint16_t line_number;
-    /* `SectionDefinition`: the section that this one goes with, from 1. */
+    /* SECTION_DEFINITION: the section that this one goes with, from 1. */
     uint16_t number;
-    /* `SectionDefinition`. */
+    /* SECTION_DEFINITION. */
     uint32_t length;
-    /* `SectionDefinition`. */
+    /* SECTION_DEFINITION. */
     uint32_t checksum;
-    /* `SectionDefinition`. */
+    /* SECTION_DEFINITION. */
     uint16_t number_of_relocations;
-    /* `SectionDefinition`. */
+    /* SECTION_DEFINITION. */
     uint16_t number_of_line_numbers;
-    /* `SectionDefinition`: an `IMAGE_COMDAT_SELECT_*`. */
+    /* SECTION_DEFINITION: an `IMAGE_COMDAT_SELECT_*`. */
     uint8_t selection;
     /* Zeros. */
     uint8_t reserved[3];
-    /* `WeakExternal`: an `IMAGE_WEAK_EXTERN_SEARCH_*`. */
+    /* WEAK_EXTERNAL: an `IMAGE_WEAK_EXTERN_SEARCH_*`. */
     uint32_t characteristics;
-    /* `File`: the name of the source file. If it begins with four zeros it is in the string table,
-       at `string_offset`. */
+    /* FILE: the name of the source file. If it begins with four zeros it is in the string table, at
+       `string_offset`. */
     struct goblin_pe_slice file;
-    /* `File`: where the name is in the string table; else 0. */
+    /* FILE: where the name is in the string table; else 0. */
     uint32_t string_offset;
     /* Zero. */
     uint32_t reserved2;

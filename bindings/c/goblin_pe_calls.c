@@ -693,6 +693,7 @@ struct goblin_pe_fault goblin_pe_raw_set_name_offset(
     struct goblin_pe_section *section, size_t offset);
 struct goblin_pe_fault goblin_pe_set_name_offset(struct goblin_pe_section *section, size_t offset)
 {
+    sound_section(section, section);
     return goblin_pe_raw_set_name_offset(section, offset);
 }
 

@@ -1,5 +1,5 @@
-/* The numbers of the PE and COFF formats, by goblin's names, which are mostly the formats' own, after
-   GOBLIN_PE_. The libraries declare them as constants.
+/* The numbers of the PE and COFF formats, by goblin's names after GOBLIN_PE_. Most names are the
+   formats' own. The libraries declare them as constants.
    bindings/generate.py makes this file of what the proved crates declare. */
 #ifndef GOBLIN_PE_CONSTANTS_H
 #define GOBLIN_PE_CONSTANTS_H

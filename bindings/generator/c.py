@@ -26,6 +26,8 @@ PARTS = (
     ("Damage, checksum", "Damage read_damage checksum"),
     ("Writing a header", "write_header"),
 )
+# The files of calls that say something of all calls of a part.
+ABOUT = {"Addresses": "look_up"}
 # The call by hand, with that of the library below it.
 BY_HAND = {"fault_string": "fault_text"}
 
@@ -71,11 +73,11 @@ def taken(p: Item) -> List[str]:
     return [kind(p.type) + " " + p.name]
 
 
-def prototype(c: Declared, name: str, end: str) -> str:
-    """The declaration of a call by this name."""
+def prototype(c: Declared, name: str, end: str, before: str = "") -> str:
+    """The declaration of a call by this name, after an attribute."""
     rows = ", ".join(row for p in c.items for row in taken(p)) or "void"
-    head = "%s %s(" % (kind(c.answer), name)
-    if len(head + rows) <= 98:
+    head = "%s%s %s(" % (before, kind(c.answer), name)
+    if len(head + rows + end) <= 99:
         return head + rows + ")" + end
     whole = re.sub("(?<!,) ", "\0", rows)  # (a parameter stays on its line)
     return head + "\n" + textwrap.fill(whole + ")" + end, 100, initial_indent="    ", subsequent_indent="    ").replace("\0", " ")
@@ -83,7 +85,7 @@ def prototype(c: Declared, name: str, end: str) -> str:
 
 def call(it: Interface, c: Declared) -> str:
     must_use = "GOBLIN_PE_MUST_USE " * (c.answer.name == "Fault")
-    return comment(it, c.doc) + must_use + prototype(c, c.name, ";") + "\n"
+    return comment(it, c.doc) + prototype(c, c.name, ";", must_use) + "\n"
 
 
 def parts(it: Interface) -> str:
@@ -93,6 +95,8 @@ def parts(it: Interface) -> str:
     made = ""
     for title, names in PARTS:
         made += "/* ---- %s %s */\n\n" % (title, "-" * (86 - len(title)))
+        if title in ABOUT:
+            made += comment(it, it.about[ABOUT[title]]) + "\n"
         for name in names.split():
             if name not in left:
                 raise Refused("no declaration of %s" % name)
@@ -153,6 +157,9 @@ def shim(it: Interface, c: Declared) -> str:
         elif p.name == "steps":
             before += "    size_t no_limit = SIZE_MAX;\n"
             arguments.append("steps ? steps : &no_limit")
+        elif is_tested(it, p) and p.type.is_written:
+            before += "    sound_%s(%s, %s);\n" % (snake(p.type.name), p.name, p.name)
+            arguments.append(p.name)
         elif is_tested(it, p):
             before += "    struct %s its_%s;\n" % (c_name(p.type.name), p.name)
             arguments.append("sound_%s(%s, &its_%s)" % (snake(p.type.name), p.name, p.name))
@@ -168,8 +175,9 @@ def shim(it: Interface, c: Declared) -> str:
 
 
 def is_tested(it: Interface, p: Item) -> bool:
-    """Whether a parameter is a record that is read, with slices."""
-    return p.type.is_reference and not p.type.is_written and p.type.name in it.records and bool(slices(it, p.type.name, ""))
+    """Whether a parameter is a record that is read, with slices. One that a call fills can hold slices of the file."""
+    is_read = p.type.is_reference and not (p.type.is_written and p.type.lives)
+    return is_read and p.type.name in it.records and bool(slices(it, p.type.name, ""))
 
 
 def c_files(it: Interface) -> Dict[str, str]:
@@ -240,7 +248,8 @@ uint32_t goblin_pe_interface(void);
 /* Only a library of this interface has this call. */
 uint32_t goblin_pe_interface_SUM_OF(void);
 #if defined(__GNUC__) && !defined(GOBLIN_PE_LOADED_AT_RUN_TIME)
-__attribute__((used)) static uint32_t (*const goblin_pe_needs_interface)(void) = goblin_pe_interface_SUM_OF;
+__attribute__((used)) static uint32_t (*const goblin_pe_needs_interface)(void) =
+    goblin_pe_interface_SUM_OF;
 #endif
 
 /* Calls that return a fault are marked, so that a compiler warns if you drop it. */
@@ -284,8 +293,8 @@ const char *goblin_pe_fault_string(const struct goblin_pe_fault *fault, char tex
 }
 """
 
-C_CONSTANTS = """/* The numbers of the PE and COFF formats, by goblin's names, which are mostly the formats' own, after
-   GOBLIN_PE_. The libraries declare them as constants.
+C_CONSTANTS = """/* The numbers of the PE and COFF formats, by goblin's names after GOBLIN_PE_. Most names are the
+   formats' own. The libraries declare them as constants.
    %s */
 #ifndef GOBLIN_PE_CONSTANTS_H
 #define GOBLIN_PE_CONSTANTS_H

@@ -163,6 +163,11 @@ def call_of(doc: str, text: str) -> Declared:
                     [Item(it, type_of(kind), "") for it, kind in pairs if kind != "Global"], type_of(answer))
 
 
+def about(source: str) -> str:
+    """What a file says of itself."""
+    return "\n".join(re.findall("^//! ?(.*)$", source, re.M))
+
+
 def constants_of(path: str) -> Declared:
     """The constants of a file, which declares nothing else but facts of them."""
     source = (CRATES / (path + ".rt")).read_text("utf-8")
@@ -173,7 +178,7 @@ def constants_of(path: str) -> Declared:
             items.append(Item(found[1], type_of(found[2]), doc, found[3]))
         elif not text.startswith("const _: () = prove!("):
             raise Refused("%s declares %s" % (path, text))
-    return Declared(path, "\n".join(re.findall("^//! ?(.*)$", source, re.M)), items)
+    return Declared(path, about(source), items)
 
 
 def sizes_of(crates: List[str]) -> Declared:
@@ -208,6 +213,7 @@ class Interface:
             self._reach(item.type)
         self.constants = [*map(constants_of, CONSTANTS), sizes_of(crates_of(LIBRARY))]
         self.enums = {named(name): self.enums[named(name)] for name in ENUMS}
+        self.about = {it.stem: about(it.read_text("utf-8")) for it in (CRATES / LIBRARY / "src").glob("*.rt")}
 
     def _take(self, doc: str, marks: str, text: str) -> None:
         # takes a declaration up, if it is one of the interface
@@ -258,7 +264,8 @@ class Interface:
         following = following or first
         lines: List[str] = []
         known = {*self.records, *self.enums}
-        for paragraph in re.split("\n{2,}", doc):
+        last = end.rstrip("\n")
+        for paragraph in re.split("\n{2,}", doc + last.replace(" ", "\0")):  # (what ends it stays on the line of its last word)
             lines += [following.rstrip()] * bool(lines)
             begin = following if lines else first
             if paragraph.startswith("    "):
@@ -271,4 +278,4 @@ class Interface:
                 hang = "  " if item.startswith("- ") else ""
                 lines += textwrap.wrap(" ".join(item.split()), 100, initial_indent=following if lines else first,
                                        subsequent_indent=following + hang, break_on_hyphens=False, break_long_words=False)
-        return "\n".join(lines) + end
+        return "\n".join(lines).replace("\0", " ") + end[len(last):]

@@ -228,6 +228,7 @@ static void check_no_bytes(void)
 {
     struct goblin_pe_image image = { .kind = 77 };
     struct goblin_pe_header_faults faults;
+    struct goblin_pe_section section = { 0 };
     struct goblin_pe_te_header header;
     char text[GOBLIN_PE_FAULT_ROOM];
     struct goblin_pe_fault fault = goblin_pe_read_image(NULL, 0, NULL, &image);
@@ -238,6 +239,8 @@ static void check_no_bytes(void)
     EXPECT(goblin_pe_read_partial_image(NULL, 0, NULL, &image, &faults).cause == fault.cause);
     EXPECT(image.kind == GOBLIN_PE_KIND_IMAGE && !image.section_count && faults.dos_header.cause == fault.cause);
     EXPECT(goblin_pe_kind_of(NULL, 0) == GOBLIN_PE_KIND_UNKNOWN);
+    EXPECT_OK(goblin_pe_set_name_offset(&section, 4));
+    EXPECT(section.name.bytes && !section.name.length);
     EXPECT(goblin_pe_interface() == GOBLIN_PE_INTERFACE && goblin_pe_needs_interface() == GOBLIN_PE_INTERFACE);
 }
 

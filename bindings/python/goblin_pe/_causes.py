@@ -4,10 +4,11 @@ from ._number import Number
 
 class Cause(Number):
     """What is wrong with a file. `first` and `second` are the two numbers of the cause; offsets are file
-    offsets in bytes."""
+    offsets in bytes. No call returns MESSAGE, DIRECTORY_INDEX, SYMBOL_NAME or SLOT_COUNT, which are
+    errors in Rattle alone."""
 
     MESSAGE = 1
-    """A message of a caller's own, in Rattle alone."""
+    """A message of a caller's own."""
     NO_DOS_SIGNATURE = 2
     """The file is too short for the DOS signature."""
     DOS_MAGIC = 3
@@ -47,7 +48,7 @@ class Cause(Number):
     """A symbol has no name: there is no text at offset `first` of the string table, or the stored offset
     is `first`, below 4."""
     STRING_TABLE = 20
-    """A string table at offset `first`, of `second` bytes, would pass the file."""
+    """The texts of a string table, `second` bytes at offset `first`, would pass the file."""
     FIELD_TOO_WIDE = 21
     """A Windows field of 64 bits has a value that does not fit 32."""
     UNMAPPED = 22

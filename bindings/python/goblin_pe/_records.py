@@ -3,7 +3,7 @@ import ctypes as c
 from typing import Any, Dict, List, Tuple
 
 # The number of this interface.
-INTERFACE = 0x1cdedd26
+INTERFACE = 0x022b15e8
 
 
 class Slice(c.Structure):

@@ -10,11 +10,11 @@ use crate::headers::{
 };
 
 /// The number of this interface.
-pub const INTERFACE: u32 = 0x1cde_dd26;
+pub const INTERFACE: u32 = 0x022b_15e8;
 
 // Programs link only with a library of this interface, as no other one has this call.
 #[used]
-static NEEDS_INTERFACE: extern "C" fn() -> u32 = goblin_pe_interface_1cdedd26;
+static NEEDS_INTERFACE: extern "C" fn() -> u32 = goblin_pe_interface_022b15e8;
 
 /// Bytes of the file.
 #[repr(C)]
@@ -734,7 +734,7 @@ const _: () = {
 #[rustfmt::skip]
 unsafe extern "C" {
     pub safe fn goblin_pe_interface() -> u32;
-    safe fn goblin_pe_interface_1cdedd26() -> u32;
+    safe fn goblin_pe_interface_022b15e8() -> u32;
     pub safe fn goblin_pe_fault_string(fault: &Fault, text: &mut [u8; 256]) -> *const u8;
     pub safe fn goblin_pe_checksum<'a>(image: &Image<'a>, sum: &mut u32) -> bool;
     pub safe fn goblin_pe_read_damage<'a>(image: &Image<'a>, damage: &mut Damage, steps: &mut usize) -> Fault;

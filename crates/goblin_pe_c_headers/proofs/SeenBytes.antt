@@ -1,14 +1,13 @@
 -- What is in memory where an address has an offset inside the file.
-use Rattle.std.proofs.Common.{◌≡◌, ℕ, IsSomeAnd, IsTrue, ◌+◌, ◌-◌, ◌<◌, ◌^◌, Bool, true, false, cond, List, Option, Some, None, find, length, max, min, nat_lt, refl, arith, rules, tests, option_and_then, option_map, slice_range}
-use Rattle.std.proofs.lemmas.Bool.{false_from_ne_true}
+use Rattle.std.proofs.Common.{◌≡◌, ℕ, IsSomeAnd, IsTrue, ◌+◌, ◌-◌, ◌<◌, ◌^◌, Bool, true, false, cond, List, Option, Some, None, find, length, max, min, nat_lt, refl, arith, rules, tests, option_and_then, option_map, slice_range, subst}
+use Rattle.std.proofs.lemmas.Bool.{false_from_ne_true, ltb-true}
 use Rattle.std.specs.{Int.is_power_of_two, Option.unwrap_or}
 use Rattle.goblin_base.proofs.{RecordRoundTrip.length-slice, Steps.same_value}
 use Rattle.goblin_pe_sect.specs.Mapping.{InWindow, file_offset, is_in_window, offset_in, raw_begin, read_size}
 use Rattle.goblin_pe_sect.specs.SectionTable.{Section}
 use Rattle.goblin_pe_sect.proofs.Mapped.{found_in_window}
-use Rattle.goblin_pe_c_headers.specs.{Options.PeOptions, Places.PePlaces}
-use Rattle.goblin_pe_c_headers.specs.Addresses.{MappedImage, mapped_image, mapped_offset}
-use Rattle.goblin_pe_c_headers.specs.Memory.{Memory, SeesFile, front_at, holder, holder_index, is_unstored, memory_at, memory_by, memory_in_file, memory_length, memory_mapped, stored_in_memory, stored_size, window_size}
+use Rattle.goblin_pe_c_headers.specs.{Images.PeImage, Addresses.MappedImage, Addresses.mapped_image}
+use Rattle.goblin_pe_c_headers.specs.Memory.{Memory, SeesFile, addressed, front_at, holder, holder_index, is_unstored, memory_at, memory_by, memory_in_file, memory_length, memory_mapped, stored_in_memory, stored_size, window_size}
 
 module _ (file : List ℕ) (p : ℕ) (inside : p < length file) where
   -- the byte at the offset, and nothing else, is known
@@ -24,10 +23,13 @@ module _ (file : List ℕ) (p : ℕ) (inside : p < length file) where
   length-one : length (slice_range file p (p + 1)) ≡ 1
   length-one = length-slice file p 1 (omega (arith, inside))
 
-  in_file : (outside : ℕ) → Sees (memory_in_file file outside p 1)
-  in_file outside = rw (one-byte, length-one) (refl, refl)
+  addressed-one : (rva : ℕ) → rva < 2 ^ 32 → addressed rva 1 ≡ 1
+  addressed-one rva small = omega (arith, small)
 
-  module _ (m : MappedImage) (outside rva : ℕ) (even : is_power_of_two m.alignment ≡ true) where
+  in_file : (outside : ℕ) → p < 2 ^ 32 → Sees (memory_in_file file outside p 1)
+  in_file outside small = rw (addressed-one p small, one-byte, length-one) (refl, refl)
+
+  module _ (m : MappedImage) (outside rva : ℕ) (small : rva < 2 ^ 32) (even : is_power_of_two m.alignment ≡ true) where
     -- the section that holds the address in its window has the offset there
     record Holds (s : Section) : Type 0 where
       within : InWindow m.mapping m.alignment rva s
@@ -47,7 +49,7 @@ module _ (file : List ℕ) (p : ℕ) (inside : p < length file) where
 
     in_section : (index : ℕ) (s : Section) → Holds s → Sees (memory_by m file outside rva 1 index (Some s))
     in_section index s h =
-        rw (most-one s h, stored-one s h, h.at, one-byte, length-one) (refl, refl)
+        rw (addressed-one rva small, most-one s h, stored-one s h, h.at, one-byte, length-one) (refl, refl)
 
     -- what holds the address is the section whose window does
     held : (s : Section) → find (is_in_window m.mapping m.alignment rva) m.sections ≡ Some s → holder m rva ≡ Some s
@@ -66,33 +68,34 @@ module _ (file : List ℕ) (p : ℕ) (inside : p < length file) where
           there = stored s (held s found);
         }))
 
-  by_map : (m : MappedImage) (outside rva : ℕ) (b even : Bool) → m.mapping.resolve_rva ≡ b → is_power_of_two m.alignment ≡ even
+  by_map : (m : MappedImage) (outside rva : ℕ) → rva < 2 ^ 32
+      → (b even : Bool) → m.mapping.resolve_rva ≡ b → is_power_of_two m.alignment ≡ even
       → cond b (cond even (option_map (λ s. offset_in m.mapping s rva) (find (is_in_window m.mapping m.alignment rva) m.sections)) None) (Some rva) ≡ Some p
       → ((s : Section) → holder m rva ≡ Some s → is_unstored s ≡ false)
       → Sees (memory_mapped file outside rva 1 (Some m))
-  by_map m outside rva true true on even at stored = rw on (by_section m outside rva even _ refl at stored)
-  by_map m outside rva true false on even at stored = absurd cc
-  by_map m outside rva false even on is at stored =
+  by_map m outside rva small true true on even at stored = rw on (by_section m outside rva small even _ refl at stored)
+  by_map m outside rva small true false on even at stored = absurd cc
+  by_map m outside rva small false even on is at stored =
       let same : rva ≡ p = same_value rva p at in
-      rw (on, same) (in_file outside)
+      rw (on, same) (in_file outside (subst (λ (n : ℕ). n < 2 ^ 32) same small))
 
-  mapped_by : (m : MappedImage) (outside rva : ℕ) → mapped_offset m rva ≡ Some p
-      → ((s : Section) → holder m rva ≡ Some s → is_unstored s ≡ false)
-      → Sees (memory_mapped file outside rva 1 (Some m))
-  unfolding file_offset
-  mapped_by m outside rva at stored = by (nat_lt rva (2 ^ 32)) at
-    where
-      by : (small : Bool) → cond small (file_offset m.mapping m.sections m.alignment rva) None ≡ Some p → Sees (memory_mapped file outside rva 1 (Some m))
-      by true at = by_map m outside rva m.mapping.resolve_rva (is_power_of_two m.alignment) refl refl at stored
-      by false at = absurd cc
-
-pub sees_file : (o : PeOptions) (p : PePlaces) (bytes : List ℕ) → SeesFile o p bytes
-unfolding memory_at
-sees_file o p bytes = λ rva offset at inside stored. by rva offset (mapped_image o p bytes) at inside stored
+pub sees_file : (i : PeImage) → SeesFile i
+unfolding memory_at file_offset
+sees_file i = λ rva offset at inside stored. by rva offset (nat_lt rva (2 ^ 32)) refl (mapped_image i) at inside stored
   where
-    by : (rva offset : ℕ) (m : Option MappedImage) → option_and_then (λ m. mapped_offset m rva) m ≡ Some offset → offset < length bytes
+    file : List ℕ
+    file = i.bytes.now
+
+    Sees : ℕ → Memory → Type 0
+    Sees offset seen = (seen.bytes ≡ slice_range file offset (offset + 1)) × (seen.missing ≡ 0)
+
+    by : (rva offset : ℕ) (small : Bool) → nat_lt rva (2 ^ 32) ≡ small → (m : Option MappedImage)
+        → option_and_then (λ m. cond small (file_offset m.mapping m.sections m.alignment rva) None) m ≡ Some offset → offset < length file
         → ¬ IsSomeAnd (option_and_then (λ m. holder m rva) m) (λ s. IsTrue (is_unstored s))
-        → ((memory_mapped bytes p.number_of_sections rva 1 m).bytes ≡ slice_range bytes offset (offset + 1)) × ((memory_mapped bytes p.number_of_sections rva 1 m).missing ≡ 0)
-    by rva offset None at inside stored = absurd cc
-    by rva offset (Some m) at inside stored =
-        mapped_by bytes offset inside m p.number_of_sections rva at (λ s held. false_from_ne_true (is_unstored s) (λ yes. stored (rw held (search (rules, tests, yes)))))
+        → Sees offset (memory_mapped file i.section_count rva 1 (cond small m None))
+    by rva offset true small None at inside stored = absurd cc
+    by rva offset false small None at inside stored = absurd cc
+    by rva offset false small (Some m) at inside stored = absurd cc
+    by rva offset true small (Some m) at inside stored =
+        by_map file offset inside m i.section_count rva (ltb-true rva (2 ^ 32) small) m.mapping.resolve_rva (is_power_of_two m.alignment) refl refl at
+        (λ s held. false_from_ne_true (is_unstored s) (λ yes. stored (rw held (search (rules, tests, yes)))))

@@ -1,7 +1,7 @@
 -- The file offsets of the addresses of an image, and the addresses of offsets.
-use Rattle.std.specs.Prelude.{ℕ, ◌^◌, nat_lt, if◌then◌else◌, List, [], Option, Some, None, find}
-use Rattle.std.specs.Prelude.{option_and_then, option_map}
-use Rattle.std.specs.Option.{is_some}
+use Rattle.std.specs.Prelude.{ℕ, ◌^◌, ◌==◌, ◌&&◌, nat_lt, if◌then◌else◌, List, [], Option, Some}
+use Rattle.std.specs.Prelude.{None, find, option_and_then, option_map}
+use Rattle.std.specs.{Int.is_power_of_two, Option.is_some}
 use Rattle.goblin_base.specs.{Answers.◌>>=◌, Reading.Reading}
 use Rattle.readings.specs.Reads.{text_within}
 use Rattle.goblin_pe_sect.specs.{AddressReadings.at_address, declared.options.Mapping.Mapping}
@@ -11,7 +11,8 @@ use Rattle.goblin_pe_sect.specs.SectionTable.{Section, mapped_sections, with_fro
 use Rattle.goblin_pe_c_headers.specs.declared.address.Mapped.{Mapped}
 use Rattle.goblin_pe_c_headers.specs.Options.{PeOptions, are_known, longest_of, maps_addresses}
 use Rattle.goblin_pe_c_headers.specs.Options.{options_at, view_of}
-use Rattle.goblin_pe_c_headers.specs.Places.{PePlaces, placed_sections}
+use Rattle.goblin_pe_c_headers.specs.{Images.PeImage, Places.PePlaces, Places.image_places}
+use Rattle.goblin_pe_c_headers.specs.Places.{placed_sections}
 
 -- What maps the addresses of an image: its sections and, if it is mapped, the file's front after
 -- them, the file alignment, and how they are mapped.
@@ -27,16 +28,26 @@ mapped_model m = record {
   mapping = m.mapping;
 }
 
--- What maps the addresses of an image. Nothing does if the options are not known, or if the file
--- has no room for the section headers; none are needed if addresses are offsets.
-unfoldable pub mapped_image : PeOptions → PePlaces → List ℕ → Option MappedImage
-mapped_image o p bytes =
-    if are_known o
+-- The sections that map addresses: those of the file, if it has room for their headers and the
+-- file alignment is a power of two. None are needed if addresses are offsets.
+abbrev pub mapping_sections : PeOptions → PePlaces → List ℕ → Option (List Section)
+mapping_sections o p bytes =
+    if maps_addresses o
+    then (if is_power_of_two p.file_alignment then (placed_sections p).value bytes else None)
+    else Some []
+
+-- What maps the addresses of an image. Nothing does in an object or a Terse Executable, or if the
+-- options are not known.
+unfoldable pub mapped_image : PeImage → Option MappedImage
+mapped_image i =
+    let o = i.options in
+    let p = image_places i in
+    if i.kind == 1 && are_known o
     then option_map (λ sections. record {
       sections = with_front (front_of (view_of o) p.size_of_headers) sections;
       alignment = p.file_alignment;
       mapping = mapping_in (view_of o) (options_at o p.file_alignment);
-    }) (if maps_addresses o then (placed_sections p).value bytes else Some [])
+    }) (mapping_sections o p i.bytes.now)
     else None
 
 -- the file offset of an address, if it has one; an address has 32 bits
@@ -44,8 +55,8 @@ abbrev pub mapped_offset : MappedImage → ℕ → Option ℕ
 mapped_offset m rva =
     if nat_lt rva (2 ^ 32) then file_offset m.mapping m.sections m.alignment rva else None
 
-abbrev pub image_map : PeOptions → PePlaces → List ℕ → ℕ → Option ℕ
-image_map o p bytes rva = option_and_then (λ m. mapped_offset m rva) (mapped_image o p bytes)
+abbrev pub image_map : PeImage → ℕ → Option ℕ
+image_map i rva = option_and_then (λ m. mapped_offset m rva) (mapped_image i)
 
 -- the address that the first section whose raw data holds the offset has there
 abbrev pub first_address : MappedImage → ℕ → Option ℕ
@@ -56,11 +67,11 @@ first_address m offset =
     else Some offset
 
 -- the address of an offset: that in the first section, if it is mapped back to the offset
-abbrev pub image_address : PeOptions → PePlaces → List ℕ → ℕ → Option ℕ
-image_address o p bytes offset =
-    mapped_image o p bytes >>= λ m. first_address m offset
+abbrev pub image_address : PeImage → ℕ → Option ℕ
+image_address i offset =
+    mapped_image i >>= λ m. first_address m offset
     >>= λ rva. if is_at offset (mapped_offset m rva) then Some rva else None
 
 -- the text at an address, cut if the options set a limit
-abbrev pub text_at : PeOptions → PePlaces → List ℕ → ℕ → Reading (List ℕ)
-text_at o p bytes rva = at_address (image_map o p bytes) rva (text_within (longest_of o))
+abbrev pub text_at : PeImage → ℕ → Reading (List ℕ)
+text_at i rva = at_address (image_map i) rva (text_within (longest_of i.options))

@@ -15,8 +15,8 @@ use Rattle.goblin_pe_c_headers.specs.declared.auxiliary.PeAuxiliary.{PeAuxiliary
 
 -- the kind of the auxiliary records of a symbol, by its class: external, static, of a function, of
 -- a file, or a weak external
-abbrev pub kind_with : Symbol → AuxiliaryKind
-kind_with s =
+abbrev pub kind_by_class : Symbol → AuxiliaryKind
+kind_by_class s =
     if (s.storage_class == 2) && ((s.typ / 16 == 2) && int_lt (pos 0) s.section_number)
     then kind.FunctionDefinition
     else if (s.storage_class == 2) && ((nat_abs s.section_number == 0) && (s.value == 0))
@@ -28,19 +28,19 @@ kind_with s =
     else kind.None
 
 -- the kind by the records: none if there are none, or they are cut
-abbrev pub kind_of : Symbol → List ℕ → AuxiliaryKind
-kind_of s records =
+abbrev pub auxiliary_kind : Symbol → List ℕ → AuxiliaryKind
+auxiliary_kind s records =
     if (s.number_of_aux_symbols == 0) || nat_lt (length records) (18 * s.number_of_aux_symbols)
     then kind.None
-    else kind_with s
+    else kind_by_class s
 
-abbrev pub kind_number : AuxiliaryKind → ℕ
-kind_number kind.None = 0
-kind_number kind.FunctionDefinition = 1
-kind_number kind.BeginAndEndFunction = 2
-kind_number kind.WeakExternal = 3
-kind_number kind.File = 4
-kind_number kind.SectionDefinition = 5
+abbrev pub auxiliary_number : AuxiliaryKind → ℕ
+auxiliary_number kind.None = 0
+auxiliary_number kind.FunctionDefinition = 1
+auxiliary_number kind.BeginAndEndFunction = 2
+auxiliary_number kind.WeakExternal = 3
+auxiliary_number kind.File = 4
+auxiliary_number kind.SectionDefinition = 5
 
 -- no auxiliary record; the name of a file is that of the record which is given
 abbrev pub zero_auxiliary : PeAuxiliary → PeAuxiliary
@@ -63,8 +63,8 @@ zero_auxiliary a = record a {
 }
 
 -- the number in the place of a file's name, if that begins with four zeros
-abbrev pub file_offset : List ℕ → ℕ
-file_offset records = if number Little 4 records 0 == 0 then number Little 4 records 4 else 0
+abbrev pub offset_in_strings : List ℕ → ℕ
+offset_in_strings records = if number Little 4 records 0 == 0 then number Little 4 records 4 else 0
 
 abbrev pub file_name : AuxiliaryKind → List ℕ → List ℕ
 file_name kind.File records = before_nul records
@@ -90,7 +90,8 @@ auxiliary_fields kind.BeginAndEndFunction records zeros =
 auxiliary_fields kind.WeakExternal records zeros =
     let read = weak_external_record Little (take 18 records) in
     record zeros { tag_index = read.tag_index; characteristics = read.characteristics }
-auxiliary_fields kind.File records zeros = record zeros { string_offset = file_offset records }
+auxiliary_fields kind.File records zeros =
+    record zeros { string_offset = offset_in_strings records }
 auxiliary_fields kind.SectionDefinition records zeros =
     let read = section_definition_record Little (take 18 records) in
     record zeros {

@@ -1,12 +1,12 @@
 -- What is in memory at an address of an image, and the contents of a section: as a loader maps it.
-use Rattle.std.specs.Prelude.{ℕ, ◌+◌, ◌-◌, ◌==◌, ◌≡◌, ◌<◌, ◌&&◌, Bool, IsTrue, bit_and, max, min}
-use Rattle.std.specs.Prelude.{not, nat_le, nat_lt, if◌then◌else◌, List, [], find, position, Option}
-use Rattle.std.specs.Prelude.{Some, None, IsSomeAnd, length, option_and_then, slice_range}
+use Rattle.std.specs.Prelude.{ℕ, ◌+◌, ◌-◌, ◌^◌, ◌==◌, ◌≡◌, ◌<◌, ◌&&◌, Bool, IsTrue, bit_and, max}
+use Rattle.std.specs.Prelude.{min, not, nat_le, nat_lt, if◌then◌else◌, List, [], find, position}
+use Rattle.std.specs.Prelude.{Option, Some, None, IsSomeAnd, length, option_and_then, slice_range}
 use Rattle.std.specs.{Int.is_power_of_two, Option.option_or, Option.unwrap_or}
 use Rattle.goblin_pe_sect.specs.{declared.options.Mapping.Mapping, Mapping.raw_begin}
 use Rattle.goblin_pe_sect.specs.{Mapping.read_size, Options.mapping_in, SectionTable.Section}
 use Rattle.goblin_pe_c_headers.specs.declared.memory.PeMemory.{PeMemory}
-use Rattle.goblin_pe_c_headers.specs.{declared.memory.Region.Region, Places.PePlaces}
+use Rattle.goblin_pe_c_headers.specs.{declared.memory.Region.Region, Images.PeImage}
 use Rattle.goblin_pe_c_headers.specs.declared.memory.Region.TheVariants as region
 use Rattle.goblin_pe_c_headers.specs.Options.{PeOptions, are_known, options_at, view_of}
 use Rattle.goblin_pe_c_headers.specs.Addresses.{MappedImage, image_map, mapped_image}
@@ -144,11 +144,15 @@ holder_index m rva =
 
 -- ---- `size` bytes
 
+-- how many of `size` bytes from an address on have an address of 32 bits
+abbrev pub addressed : ℕ → ℕ → ℕ
+addressed rva size = min size (2 ^ 32 - rva)
+
 -- at most `size` bytes of a section's memory, from an address in it on
 abbrev pub memory_of : MappedImage → List ℕ → ℕ → ℕ → Section → List ℕ × ℕ
 memory_of m bytes rva size s =
     let distance = rva - s.virtual_address in
-    let most = min size (memory_length m s - distance) in
+    let most = min (addressed rva size) (memory_length m s - distance) in
     let stored = min most (stored_in_memory m (length bytes) s - distance) in
     available bytes (raw_begin m.mapping s + distance) stored (most - stored)
 
@@ -171,7 +175,7 @@ memory_by m bytes outside rva size index (Some s) =
 -- `size` bytes from an offset on, if addresses are offsets
 abbrev pub memory_in_file : List ℕ → ℕ → ℕ → ℕ → Memory
 memory_in_file bytes outside rva size =
-    let found = front_at bytes rva size in
+    let found = front_at bytes rva (addressed rva size) in
     known (found, 0) (size - length found) outside
     (if nat_lt rva (length bytes) then region.RawData else region.Unmapped)
 
@@ -183,18 +187,19 @@ memory_mapped bytes outside rva size (Some m) =
     then memory_by m bytes outside rva size (unwrap_or (holder_index m rva) outside) (holder m rva)
     else memory_in_file bytes outside rva size
 
--- So many bytes from an address on, as a loader maps them. Outside of sections the index is the
--- number of sections.
-unfoldable pub memory_at : PeOptions → PePlaces → List ℕ → ℕ → ℕ → Memory
-memory_at o p bytes rva size =
-    memory_mapped bytes p.number_of_sections rva size (mapped_image o p bytes)
+-- So many bytes from an address on, as a loader maps them; an address has 32 bits. Outside of
+-- sections the index is the number of sections.
+unfoldable pub memory_at : PeImage → ℕ → ℕ → Memory
+memory_at i rva size =
+    memory_mapped i.bytes.now i.section_count rva size
+    (if nat_lt rva (2 ^ 32) then mapped_image i else None)
 
 -- Where an address has an offset inside the file, the byte there is what is in memory, but in
 -- uninitialized data, which has no place in the file.
-abbrev pub SeesFile : PeOptions → PePlaces → List ℕ → Type 0
-SeesFile o p bytes =
-    (rva offset : ℕ) → image_map o p bytes rva ≡ Some offset → offset < length bytes
-    → ¬ IsSomeAnd (option_and_then (λ m. holder m rva) (mapped_image o p bytes))
+abbrev pub SeesFile : PeImage → Type 0
+SeesFile i =
+    (rva offset : ℕ) → image_map i rva ≡ Some offset → offset < length i.bytes.now
+    → ¬ IsSomeAnd (option_and_then (λ m. holder m rva) (mapped_image i))
     (λ s. IsTrue (is_unstored s))
-    → let seen = memory_at o p bytes rva 1 in
-    (seen.bytes ≡ slice_range bytes offset (offset + 1)) × (seen.missing ≡ 0)
+    → let seen = memory_at i rva 1 in
+    (seen.bytes ≡ slice_range i.bytes.now offset (offset + 1)) × (seen.missing ≡ 0)

@@ -1,7 +1,7 @@
 -- The rows of sections, as definitions.
 use Rattle.std.specs.Prelude.{◌≡◌, IsSomeAnd, ℕ, Bool, if◌then◌else◌, List, Option, Some, None}
 use Rattle.std.specs.Prelude.{Result, ◌+◌, ◌*◌, ◌/◌, ◌==◌, map, length, option_and_then}
-use Rattle.std.specs.Prelude.{slice_range, take, unwrap_or}
+use Rattle.std.specs.Prelude.{replicate, slice_range, take, unwrap_or}
 use Rattle.std.specs.List.{range_with_len}
 use Rattle.goblin_base.specs.declared.error.ErrorOf.{ErrorOf}
 use Rattle.goblin_base.specs.{declared.endian.Endian.TheVariants.Little, Bytes.before_nul}
@@ -45,6 +45,7 @@ pub record SectionRow : Type 0 where
   pub name : List ℕ
   pub index : ℕ
   pub relocations : PeCoffRelocationCursor
+  pub reserved : List ℕ
 
 abbrev pub row_model : PeSection → SectionRow
 row_model s = record {
@@ -52,6 +53,7 @@ row_model s = record {
   name = s.name.now;
   index = s.index;
   relocations = s.relocations;
+  reserved = s.reserved;
 }
 
 -- the name from the string table of an image, if these eight bytes lead to one
@@ -75,6 +77,7 @@ row_of image i header =
       name = unwrap_or name (before_nul (take 8 header));
       index = i;
       relocations = relocations_begin s;
+      reserved = replicate 7 0;
     }
 
 abbrev pub section_rows : PeImage → List ℕ → List SectionRow

@@ -6,9 +6,10 @@ ghost use Rattle.goblin_pe_c_headers.specs.Addresses.{mapped_image, mapped_offse
 ghost use Rattle.goblin_pe_c_headers.specs.Addresses.{mapped_model, text_at};
 ghost use Rattle.goblin_pe_c_headers.specs.{Calls.ReadsWithout, Images.slice_model};
 
-use crate::image::PeSlice;
-use crate::options::{PeOptions, are_known, longest_of, maps_addresses, options_at, view_of};
-use crate::places::{PePlaces, section_records};
+use crate::image::{PeImage, PeSlice, places_of};
+use crate::kind::Kind;
+use crate::options::{are_known, longest_of, maps_addresses, options_at, view_of};
+use crate::places::section_records;
 use goblin_base::read::pread_str_within;
 use goblin_base::{Cause, Error, Result};
 use goblin_pe_sect::added::{offset_by_records, rva_in};
@@ -27,23 +28,23 @@ pub(crate) struct Mapped<'a> {
     pub(crate) mapping: Mapping,
 }
 
-// What maps the RVAs of an image. Nothing does if the options are not known, or if the file has no
-// room for the section headers, which are not needed if RVAs are offsets.
+// What maps the RVAs of an image. Nothing does in an object or a TE file, or if the options are not
+// known. Section headers, and a file alignment that is a power of two, are not needed if RVAs are
+// offsets.
 #[tactic(auto, unfolding(crate::specs::Addresses::mapped_image), using(goblin_pe_sect::proofs::SectionRecords::sections_none))]
-pub(crate) fn mapped_by<'a>(
-    bytes: &'a [u8],
-    options: &PeOptions,
-    places: &PePlaces,
-) -> Option<Mapped<'a>>
-    ensures { option_map mapped_model result ≡ mapped_image options.now places.now bytes.now }
+pub(crate) fn mapped_by<'a>(image: &PeImage<'a>) -> Option<Mapped<'a>>
+    ensures { option_map mapped_model result ≡ mapped_image image.now }
 {
-    if !are_known(options) {
+    let (options, places) = (&image.options, places_of(image));
+    if image.kind != Kind::Image as u32 || !are_known(options) {
         return None;
     }
-    let records = if maps_addresses(options) {
-        section_records(bytes, places).ok()?
+    let records = if !maps_addresses(options) {
+        SectionRecords::of(&image.bytes[..0])
+    } else if places.file_alignment.is_power_of_two() {
+        section_records(image.bytes, &places).ok()?
     } else {
-        SectionRecords::of(&bytes[..0])
+        return None;
     };
     let view = view_of(options);
     let front = view.front(places.size_of_headers);
@@ -63,10 +64,10 @@ fn mapped_offset(mapped: &Mapped, rva: usize) -> Option<usize>
 
 /// The file offset of an RVA, as the options map. If several sections hold it, the first one
 /// counts.
-pub fn offset_of(bytes: &[u8], options: &PeOptions, places: &PePlaces, rva: usize) -> Option<usize>
-    ensures { result ≡ image_map options.now places.now bytes.now rva }
+pub fn offset_of(image: &PeImage, rva: usize) -> Option<usize>
+    ensures { result ≡ image_map image.now rva }
 {
-    mapped_offset(&mapped_by(bytes, options, places)?, rva)
+    mapped_offset(&mapped_by(image)?, rva)
 }
 
 // The RVA that the first section whose raw data holds the offset has there.
@@ -84,10 +85,10 @@ fn first_address(mapped: &Mapped, offset: usize) -> Option<usize>
 /// The RVA of a file offset: that in the first section whose raw data holds the offset, or else in
 /// the headers, if they are mapped. `None` if it is not mapped back to the offset, because an
 /// earlier section hides it.
-pub fn rva_of(bytes: &[u8], options: &PeOptions, places: &PePlaces, offset: usize) -> Option<usize>
-    ensures { result ≡ image_address options.now places.now bytes.now offset }
+pub fn rva_of(image: &PeImage, offset: usize) -> Option<usize>
+    ensures { result ≡ image_address image.now offset }
 {
-    let mapped = mapped_by(bytes, options, places)?;
+    let mapped = mapped_by(image)?;
     let rva = first_address(&mapped, offset)?;
     match mapped_offset(&mapped, rva) {
         Some(found) if found == offset => Some(rva),
@@ -100,20 +101,14 @@ pub fn rva_of(bytes: &[u8], options: &PeOptions, places: &PePlaces, offset: usiz
 /// # Errors
 /// [`Error::Malformed`] with [`Cause::Unmapped`] if the RVA has no file offset, and
 /// [`Error::Read`] if there is no text; nothing is then changed.
-pub fn read_text<'a>(
-    bytes: &'a [u8],
-    options: &PeOptions,
-    places: &PePlaces,
-    rva: usize,
-    text: &mut PeSlice<'a>,
-) -> Result<()>
-    ensures { ReadsWithout (text_at options.now places.now bytes.now rva) bytes.now
+pub fn read_text<'a>(image: &PeImage<'a>, rva: usize, text: &mut PeSlice<'a>) -> Result<()>
+    ensures { ReadsWithout (text_at image.now rva) image.now.bytes.now
         (λ whole. slice_model text.new ≡ whole) (text.new ≡ text.old) result }
 {
-    let Some(offset) = offset_of(bytes, options, places, rva) else {
+    let Some(offset) = offset_of(image, rva) else {
         return Err(Error::Malformed(Cause::Unmapped(rva)));
     };
-    let found = pread_str_within(bytes, offset, longest_of(options))?;
+    let found = pread_str_within(image.bytes, offset, longest_of(&image.options))?;
     *text = PeSlice {
         bytes: found.as_bytes(),
     };

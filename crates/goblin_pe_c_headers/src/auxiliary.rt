@@ -1,8 +1,9 @@
 //! The auxiliary records of a symbol.
 
 ghost use Rattle.std.specs.Prelude.{◌≡◌, ◌≤◌, [], length};
-ghost use Rattle.goblin_pe_c_headers.specs.Auxiliary.{AuxiliaryModel, file_offset, kind_of};
-ghost use Rattle.goblin_pe_c_headers.specs.Auxiliary.{kind_with, zero_auxiliary};
+ghost use Rattle.goblin_pe_c_headers.specs.Auxiliary.{AuxiliaryModel, auxiliary_kind};
+ghost use Rattle.goblin_pe_c_headers.specs.Auxiliary.{kind_by_class, offset_in_strings};
+ghost use Rattle.goblin_pe_c_headers.specs.Auxiliary.{zero_auxiliary};
 
 use crate::symbol::PeSymbol;
 use goblin_base::read::before_nul;
@@ -36,45 +37,45 @@ pub enum AuxiliaryKind {
 #[repr(C)]
 #[derive(Copy, Clone)]
 pub struct PeAuxiliary<'a> {
-    /// `FunctionDefinition`: the index of the symbol at the function's beginning. `WeakExternal`:
-    /// the index of the symbol that replaces it.
+    /// FUNCTION_DEFINITION: the index of the symbol at the function's beginning. WEAK_EXTERNAL: the
+    /// index of the symbol that replaces it.
     pub tag_index: u32,
-    /// `FunctionDefinition`.
+    /// FUNCTION_DEFINITION.
     pub total_size: u32,
-    /// `FunctionDefinition`.
+    /// FUNCTION_DEFINITION.
     pub pointer_to_line_number: u32,
-    /// `FunctionDefinition`, `BeginAndEndFunction`.
+    /// FUNCTION_DEFINITION, BEGIN_AND_END_FUNCTION.
     pub pointer_to_next_function: u32,
-    /// `BeginAndEndFunction`.
+    /// BEGIN_AND_END_FUNCTION.
     pub line_number: u16,
-    /// `SectionDefinition`: the section that this one goes with, from 1.
+    /// SECTION_DEFINITION: the section that this one goes with, from 1.
     pub number: u16,
-    /// `SectionDefinition`.
+    /// SECTION_DEFINITION.
     pub length: u32,
-    /// `SectionDefinition`.
+    /// SECTION_DEFINITION.
     pub checksum: u32,
-    /// `SectionDefinition`.
+    /// SECTION_DEFINITION.
     pub number_of_relocations: u16,
-    /// `SectionDefinition`.
+    /// SECTION_DEFINITION.
     pub number_of_line_numbers: u16,
-    /// `SectionDefinition`: an `IMAGE_COMDAT_SELECT_*`.
+    /// SECTION_DEFINITION: an `IMAGE_COMDAT_SELECT_*`.
     pub selection: u8,
     /// Zeros.
     pub reserved: [u8; 3],
-    /// `WeakExternal`: an `IMAGE_WEAK_EXTERN_SEARCH_*`.
+    /// WEAK_EXTERNAL: an `IMAGE_WEAK_EXTERN_SEARCH_*`.
     pub characteristics: u32,
-    /// `File`: the name of the source file. If it begins with four zeros it is in the string table,
+    /// FILE: the name of the source file. If it begins with four zeros it is in the string table,
     /// at `string_offset`.
     pub file: &'a [u8],
-    /// `File`: where the name is in the string table; else 0.
+    /// FILE: where the name is in the string table; else 0.
     pub string_offset: u32,
     /// Zero.
     pub reserved2: u32,
 }
 
 // The kind of the auxiliary records of such a symbol, if it has any.
-fn kind_with(symbol: &Symbol) -> AuxiliaryKind
-    ensures { result ≡ kind_with symbol.now }
+fn kind_by_class(symbol: &Symbol) -> AuxiliaryKind
+    ensures { result ≡ kind_by_class symbol.now }
 {
     let is_function = symbol.derived_type() == IMAGE_SYM_DTYPE_FUNCTION;
     match symbol.storage_class {
@@ -94,14 +95,14 @@ fn kind_with(symbol: &Symbol) -> AuxiliaryKind
 }
 
 // The kind of the auxiliary records of a symbol: none if there are none, or they are cut.
-fn kind_of(symbol: &Symbol, records: &[u8]) -> AuxiliaryKind
-    ensures kind { result ≡ kind_of symbol.now records.now }
+fn auxiliary_kind(symbol: &Symbol, records: &[u8]) -> AuxiliaryKind
+    ensures kind { result ≡ auxiliary_kind symbol.now records.now }
 {
     let count = symbol.number_of_aux_symbols as usize;
     if count == 0 || records.len() < COFF_SYMBOL_SIZE * count {
         return AuxiliaryKind::None;
     }
-    kind_with(symbol)
+    kind_by_class(symbol)
 }
 
 fn zero_auxiliary(bytes: &[u8]) -> PeAuxiliary<'_>
@@ -129,9 +130,9 @@ fn zero_auxiliary(bytes: &[u8]) -> PeAuxiliary<'_>
 }
 
 // The number in the place of a file's name, if that begins with four zeros.
-fn file_offset(records: &[u8]) -> u32
+fn offset_in_strings(records: &[u8]) -> u32
     requires { 18 ≤ length records.now }
-    ensures { result ≡ file_offset records.now }
+    ensures { result ≡ offset_in_strings records.now }
 {
     if field_u32(records, 0, Endian::Little) == 0 {
         field_u32(records, 4, Endian::Little)
@@ -177,7 +178,7 @@ fn auxiliary_for_c(kind: AuxiliaryKind, records: &[u8]) -> PeAuxiliary<'_>
         }
         AuxiliaryKind::File => PeAuxiliary {
             file: before_nul(records),
-            string_offset: file_offset(records),
+            string_offset: offset_in_strings(records),
             ..zeros
         },
         AuxiliaryKind::SectionDefinition => {
@@ -198,11 +199,11 @@ fn auxiliary_for_c(kind: AuxiliaryKind, records: &[u8]) -> PeAuxiliary<'_>
 /// Reads the auxiliary records of a symbol, and returns their kind. It is none if the symbol has
 /// none, or they are cut, or its class and type name no kind.
 pub fn read_auxiliary<'a>(symbol: &PeSymbol<'a>, auxiliary: &mut PeAuxiliary<'a>) -> AuxiliaryKind
-    ensures kind { result ≡ kind_of symbol.now.record symbol.now.auxiliary.now }
+    ensures kind { result ≡ auxiliary_kind symbol.now.record symbol.now.auxiliary.now }
     ensures value { AuxiliaryModel result symbol.now.auxiliary.now auxiliary.new }
 {
     let records = symbol.auxiliary;
-    let kind = kind_of(&symbol.record, records);
+    let kind = auxiliary_kind(&symbol.record, records);
     *auxiliary = if records.len() < COFF_SYMBOL_SIZE {
         zero_auxiliary(records)
     } else {

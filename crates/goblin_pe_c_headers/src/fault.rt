@@ -73,10 +73,11 @@ enum ReadRefusal {
 }
 
 /// What is wrong with a file. `first` and `second` are the two numbers of the cause; offsets are
-/// file offsets in bytes.
+/// file offsets in bytes. No call returns MESSAGE, DIRECTORY_INDEX, SYMBOL_NAME or SLOT_COUNT,
+/// which are errors in Rattle alone.
 #[derive(Copy, Clone)]
 enum CauseNumber {
-    /// A message of a caller's own, in Rattle alone.
+    /// A message of a caller's own.
     Message = 1,
     /// The file is too short for the DOS signature.
     NoDosSignature = 2,
@@ -117,7 +118,7 @@ enum CauseNumber {
     /// A symbol has no name: there is no text at offset `first` of the string table, or the stored
     /// offset is `first`, below 4.
     SymbolName = 19,
-    /// A string table at offset `first`, of `second` bytes, would pass the file.
+    /// The texts of a string table, `second` bytes at offset `first`, would pass the file.
     StringTable = 20,
     /// A Windows field of 64 bits has a value that does not fit 32.
     FieldTooWide = 21,

@@ -3,17 +3,17 @@
 ghost use Rattle.std.specs.Prelude.{◌≡◌, ◌+◌, ◌^◌, ◌<◌, ◌≤◌, Some, length, option_map};
 ghost use Rattle.std.specs.Option.{unwrap_or};
 ghost use Rattle.goblin_pe_c_headers.specs.{Addresses.mapped_model, Sections.section_model};
-ghost use Rattle.goblin_pe_c_headers.specs.Memory.{SeesFile, available, front_at, holder};
-ghost use Rattle.goblin_pe_c_headers.specs.Memory.{holder_index, is_among, is_unstored, known};
-ghost use Rattle.goblin_pe_c_headers.specs.Memory.{memory_at, memory_by, memory_in_file};
+ghost use Rattle.goblin_pe_c_headers.specs.Memory.{SeesFile, addressed, available, front_at};
+ghost use Rattle.goblin_pe_c_headers.specs.Memory.{holder, holder_index, is_among, is_unstored};
+ghost use Rattle.goblin_pe_c_headers.specs.Memory.{known, memory_at, memory_by, memory_in_file};
 ghost use Rattle.goblin_pe_c_headers.specs.Memory.{memory_length, memory_model, memory_of};
 ghost use Rattle.goblin_pe_c_headers.specs.Memory.{memory_size, region_in, section_data};
 ghost use Rattle.goblin_pe_c_headers.specs.Memory.{stored_in_memory, stored_size, unknown};
 ghost use Rattle.goblin_pe_c_headers.specs.Memory.{window_size};
 
 use crate::address::{Mapped, mapped_by};
+use crate::image::PeImage;
 use crate::options::{PeOptions, are_known, options_at, view_of};
-use crate::places::PePlaces;
 use crate::section::{PeSection, section_of};
 use goblin_pe_sect::SectionTable;
 use goblin_pe_sect::options::Mapping;
@@ -218,6 +218,14 @@ fn holder(mapped: &Mapped, rva: usize) -> Option<(usize, SectionTable)>
     records.find(|it| is_among(rva, it, memory_length(mapped, it)))
 }
 
+// How many of `size` bytes from an RVA on have an RVA below 2^32.
+fn addressed(rva: usize, size: usize) -> usize
+    ensures value { result ≡ addressed rva size }
+    ensures few { result ≤ size }
+{
+    size.min((1_usize << 32).saturating_sub(rva))
+}
+
 // The first bytes of a section's memory, at most `size`, from an RVA in it on.
 fn memory_of<'a>(
     bytes: &'a [u8],
@@ -231,7 +239,8 @@ fn memory_of<'a>(
     ensures few { length result.0.now + result.1 ≤ size }
 {
     let distance = rva.saturating_sub(section.virtual_address as usize);
-    let most = size.min(memory_length(mapped, section).saturating_sub(distance));
+    let most = memory_length(mapped, section).saturating_sub(distance);
+    let most = addressed(rva, size).min(most);
     let stored = stored_in_memory(mapped, section, bytes.len()).saturating_sub(distance);
     let stored = most.min(stored);
     let begin = raw_begin(section, mapped.mapping) as usize;
@@ -283,7 +292,7 @@ fn memory_by<'a>(
 fn memory_in_file(bytes: &[u8], outside: usize, rva: usize, size: usize) -> PeMemory<'_>
     ensures { memory_model result ≡ memory_in_file bytes.now outside rva size }
 {
-    let found = front_at(bytes, rva, size);
+    let found = front_at(bytes, rva, addressed(rva, size));
     let region = if rva < bytes.len() {
         Region::RawData
     } else {
@@ -296,23 +305,17 @@ fn memory_in_file(bytes: &[u8], outside: usize, rva: usize, size: usize) -> PeMe
 /// the section. Where the RVA has an offset inside the file, the first byte is the byte there,
 /// except in uninitialized data without a raw pointer, which is zeros.
 #[tactic(auto, unfolding(crate::specs::Memory::memory_at))]
-pub fn memory_at<'a>(
-    bytes: &'a [u8],
-    options: &PeOptions,
-    places: &PePlaces,
-    rva: usize,
-    size: usize,
-) -> PeMemory<'a>
-    ensures value { memory_model result ≡ memory_at options.now places.now bytes.now rva size }
-    ensures file { SeesFile options.now places.now bytes.now }
+pub fn memory_at<'a>(image: &PeImage<'a>, rva: usize, size: usize) -> PeMemory<'a>
+    ensures value { memory_model result ≡ memory_at image.now rva size }
+    ensures file { SeesFile image.now }
 {
-    let outside = places.number_of_sections;
-    let Some(mapped) = mapped_by(bytes, options, places) else {
-        return unknown(bytes, size, outside);
-    };
-    if mapped.mapping.resolve_rva {
-        memory_by(bytes, &mapped, outside, rva, size)
-    } else {
-        memory_in_file(bytes, outside, rva, size)
+    let (bytes, outside) = (image.bytes, image.section_count);
+    match mapped_by(image) {
+        Some(mapped) if rva < 1 << 32 => if mapped.mapping.resolve_rva {
+            memory_by(bytes, &mapped, outside, rva, size)
+        } else {
+            memory_in_file(bytes, outside, rva, size)
+        },
+        _ => unknown(bytes, size, outside),
     }
 }

@@ -13,7 +13,8 @@ pub enum PeMapping {
     /// is at least 512, and the headers are mapped at RVA 0. The default: packers hide imports from
     /// readers that map otherwise.
     AsLoaded = 0,
-    /// As pefile maps: the same, without the headers.
+    /// The same, without the headers. pefile maps so, but it also sorts the sections by their
+    /// addresses, and ends each where the next begins.
     ByFileAlignment = 1,
     /// As goblin maps: the raw pointer is taken as stored; no headers. A section may reach up to
     /// 511 bytes too far if its raw pointer is not a multiple of 512.
@@ -22,34 +23,28 @@ pub enum PeMapping {
     Identity = 3,
 }
 
-const _: () = prove!(
-    PeMapping::AsLoaded as u32 == 0
-        && PeMapping::ByFileAlignment as u32 == 1
-        && PeMapping::AsStored as u32 == 2
-        && PeMapping::Identity as u32 == 3
-);
-
 /// How an image is read. Zeros are the defaults.
 #[repr(C)]
 #[derive(Copy, Clone)]
 pub struct PeOptions {
-    /// A [`PeMapping`]. The calls that read a header or look up an address refuse another number:
-    /// [`Status::Options`](crate::fault::Status), or false. The other walks look at no address, and
-    /// do not test it.
+    /// A [`PeMapping`]. If it is another number, calls that read a header or find a table by its
+    /// address return [`Status::Options`](crate::fault::Status), and look-ups find nothing. The
+    /// other walks look at no address, and do not test it.
     pub mapping: u32,
-    /// How many bytes of a name are read; 0 is no limit. A longer name is cut after the character
-    /// that reaches past the limit. So a name that is longer than the limit was cut. The rest is
-    /// not tested: it may not be UTF-8. The limit holds for the names of DLLs, imports, exports and
-    /// symbols, for section names in a string table, for forwarders and for texts at an RVA. A
-    /// forwarder is cut as one text; its export name may then be empty.
+    /// How many bytes of a name are read; 0 is no limit. A longer name ends with the character that
+    /// passes the limit, and is whole only if that is its last. What follows is not tested: it may
+    /// not be UTF-8. The limit holds for the names of DLLs, imports and exports, for names in a
+    /// string table, for forwarders and for texts at an RVA. A forwarder is cut as one text; its
+    /// export name may then be empty.
     pub longest_name: u32,
     /// Whether damaged parts are skipped, and not refused. The damage of an image says what was
-    /// skipped. Neither mode reads a file without a complete header and section table, an optional
-    /// header of an unknown magic, more than sixteen data directories, a section name of a slash
-    /// and no number, or a Rich marker without DanS; a partial read does.
+    /// skipped. Neither mode reads a file that has one of these; a partial read does: a header or a
+    /// section table that is cut off, an optional header of an unknown magic, more than sixteen
+    /// data directories, a section name of a slash and no number, or a marker Rich with no marker
+    /// DanS before it or with a broken word between them.
     pub is_permissive: bool,
-    /// Zeros, because later versions may have options here. What refuses an unknown mapping refuses
-    /// other bytes here, too.
+    /// Zeros, because later versions may have options here. Other bytes count as an unknown
+    /// mapping.
     pub reserved: [u8; 3],
 }
 

@@ -10,11 +10,11 @@ use crate::options::PeOptions;
 use goblin_base::Result;
 use goblin_pe_head::header::{CoffHeader, TeHeader};
 
-/// Reads the header of a Terse Executable, and tests that its section headers are there.
+/// Reads the header of a Terse Executable, and tests its section headers and their names.
 ///
 /// # Errors
-/// A file that is too short for the header or its section headers; a stripped size below 40.
-/// Nothing is then changed.
+/// A file that is too short for the header or its section headers; a stripped size below 40; a
+/// section name that strict mode refuses. Nothing is then changed.
 #[tactic(auto, unfolding(crate::specs::TeImages::te_file, goblin_pe_head::specs::TeHeader::te_image), using(crate::proofs::NamedTe::te_rows))]
 pub fn read<'a>(
     bytes: &'a [u8],

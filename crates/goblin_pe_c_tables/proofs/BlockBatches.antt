@@ -20,7 +20,7 @@ use Rattle.goblin_pe.specs.declared.whole.Part.TheVariants as part
 use Rattle.goblin_pe_c_headers.specs.{declared.batch.PeBatch.PeBatch, Items.without_causes}
 use Rattle.goblin_pe_c_tables.specs.declared.block.PeRelocationBlock.{PeRelocationBlock}
 use Rattle.goblin_pe_c_headers.specs.Onward.{IsRefusedNext, values_before, Batch, batch_at}
-use Rattle.goblin_pe_c_tables.specs.Batches.{GivesBlocksIn, GivesBlocks, IsBlockCause, IsBlocksFault, at_room, block_for_c, block_table, blocks_from, placed, relocations_begin}
+use Rattle.goblin_pe_c_tables.specs.Batches.{GivesBlocksIn, GivesBlocks, IsBlockCause, IsBlocksFault, at_room, block_for_c, block_table, blocks_from, placed, blocks_begin}
 use Rattle.goblin_pe_c_headers.proofs.Batches.{AtItems, items-end, items-fault, items-full, items-more, items-refused, items-start, items-stay, items-taken, items-then, done-end, done-full, done-refused, none-given}
 
 -- ---- a refusal is never Memory
@@ -171,7 +171,7 @@ module _ (m : MapOfAddresses) (bytes directory : List ℕ) where
 
   -- the bytes of a directory that was read end in the file
   pub directory-inside : (places : TablePlaces) → (relocation_part m.opts m.addressing places).value bytes ≡ Some (part.Read directory)
-      → relocations_begin m places + length directory ≤ length bytes
+      → blocks_begin m places + length directory ≤ length bytes
   unfolding relocation_part
   directory-inside places is = part-inside (is_strict m.opts.parse_mode) (directory_at places 5) is
 
@@ -187,7 +187,7 @@ directory-read m places bytes result found is read =
 module _ (m : MapOfAddresses) (places : TablePlaces) (bytes : List ℕ) (found : Part RelocationData)
     (read : (relocation_part m.opts m.addressing places).value bytes ≡ Some (part_map relocation_bytes found)) (old new : Batch ℕ PeRelocationBlock) where
   abbrev begin : ℕ
-  begin = relocations_begin m places
+  begin = blocks_begin m places
 
   -- where the directory was read
   pub blocks-answered : (relocations : RelocationData) → found ≡ part.Read relocations → (begins : ℕ) → begins ≡ begin → (result : Result PeBatch ErrorOf)
@@ -206,7 +206,7 @@ module _ (m : MapOfAddresses) (places : TablePlaces) (bytes : List ℕ) (x : ℕ
       → (found ≡ Absent) ⊎ (found ≡ Refused)
       → GivesBlocks m places bytes (record { position = x; records = old }) (record { position = x; records = old }) (at_room (length old) 0 true)
   blocks-none found read none =
-      let begin = relocations_begin m places in
+      let begin = blocks_begin m places in
       let stays : x ≡ x + 0 = omega arith in
       elim none [
         | inl is ↦ rw (read ∙ ap (λ (p : Part RelocationData). Some (part_map relocation_bytes p)) is) (none-given (block_table begin Absent) ⊥ (λ left. x ≡ x + size_of (take 0 (values_before left))) x old refl stays)

@@ -196,8 +196,8 @@ GivesAddresses m places bytes old new batch =
 -- ---- blocks of base relocations
 
 -- the file offset of the base relocation directory; 0 if it has none
-abbrev pub relocations_begin : MapOfAddresses → TablePlaces → ℕ
-relocations_begin m places = unwrap_or (directory_offset m.addressing places 5) 0
+abbrev pub blocks_begin : MapOfAddresses → TablePlaces → ℕ
+blocks_begin m places = unwrap_or (directory_offset m.addressing places 5) 0
 
 -- blocks that follow one another from a file offset on, each with its offset
 unfoldable pub placed : ℕ → List (Option Block) → List (Option (ℕ × Block))
@@ -242,13 +242,13 @@ GivesBlocksIn begin p old new batch =
 abbrev pub GivesBlocks : SaysBatch ℕ PeRelocationBlock
 GivesBlocks m places bytes old new batch =
     IsSomeAnd ((relocation_part m.opts m.addressing places).value bytes)
-    (λ p. GivesBlocksIn (relocations_begin m places) p old new batch)
+    (λ p. GivesBlocksIn (blocks_begin m places) p old new batch)
 
 -- The directory is refused, or else what comes next of it, and there is room for a block.
 abbrev pub IsBlocksFault : SaysRefused ℕ PeRelocationBlock
 IsBlocksFault m places bytes old e =
     IsNextFault (relocation_part m.opts m.addressing places) bytes
-    (λ p. blocks_from (relocations_begin m places) p old.position)
+    (λ p. blocks_from (blocks_begin m places) p old.position)
     (IsBlockCause old.position) old e
 
 -- ---- a call

@@ -33,7 +33,8 @@ pub struct PeExportAddress {
     pub rva: usize,
     /// The file offset of `rva`, if it has one; else 0.
     pub offset: usize,
-    /// Whether it is forwarded: its text can be read at `rva`.
+    /// Whether it is forwarded: `rva` lies in the export directory. `goblin_pe_forwarder_at` reads
+    /// where to.
     pub is_forwarder: bool,
     /// Whether `rva` has a file offset.
     pub has_offset: bool,

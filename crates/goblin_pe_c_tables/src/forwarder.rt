@@ -9,7 +9,7 @@ ghost use Rattle.goblin_pe_c_tables.specs.Exports.{forwarder_model};
 use goblin_pe::export::Reexport;
 use goblin_pe::{Cause, Error, Result};
 use goblin_pe_c_headers::address::offset_of;
-use goblin_pe_c_headers::image::{PeImage, places_of};
+use goblin_pe_c_headers::image::PeImage;
 use goblin_pe_c_headers::options::longest_of;
 
 /// How an export is forwarded.
@@ -88,11 +88,10 @@ pub fn read_forwarder<'a>(
         (λ f. forwarder_model forwarder.new ≡ forwarder_for_c (Some f))
         (forwarder.new ≡ forwarder.old) result }
 {
-    let (bytes, options) = (image.bytes, &image.options);
-    let Some(offset) = offset_of(bytes, options, &places_of(image), rva) else {
+    let Some(offset) = offset_of(image, rva) else {
         return Err(Error::Malformed(Cause::Unmapped(rva)));
     };
-    let found = Reexport::parse_within(bytes, offset, longest_of(options))?;
-    *forwarder = forwarder_record(bytes, &found);
+    let found = Reexport::parse_within(image.bytes, offset, longest_of(&image.options))?;
+    *forwarder = forwarder_record(image.bytes, &found);
     Ok(())
 }

@@ -14,7 +14,8 @@ pub struct PeImport<'a> {
     /// The name; empty if it is imported by ordinal, or permissive mode could not read the name.
     /// To see the bytes of such a name, look up the file offset of `hint_name_rva` + 2.
     pub name: &'a [u8],
-    /// The name of the DLL; empty if permissive mode could not read it.
+    /// The name of the DLL; empty if it can't be read, in permissive mode or in a walk over one
+    /// library.
     pub dll: &'a [u8],
     /// The RVA of its thunk in the import address table, where the loader puts the address.
     pub iat_rva: usize,

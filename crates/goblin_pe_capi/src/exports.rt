@@ -61,8 +61,8 @@ pub extern "C" fn goblin_pe_raw_next_exports<'a>(
 /// Reads the export directory table. It is not present if the image has none, or if permissive mode
 /// skips a damaged one.
 ///
-/// Faults: in strict mode a damaged export directory; else as `goblin_pe_next_imports`, but no
-/// STEPS.
+/// Faults: in strict mode a damaged export directory, whatever its number of name pointers is;
+/// else as `goblin_pe_next_imports`, but no STEPS.
 #[unsafe(no_mangle)]
 pub extern "C" fn goblin_pe_raw_read_export_directory<'a>(
     alloc: Global,

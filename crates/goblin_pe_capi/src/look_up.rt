@@ -1,8 +1,10 @@
-//! The calls that look up an RVA or a file offset of an image, or give the contents of a section.
+//! The calls that look up an RVA or a file offset of an image. They look the sections up in the
+//! file, and take no memory.
 //!
-//! They look the sections up in the file, and take no memory. If the options have an unknown
-//! mapping, or the file has no room for the section headers, no address has an offset or a region.
-//! With `Identity` each RVA is its own offset, whatever the header says.
+//! They find nothing in an object or a TE file, at an RVA from 2^32 on, or if the options are
+//! unknown. With [`PeMapping::Identity`](goblin_pe_c_headers::options::PeMapping) any other RVA is
+//! its own offset, whatever the header says. With another mapping they also find nothing if the
+//! file has no room for the section headers, or if the file alignment is no power of two.
 
 ghost use Rattle.std.specs.Prelude.{◌≡◌, ◌==◌};
 ghost use Rattle.goblin_pe_c_headers.specs.Addresses.{image_address, image_map, text_at};
@@ -21,16 +23,13 @@ use goblin_pe_c_headers::section::PeSection;
 /// Sets `*offset` to the file offset of an RVA, as `image->options.mapping` says. If several
 /// sections hold it, the first one counts. The offset may lie past the end of the file.
 ///
-/// Returns whether the RVA has an offset. It has none outside of sections and mapped headers, in
-/// the zeros after raw data, from 2^32 on, and if the file alignment is no power of two.
+/// Returns whether the RVA has an offset. If sections map RVAs, it has none outside of them and of
+/// mapped headers, and in the zeros after raw data.
 #[unsafe(no_mangle)]
 pub extern "C" fn goblin_pe_raw_find_offset(image: &PeImage, rva: usize, offset: &mut usize) -> bool
-    ensures { let i = image.now in
-        Puts (λ o. o) result (image_map i.options (image_places i) i.bytes.now rva) offset.old
-        offset.new }
+    ensures { Puts (λ o. o) result (image_map image.now rva) offset.old offset.new }
 {
-    let places = places_of(image);
-    put_found(offset, offset_of(image.bytes, &image.options, &places, rva))
+    put_found(offset, offset_of(image, rva))
 }
 
 /// Sets `*rva` to an RVA that `goblin_pe_find_offset` maps to this offset: that in the first
@@ -40,12 +39,9 @@ pub extern "C" fn goblin_pe_raw_find_offset(image: &PeImage, rva: usize, offset:
 /// sections are not tried.
 #[unsafe(no_mangle)]
 pub extern "C" fn goblin_pe_raw_find_rva(image: &PeImage, offset: usize, rva: &mut usize) -> bool
-    ensures { let i = image.now in
-        Puts (λ a. a) result (image_address i.options (image_places i) i.bytes.now offset) rva.old
-        rva.new }
+    ensures { Puts (λ a. a) result (image_address image.now offset) rva.old rva.new }
 {
-    let places = places_of(image);
-    put_found(rva, rva_of(image.bytes, &image.options, &places, offset))
+    put_found(rva, rva_of(image, offset))
 }
 
 /// Tells what a loader puts at an RVA: the region and section, and the first `size` bytes as far as
@@ -68,12 +64,11 @@ pub extern "C" fn goblin_pe_raw_memory_at<'a>(
     size: usize,
     memory: &mut PeMemory<'a>,
 ) -> bool
-    ensures value { let i = image.now in
-        memory_model memory.new ≡ memory_at i.options (image_places i) i.bytes.now rva size }
-    ensures file { let i = image.now in SeesFile i.options (image_places i) i.bytes.now }
+    ensures value { memory_model memory.new ≡ memory_at image.now rva size }
+    ensures file { SeesFile image.now }
     ensures all { result ≡ (memory.new.missing == 0) }
 {
-    *memory = memory::memory_at(image.bytes, &image.options, &places_of(image), rva, size);
+    *memory = memory::memory_at(image, rva, size);
     memory.missing == 0
 }
 
@@ -82,7 +77,9 @@ pub extern "C" fn goblin_pe_raw_memory_at<'a>(
 /// without a raw pointer (an object's .bss) has no bytes, and is zeros. If the file ends too early,
 /// `missing` says how many bytes it lacks, and no zeros follow.
 ///
-/// The raw data begins as `image->options.mapping` says. `section` may be made by hand. With an
+/// The raw data begins as `image->options.mapping` says, with
+/// [`PeMapping::Identity`](goblin_pe_c_headers::options::PeMapping) at the stored raw pointer. In a
+/// dump that is another place: use [`goblin_pe_memory_at`]. `section` may be made by hand. With an
 /// unknown mapping all is missing. Fills `*memory` in any case.
 ///
 /// Returns whether nothing is missing.
@@ -107,21 +104,20 @@ pub extern "C" fn goblin_pe_raw_section_data<'a>(
 /// section's end is not looked at. To read bytes that may not be UTF-8, use
 /// `goblin_pe_find_offset`.
 ///
-/// Faults: UNMAPPED; READ if the offset is past the end, or the text is not UTF-8; OPTIONS.
+/// Faults: UNMAPPED; READ if the offset is at or past the end, or the text is not UTF-8; OPTIONS.
 #[unsafe(no_mangle)]
 pub extern "C" fn goblin_pe_raw_text_at<'a>(
     image: &PeImage<'a>,
     rva: usize,
     text: &mut PeSlice<'a>,
 ) -> PeFault
-    ensures { let i = image.now in
-        ReportedAfter (options_fault i.options) result (text.new ≡ text.old)
-        (ReadsWithout (text_at i.options (image_places i) i.bytes.now rva) i.bytes.now
+    ensures { ReportedAfter (options_fault image.now.options) result (text.new ≡ text.old)
+        (ReadsWithout (text_at image.now rva) image.now.bytes.now
         (λ whole. slice_model text.new ≡ whole) (text.new ≡ text.old)) }
 {
     let refusal = refused_call(&image.options);
     if refusal.status != 0 {
         return refusal;
     }
-    status_of(read_text(image.bytes, &image.options, &places_of(image), rva, text))
+    status_of(read_text(image, rva, text))
 }

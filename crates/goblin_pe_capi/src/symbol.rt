@@ -1,7 +1,8 @@
 //! The calls for texts of the string table, and for auxiliary records.
 
 ghost use Rattle.std.specs.Prelude.{◌≡◌};
-ghost use Rattle.goblin_pe_c_headers.specs.Auxiliary.{AuxiliaryModel, kind_number, kind_of};
+ghost use Rattle.goblin_pe_c_headers.specs.Auxiliary.{AuxiliaryModel, auxiliary_kind};
+ghost use Rattle.goblin_pe_c_headers.specs.Auxiliary.{auxiliary_number};
 ghost use Rattle.goblin_pe_c_headers.specs.{Found.Puts, Images.slice_model, Symbols.string_at};
 
 use goblin_pe_c_headers::auxiliary::{PeAuxiliary, read_auxiliary};
@@ -34,9 +35,10 @@ pub extern "C" fn goblin_pe_raw_read_auxiliary<'a>(
     symbol: &PeSymbol<'a>,
     auxiliary: &mut PeAuxiliary<'a>,
 ) -> u32
-    ensures kind { result ≡ kind_number (kind_of symbol.now.record symbol.now.auxiliary.now) }
-    ensures value { AuxiliaryModel (kind_of symbol.now.record symbol.now.auxiliary.now)
-        symbol.now.auxiliary.now auxiliary.new }
+    ensures kind { let s = symbol.now in
+        result ≡ auxiliary_number (auxiliary_kind s.record s.auxiliary.now) }
+    ensures value { let s = symbol.now in
+        AuxiliaryModel (auxiliary_kind s.record s.auxiliary.now) s.auxiliary.now auxiliary.new }
 {
     read_auxiliary(symbol, auxiliary) as u32
 }

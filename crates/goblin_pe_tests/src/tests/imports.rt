@@ -1,8 +1,10 @@
 //! Imports by entries of two bytes, and what only a caller in Rattle can ask for or make.
 
 use super::rows::{
-    ImportRow, RECORD, Short, are_imports, is_sample_library, is_sample_table, is_seven_alone,
+    GO, ImportRow, RECORD, SEVEN, Short, are_imports, is_sample_library, is_sample_table,
+    is_seven_alone,
 };
+use super::sample::is_import_data;
 use fixture::sample::{
     ALIGNMENT, IMPORTS, LOOKUP, SAMPLE_LEN, cut, in_mode, is_err, put, sample, sample_section,
     sample_with,
@@ -51,13 +53,62 @@ fn are_alike<'a, T: Bitfield<'a>>(alloc: Global, file: &'a [u8], rows: &[ImportR
         && are_listed::<T>(alloc, file, ParseMode::Permissive, rows)
 }
 
-/// What is listed of the sample file.
+/// What is listed of the sample file by entries of two bytes, and of eight.
 const OF_TWO: &[ImportRow] = &[("Go", 5, 0x1060, 0x1090, 2, 0)];
 
+const OF_EIGHT: &[ImportRow] = &[("ORDINAL 4240", 4240, 0x1060, 0, 8, 0)];
+
 #[test]
-fn imports_are_listed_by_entries_of_two_bytes(rt: HostRuntime) {
+fn imports_are_listed_by_entries_of_two_and_of_eight_bytes(rt: HostRuntime) {
     let file = sample();
     assert!(rt; are_alike::<Short>(rt.alloc(), &file, OF_TWO));
+    assert!(rt; are_alike::<u64>(rt.alloc(), &file, OF_EIGHT));
+}
+
+#[test]
+fn an_address_table_is_read_where_there_is_no_lookup_table(rt: HostRuntime) {
+    let file = sample_with(0x200, b"\0\0");
+    assert!(rt; are_alike::<u32>(rt.alloc(), &file, &[GO, SEVEN]));
+}
+
+/// Whether strict mode refuses the imports of a file, and permissive mode lists these.
+fn are_permissive(alloc: Global, file: &[u8], rows: &[ImportRow]) -> bool {
+    matches!(&data_of::<u32>(alloc, file, ParseMode::Strict), Err(_))
+        && are_listed::<u32>(alloc, file, ParseMode::Permissive, rows)
+}
+
+#[test]
+fn an_entry_that_leads_to_no_whole_name(rt: HostRuntime) {
+    let (nameless, cut, nowhere) = (
+        sample_with(0x240, b"\xFE\x10"),
+        sample_with(0x240, b"\xFF\x10"),
+        sample_with(0x240, b"\0\x90"),
+    );
+    assert!(rt;
+        are_permissive(
+            rt.alloc(),
+            &nameless,
+            &[("", 0, 0x1060, 0x10FE, 4, 0), SEVEN]
+        )
+    );
+    assert!(rt; are_permissive(rt.alloc(), &cut, &[SEVEN]));
+    assert!(rt; are_alike::<u32>(rt.alloc(), &nowhere, &[SEVEN]));
+}
+
+/// The sample file with a record before its own, whose address table no section maps.
+const TWO_RECORDS: &[u8] = b"\0\x90\0\0\x40\x10\0\0\0\0\0\0\0\0\0\0\x80\x10\0\0\x60\x10\0\0";
+
+/// Whether strict mode refuses the address table of a library, which permissive mode leaves out.
+fn leaves_one_out(alloc: Global, file: &[u8]) -> bool {
+    let strict = data_of::<u32>(alloc, file, ParseMode::Strict);
+    let permissive = data_of::<u32>(alloc, file, ParseMode::Permissive);
+    is_err(strict, &Error::Malformed(Cause::Unmapped(0x9000)))
+        && matches!(&permissive, Ok(data) if is_import_data(data))
+}
+
+#[test]
+fn a_library_without_an_address_table_is_left_out(rt: HostRuntime) {
+    assert!(rt; leaves_one_out(rt.alloc(), &sample_with(0x210, TWO_RECORDS)));
 }
 
 /// The sample file with its record twice.

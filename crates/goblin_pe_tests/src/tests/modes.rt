@@ -1,17 +1,19 @@
 //! Readers in both modes, under two tables of sections, and of two files at once.
 
 use super::rows::RECORD;
-use super::sample::{COFF_HEADER, OfSample, are_both_samples, are_samples, is_section};
+use super::sample::{COFF_HEADER, OfSample, are_both_samples, are_samples, has_tables, is_section};
 use fixture::sample::{
-    ALIGNMENT, EXPORTS, IMPORTS, LOOKUP, TABLE, directory, put_all, sample, sample_section, section,
+    ALIGNMENT, EXPORTS, IMPORTS, LOOKUP, TABLE, directory, in_mode, put_all, sample,
+    sample_section, sample_with, section,
 };
-use goblin_base::{CauseOf, ErrorOf, ResultOf};
+use goblin_base::{CauseOf, ErrorOf, ParseMode, ResultOf};
 use goblin_pe::import::{Import, ImportData, ImportDirectoryEntry};
 use goblin_pe::laws::{
     PartsOf, Request, TablesOf, mode_header, mode_tables, mode_whole, reorder_whole_tables,
     twin_parts,
 };
-use goblin_pe::options::ParseOptions;
+use goblin_pe::options::{ParseOptions, RawPointerRule};
+use goblin_pe::{Part, Whole};
 use goblin_pe_sect::DataDirectory;
 use goblin_pe_sect::relocation::RelocationData;
 use std::alloc::Global;
@@ -32,6 +34,34 @@ const REQUEST: Request = Request {
     value: IMPORTS,
     name: 0x1080,
 };
+
+/// Whether a file has the sample's imports and exports by this rule.
+fn has_tables_by(alloc: Global, file: &[u8], rule: RawPointerRule) -> bool {
+    let opts = ParseOptions::default().with_raw_pointer_rule(rule);
+    matches!(&Whole::read(alloc, file, &opts), Ok(whole) if has_tables(whole))
+}
+
+/// Whether strict mode refuses a file, of which permissive mode reads no table.
+fn has_no_tables(alloc: Global, file: &[u8]) -> bool {
+    matches!(
+        &Whole::read(alloc, file, &in_mode(ParseMode::Strict)),
+        Err(_)
+    ) && matches!(
+            &Whole::read(alloc, file, &in_mode(ParseMode::Permissive)),
+            Ok(whole) if lacks_tables(whole)
+        )
+}
+
+fn lacks_tables(whole: &Whole) -> bool {
+    matches!((&whole.imports, &whole.exports), (Part::Read(rows), Part::Refused) if rows.is_empty())
+}
+
+#[test]
+fn a_raw_pointer_is_rounded_by_a_rule(rt: HostRuntime) {
+    let file = sample_with(0x14C, b"\x10\x02");
+    assert!(rt; has_tables_by(rt.alloc(), &file, RawPointerRule::RoundedTo512));
+    assert!(rt; has_no_tables(rt.alloc(), &file));
+}
 
 #[test]
 fn both_modes_read_the_same_header(rt: HostRuntime) {

@@ -152,9 +152,10 @@ pub const FORWARDED: ExportRow = (
     }),
 );
 
-/// Whether these are the two exports, in this order.
+/// Whether these are the exports, one or two, in this order.
 pub fn are_exports(exports: &[Export], rows: &[ExportRow]) -> bool {
     match (exports, rows) {
+        ([only], [row]) => is_export(only, row),
         ([first, second], [row, next]) => is_export(first, row) && is_export(second, next),
         _ => false,
     }

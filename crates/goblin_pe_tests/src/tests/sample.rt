@@ -42,7 +42,7 @@ pub fn is_section(sections: &[SectionTable]) -> bool {
     sections == [sample_section()].as_slice()
 }
 
-fn is_import_data(data: &ImportData) -> bool {
+pub fn is_import_data(data: &ImportData) -> bool {
     match &data.import_data[..] {
         [library] => is_sample_library(library, &RECORD),
         _ => false,
@@ -97,11 +97,14 @@ fn has_exports(whole: &Whole) -> bool {
     }
 }
 
+pub fn has_tables(whole: &Whole) -> bool {
+    has_imports(whole) && has_exports(whole)
+}
+
 fn is_whole(whole: &Whole) -> bool {
     is_header(&whole.header)
         && is_section(&whole.sections)
-        && has_imports(whole)
-        && has_exports(whole)
+        && has_tables(whole)
         && matches!(whole.relocations, Part::Absent)
 }
 
