@@ -10,6 +10,7 @@ ghost use Rattle.std.specs.Prelude.{length, map, []};
 ghost use Rattle.std.specs.{Int.is_power_of_two, List.Sorted.IsStrictlyIncreasing};
 ghost use Rattle.goblin_base.specs.Answers.{IsMemory};
 ghost use Rattle.goblin_pe_sect.specs.{Mapping.file_offset, Options.mapping_by};
+ghost use Rattle.goblin_pe_sect.specs.declared.options.View.TheVariants.{Sections};
 ghost use Rattle.goblin_pe_sect.specs.WindowIndexFields.{KeepsPiecesAlone};
 ghost use Rattle.goblin_pe_sect.specs.WindowIndex.{IsCut, begins_of, first_owner, located};
 ghost use Rattle.goblin_pe_sect.specs.WindowIndex.{reached, halvings, HasPieces};
@@ -116,7 +117,7 @@ impl WindowIndex {
         ensures cut { IfOk result
             (λ w.
             IsTrue opts.now.resolve_rva → IsTrue (is_power_of_two file_alignment)
-            → IsCut (mapping_by opts.now) sections.now file_alignment w.begins) }
+            → IsCut Sections sections.now file_alignment w.begins) }
         ensures owned { let mapping = mapping_by opts.now in
             IfOk result
             (λ w. w.owners ≡ map (first_owner mapping sections.now file_alignment) w.begins) }
@@ -141,7 +142,7 @@ impl WindowIndex {
         ensures cut { IfOk result
             (λ w.
             IsTrue mapping.resolve_rva → IsTrue (is_power_of_two file_alignment)
-            → IsCut mapping sections.now file_alignment w.begins) }
+            → IsCut mapping.view sections.now file_alignment w.begins) }
         ensures owned { IfOk result
             (λ w. w.owners ≡ map (first_owner mapping sections.now file_alignment) w.begins) }
     {

@@ -50,7 +50,7 @@ fn find_window(
             low = low.max(past);
             continue 'records;
         }
-        let (begin, end) = section_window(&section, file_alignment, mapping);
+        let (begin, end) = section_window(&section, file_alignment, mapping.view);
         if rva < begin {
             high = high.min(begin);
         } else if end <= rva {
