@@ -286,7 +286,7 @@ sections_after strict h =
     sections_at strict (symbols_end h.coff_header) h.coff_header.number_of_sections
     (section_table_offset h)
 
--- the header and the sections, which both modes require (`IsLayoutOf` says what a `Layout` has)
+-- the header and the sections, which both modes require
 unfoldable pub layout : ParseOptions → Reading (PeHeader × List Section)
 layout opts =
     let strict = is_strict opts.parse_mode in

@@ -12,9 +12,7 @@
 //! two are equal values or both refusals if the files agree on the footprint of the read in `a` and
 //! neither is `Error::Memory`. Nothing is said about equal causes.
 //!
-//! The calls whose names begin with `footprint` list the footprint of a read, as ranges in order
-//! that do not touch. [`mark_whole`] returns the marks from which the ranges of a whole file come,
-//! and [`FileKey`] keeps the bytes there.
+//! [`footprint_imports`] lists the footprint of a read of imports, as ranges.
 //!
 //! The calls whose names begin with `mode` read one file in both modes. Permissive mode repeats
 //! what strict mode reads, with one exception: an import directory at file offset 0 is an empty

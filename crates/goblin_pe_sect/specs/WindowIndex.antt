@@ -25,8 +25,8 @@ abbrev pub owners_of : List Piece → List (Option Owner)
 owners_of pieces = map (λ (p : Piece). p.owner) pieces
 
 -- an index has pieces: addresses are mapped, and the alignment is a power of two
-abbrev pub HasPieces : Mapping → ℕ → Type 0
-HasPieces mapping alignment = IsTrue mapping.resolve_rva × IsTrue (is_power_of_two alignment)
+abbrev pub HasPieces : Bool → ℕ → Type 0
+HasPieces resolves alignment = IsTrue resolves × IsTrue (is_power_of_two alignment)
 
 -- ---- the pieces
 

@@ -96,8 +96,7 @@ impl WindowIndex {
     /// [`find_offset`](crate::utils::find_offset) does with the same arguments.
     ///
     /// The index has at most two pieces for each section, and one more. If `opts` says that
-    /// addresses are offsets, or `file_alignment` is not a power of two, it has no pieces and takes
-    /// no memory.
+    /// addresses are offsets, or `file_alignment` is not a power of two, it has no pieces.
     ///
     /// # Errors
     /// Only [`Error::Memory`](goblin_base::Error::Memory).
@@ -112,8 +111,8 @@ impl WindowIndex {
             (λ w. (rva : ℕ) → located w rva ≡ file_offset mapping sections.now file_alignment rva) }
         ensures refused { IfErr result IsMemory }
         ensures few { IfOk result (λ w. length w.begins ≤ 2 * length sections.now + 1) }
-        ensures no_pieces { let mapping = mapping_by opts.now in
-            IfOk result (λ w. ¬ HasPieces mapping file_alignment → w.begins ≡ []) }
+        ensures no_pieces { IfOk result
+            (λ w. ¬ HasPieces opts.now.resolve_rva file_alignment → w.begins ≡ []) }
         ensures cut { IfOk result
             (λ w.
             IsTrue opts.now.resolve_rva → IsTrue (is_power_of_two file_alignment)
@@ -138,7 +137,8 @@ impl WindowIndex {
             (rva : ℕ) → located w rva ≡ file_offset mapping sections.now file_alignment rva) }
         ensures refused { IfErr result IsMemory }
         ensures few { IfOk result (λ w. length w.begins ≤ 2 * length sections.now + 1) }
-        ensures no_pieces { IfOk result (λ w. ¬ HasPieces mapping file_alignment → w.begins ≡ []) }
+        ensures no_pieces { IfOk result
+            (λ w. ¬ HasPieces mapping.resolve_rva file_alignment → w.begins ≡ []) }
         ensures cut { IfOk result
             (λ w.
             IsTrue mapping.resolve_rva → IsTrue (is_power_of_two file_alignment)

@@ -202,6 +202,7 @@ impl<'a> HeaderParts<'a> {
             },
         }
     }
+
     /// The optional header, made of the parts that could be read. It is `None` if the standard
     /// fields are `None` or refused. If the Windows fields are refused, they are zeros here. If the
     /// data directories are refused, there are none here.
