@@ -12,7 +12,7 @@ use Rattle.goblin_pe_sect.specs.declared.options.ParseOptions.{ParseOptions}
 use Rattle.goblin_pe_sect.specs.declared.options.View.{View}
 use Rattle.goblin_pe_sect.specs.declared.options.View.TheVariants.{Sections}
 use Rattle.goblin_pe_sect.specs.{AddressReadings.relocation_data, BaseRelocations.relocation_bytes}
-use Rattle.goblin_pe_sect.specs.DataDirectories.{directory_or_zeros, no_directory}
+use Rattle.goblin_pe_sect.specs.DataDirectories.{directory_or_zeros, zero_directory}
 use Rattle.goblin_pe_sect.specs.Addresses.{table_offset, Addressing, with_whole_names}
 use Rattle.goblin_pe_sect.specs.Options.{front_of, is_strict, mapping_in}
 use Rattle.goblin_pe_sect.specs.SectionTable.{MappedSections, Section}
@@ -109,7 +109,7 @@ directory_offset addressing places index = offset_in addressing (directory_at pl
 -- where the tables lie, from an optional header; without one there are no tables
 unfoldable pub places_in : Option OptionalHeader → TablePlaces
 places_in None =
-    record { magic = 0; file_alignment = 0; directories = replicate 16 no_directory }
+    record { magic = 0; file_alignment = 0; directories = replicate 16 zero_directory }
 places_in (Some h) = record {
   magic = h.standard_fields.magic;
   file_alignment = h.windows_fields.file_alignment;
