@@ -55,8 +55,8 @@ pub struct WindowsFields32 {
     /// section alignment, and what the loader reserves.
     pub size_of_image: u32,
     /// The size of all headers together, in bytes, rounded up to the file alignment, at 32. The
-    /// loader maps this much of the front of the file at the image's base, in whole file blocks, but
-    /// no more than whole pages of 4,096 bytes.
+    /// loader maps this much of the front of the file at the image's base, in whole file blocks,
+    /// but no more than whole pages of 4,096 bytes.
     pub size_of_headers: u32,
     /// The checksum of the image, at 36. The loader tests it for drivers and for images that are
     /// loaded at boot; no reader tests it.
@@ -206,8 +206,8 @@ pub struct WindowsFields64 {
     /// section alignment, and what the loader reserves.
     pub size_of_image: u32,
     /// The size of all headers together, in bytes, rounded up to the file alignment, at 36. The
-    /// loader maps this much of the front of the file at the image's base, in whole file blocks, but
-    /// no more than whole pages of 4,096 bytes.
+    /// loader maps this much of the front of the file at the image's base, in whole file blocks,
+    /// but no more than whole pages of 4,096 bytes.
     pub size_of_headers: u32,
     /// The checksum of the image, at 40. The loader tests it for drivers and for images that are
     /// loaded at boot; no reader tests it.
