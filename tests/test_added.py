@@ -1,5 +1,5 @@
-"""What goblin has does not depend on what is added to it: no file outside the folders `added` names one of them, or calls a method
-in one. ARCHITECTURE.md says how many lines both have."""
+"""What goblin has does not depend on what is added to it: no file outside the folders `added` names one of them, calls a method in
+one, or quotes what one declares in a comment. ARCHITECTURE.md says how many lines both have."""
 import re
 import unittest
 
@@ -21,19 +21,36 @@ def code(file):
     return re.sub(r"(?m)(//|--).*$", "", file.read_text("utf-8"))
 
 
+def methods(text):
+    """The type and the name of each method in these sources."""
+    for kind, body in re.findall(r"(?ms)^impl(?:<[^>]*>)? (\w+)(?:<[^{]*>)? \{\n(.*?)^\}", text):
+        yield from ((kind, name) for name in re.findall(r"\bfn (\w+)", body))
+
+
 class Added(unittest.TestCase):
+    def setUp(self):
+        self.added, self.others = ("\n".join(map(code, files("src", GOBLIN, added))) for added in (True, False))
+        self.rest = [it for part in ("src", "specs", "proofs") for it in files(part, (*GOBLIN, "pe_listing", "pe_list"), False)]
+
     def test_what_goblin_has_names_nothing_that_is_added(self):
-        for file in [it for part in ("src", "specs", "proofs") for it in files(part, (*GOBLIN, "pe_listing", "pe_list"), False)]:
+        for file in self.rest:
             with self.subTest(file.relative_to(CRATES)):
                 self.assertNotRegex(code(file), NAMED)
 
     def test_what_goblin_has_calls_no_method_that_is_added(self):
-        added = "\n".join(map(code, files("src", GOBLIN, True)))
-        others = "\n".join(map(code, files("src", GOBLIN, False)))
-        for kind, body in re.findall(r"(?ms)^impl(?:<[^>]*>)? (\w+)(?:<[^{]*>)? \{\n(.*?)^\}", added):
-            for name in re.findall(r"\bfn (\w+)", body) if re.search(rf"\b(?:struct|enum) {kind}\b", others) else ():
+        for kind, name in methods(self.added):
+            if re.search(rf"\b(?:struct|enum) {kind}\b", self.others):
                 with self.subTest(f"{kind}::{name}"):
-                    self.assertNotRegex(others, rf"(?:{kind}::|Self::|\.){name}\b[(:]")
+                    self.assertNotRegex(self.others, rf"(?:{kind}::|Self::|\.){name}\b[(:]")
+
+    def test_what_goblin_has_quotes_nothing_that_is_added(self):
+        items = set(re.findall(r"(?m)^pub(?:\(\w+\))? (?:fn|struct|enum|const|trait|type) (\w+)", self.added))
+        items |= {"::".join(it) for it in methods(self.added)}
+        for file in self.rest:
+            comments = " ".join(re.findall(r"(?://|--).*", file.read_text("utf-8")))
+            quoted = {name for it in re.findall(r"`([\w:]+)", comments) for name in (*it.split("::"), "::".join(it.split("::")[-2:]))}
+            with self.subTest(file.relative_to(CRATES)):
+                self.assertFalse(items & quoted)
 
     def test_the_lines_are_counted(self):
         text = (TOP / "docs/ARCHITECTURE.md").read_text("utf-8")

@@ -42,6 +42,7 @@ CONSTANTS = [
     ("relocation", "u16", 16, "IMAGE_REL_ARM64_", """ABSOLUTE 0 ADDR32 1 ADDR32NB 2 BRANCH26 3
         PAGEBASE_REL21 4 REL21 5 PAGEOFFSET_12A 6 PAGEOFFSET_12L 7 SECREL 8 SECREL_LOW12A 9 SECREL_HIGH12A A
         SECREL_LOW12L B TOKEN C SECTION D ADDR64 E BRANCH19 F"""),
+    ("relocation", "u16", 16, "IMAGE_REL_", "ARM_REL32 A ARM_PAIR 16 ARM64_BRANCH14 10 ARM64_REL32 11"),  # not in goblin
     ("relocation", "u16", 16, "IMAGE_REL_IA64_", """ABSOLUTE 0 IMM14 1 IMM22 2 IMM64 3 DIR 4 DIR64 5
         PCREL21B 6 PCREL21M 7 PCREL21F 8 GPREL22 9 LTOFF22 A SECTION B SECREL22 C SECREL64I D SECREL E
         LTOFF64 F DIR32NB 10 SREL14 11 SREL22 12 SREL32 13 UREL32 14 PCREL60X 15 PCREL60B 16 PCREL60F 17
@@ -96,8 +97,8 @@ def exported(module):
 
 
 class Constants(unittest.TestCase):
-    def test_as_many_as_goblin_has(self):
-        self.assertEqual((267, 267), (len(list(listed())), len({name for name, *_ in listed()})))
+    def test_as_many_as_goblin_has_and_four_of_the_standard(self):
+        self.assertEqual((271, 271), (len(list(listed())), len({name for name, *_ in listed()})))
 
     def test_declared_once_and_in_the_module(self):
         declared = {}

@@ -628,7 +628,8 @@ struct goblin_pe_windows_fields {
        section alignment, and what the loader reserves. */
     uint32_t size_of_image;
     /* The size of all headers together, in bytes, rounded up to the file alignment, at 36. The
-       loader maps this much of the front of the file, in whole file blocks, at the image's base. */
+       loader maps this much of the front of the file at the image's base, in whole file blocks, but
+       no more than whole pages of 4,096 bytes. */
     uint32_t size_of_headers;
     /* The checksum of the image, at 40. The loader tests it for drivers and for images that are
        loaded at boot; no reader tests it. */

@@ -12,7 +12,7 @@ use Rattle.goblin_pe_sect.specs.declared.options.ParseOptions.{ParseOptions}
 use Rattle.goblin_pe_sect.specs.declared.options.View.{View}
 use Rattle.goblin_pe_sect.specs.declared.options.View.TheVariants.{Sections}
 use Rattle.goblin_pe_sect.specs.{AddressReadings.relocation_data, BaseRelocations.relocation_bytes}
-use Rattle.goblin_pe_sect.specs.DataDirectories.{directory_or_zeros, no_directory}
+use Rattle.goblin_pe_sect.specs.DataDirectories.{directory_or_zeros, zero_directory}
 use Rattle.goblin_pe_sect.specs.Addresses.{table_offset, Addressing, with_whole_names}
 use Rattle.goblin_pe_sect.specs.Options.{front_of, is_strict, mapping_in}
 use Rattle.goblin_pe_sect.specs.SectionTable.{MappedSections, Section}
@@ -109,7 +109,7 @@ directory_offset addressing places index = offset_in addressing (directory_at pl
 -- where the tables lie, from an optional header; without one there are no tables
 unfoldable pub places_in : Option OptionalHeader → TablePlaces
 places_in None =
-    record { magic = 0; file_alignment = 0; directories = replicate 16 no_directory }
+    record { magic = 0; file_alignment = 0; directories = replicate 16 zero_directory }
 places_in (Some h) = record {
   magic = h.standard_fields.magic;
   file_alignment = h.windows_fields.file_alignment;
@@ -286,7 +286,7 @@ sections_after strict h =
     sections_at strict (symbols_end h.coff_header) h.coff_header.number_of_sections
     (section_table_offset h)
 
--- the header and the sections, which both modes require (`IsLayoutOf` says what a `Layout` has)
+-- the header and the sections, which both modes require
 unfoldable pub layout : ParseOptions → Reading (PeHeader × List Section)
 layout opts =
     let strict = is_strict opts.parse_mode in

@@ -1,16 +1,14 @@
 //! A whole file: its header, its sections, and the tables that its directories lead to.
 
 ghost use Rattle.std.specs.Prelude.{◌≡◌, ◌<◌, ◌/◌, IfOk, IfSome, IsErrAnd, Some, length};
-ghost use Rattle.goblin_base.specs.Reading.{Reads, ReadsOrMemory};
-ghost use Rattle.goblin_pe_sect.specs.{AddressReadings.text_at_address, Options.is_strict};
+ghost use Rattle.goblin_base.specs.Reading.{ReadsOrMemory};
+ghost use Rattle.goblin_pe_sect.specs.Options.{is_strict};
 ghost use Rattle.goblin_pe_head.specs.{HeaderReadings.pe_header, CoffHeader.IsTooManySections};
-ghost use Rattle.goblin_pe_sect.specs.Addresses.{map_by, offset_of};
 ghost use Rattle.goblin_pe.specs.Whole.{import_data_part, listed_imports_part, places_in};
 ghost use Rattle.goblin_pe.specs.Whole.{file_table, whole_file};
 
 use crate::export::{Export, ExportData};
 use crate::import::{Import, ImportData};
-use crate::utils::{find_offset, try_name};
 use goblin_base::Result;
 use goblin_pe_head::header::Header;
 use goblin_pe_sect::address_map::AddressMap;
@@ -24,7 +22,6 @@ pub(crate) mod places;
 pub(crate) mod sections;
 
 use listed::{ListedTables, export_parts};
-use places::file_alignment;
 pub use places::{Places, size_of_headers};
 pub use sections::{section_table_offset, sections_of};
 
@@ -43,9 +40,9 @@ pub enum Part<T> {
 
 /// A whole file: its header, its sections, and the tables for a loader.
 ///
-/// Names and data borrow from the file, except section names from the string table, which are
-/// copies. Together these may have as many bytes as the longest of them, times the number of
-/// sections.
+/// Names and data borrow from the file, except section names from the string table and the names of
+/// imports by ordinal, which are copies. Together the section names may have as many bytes as the
+/// longest of them, times the number of sections.
 ///
 /// Source: PE Format, "Overview".
 #[derive(Debug, Drop)]
@@ -95,7 +92,6 @@ impl<'a> Whole<'a> {
     /// A table is [`Part::Absent`] if there is no optional header or no data directory for it. The
     /// imports are also absent if the options do not ask for them. In permissive mode a table that
     /// is refused is [`Part::Refused`], and so is the list that would be made from it.
-    /// [`Whole::damage`] counts what is left out of the imports and the exports.
     ///
     /// # Errors
     /// As [`Header::parse_with_opts`], as
@@ -135,34 +131,5 @@ impl<'a> Whole<'a> {
             exports,
             relocations,
         })
-    }
-
-    /// The file offset of the address `rva`, as [`find_offset`] returns it for the sections of the
-    /// file and the file alignment of its optional header. Without an optional header no address
-    /// has one, unless `opts` says that addresses are offsets.
-    pub fn find_offset(&self, rva: usize, opts: &ParseOptions) -> Option<usize>
-        ensures { let places = places_in self.now.header.optional_header in
-            let m = map_by opts.now self.now.sections places.file_alignment in
-            result ≡ offset_of m rva }
-    {
-        let alignment = file_alignment(&self.header.optional_header);
-        find_offset(rva, &self.sections, alignment, opts)
-    }
-
-    /// The text at the address `rva`, up to its first NUL or the end of the file. `bytes` must be
-    /// the bytes of the file. The text is what [`try_name`] returns for the sections of the file
-    /// and the file alignment of its optional header.
-    ///
-    /// # Errors
-    /// In both modes: [`Error::Malformed`](goblin_base::Error::Malformed) with
-    /// [`Cause::Unmapped`](goblin_base::Cause::Unmapped) if the address has no file offset, and
-    /// [`Error::Read`](goblin_base::Error::Read) if there is no text.
-    pub fn try_name<'b>(&self, bytes: &'b [u8], rva: usize, opts: &ParseOptions) -> Result<&'b str>
-        ensures { let places = places_in self.now.header.optional_header in
-            let m = map_by opts.now self.now.sections places.file_alignment in
-            Reads (λ s. s.now) result (text_at_address (offset_of m) rva) bytes.now }
-    {
-        let alignment = file_alignment(&self.header.optional_header);
-        try_name(bytes, rva, &self.sections, alignment, opts)
     }
 }

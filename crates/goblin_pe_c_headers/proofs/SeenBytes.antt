@@ -32,7 +32,7 @@ module _ (file : List ℕ) (p : ℕ) (inside : p < length file) where
   module _ (m : MappedImage) (outside rva : ℕ) (small : rva < 2 ^ 32) (even : is_power_of_two m.alignment ≡ true) where
     -- the section that holds the address in its window has the offset there
     record Holds (s : Section) : Type 0 where
-      within : InWindow m.mapping m.alignment rva s
+      within : InWindow m.mapping.view m.alignment rva s
       at : raw_begin m.mapping s + (rva - s.virtual_address) ≡ p
       there : is_unstored s ≡ false
 
@@ -52,10 +52,10 @@ module _ (file : List ℕ) (p : ℕ) (inside : p < length file) where
         rw (addressed-one rva small, most-one s h, stored-one s h, h.at, one-byte, length-one) (refl, refl)
 
     -- what holds the address is the section whose window does
-    held : (s : Section) → find (is_in_window m.mapping m.alignment rva) m.sections ≡ Some s → holder m rva ≡ Some s
+    held : (s : Section) → find (is_in_window m.mapping.view m.alignment rva) m.sections ≡ Some s → holder m rva ≡ Some s
     held s found = rw (even, found) refl
 
-    by_section : (found : Option Section) → find (is_in_window m.mapping m.alignment rva) m.sections ≡ found
+    by_section : (found : Option Section) → find (is_in_window m.mapping.view m.alignment rva) m.sections ≡ found
         → option_map (λ s. offset_in m.mapping s rva) found ≡ Some p
         → ((s : Section) → holder m rva ≡ Some s → is_unstored s ≡ false)
         → Sees (memory_by m file outside rva 1 (unwrap_or (holder_index m rva) outside) (holder m rva))
@@ -63,14 +63,14 @@ module _ (file : List ℕ) (p : ℕ) (inside : p < length file) where
     by_section (Some s) found at stored =
         rw (held s found)
         (in_section (unwrap_or (holder_index m rva) outside) s (record {
-          within = found_in_window m.mapping m.alignment rva m.sections s found;
+          within = found_in_window m.mapping.view m.alignment rva m.sections s found;
           at = same_value _ _ at;
           there = stored s (held s found);
         }))
 
   by_map : (m : MappedImage) (outside rva : ℕ) → rva < 2 ^ 32
       → (b even : Bool) → m.mapping.resolve_rva ≡ b → is_power_of_two m.alignment ≡ even
-      → cond b (cond even (option_map (λ s. offset_in m.mapping s rva) (find (is_in_window m.mapping m.alignment rva) m.sections)) None) (Some rva) ≡ Some p
+      → cond b (cond even (option_map (λ s. offset_in m.mapping s rva) (find (is_in_window m.mapping.view m.alignment rva) m.sections)) None) (Some rva) ≡ Some p
       → ((s : Section) → holder m rva ≡ Some s → is_unstored s ≡ false)
       → Sees (memory_mapped file outside rva 1 (Some m))
   by_map m outside rva small true true on even at stored = rw on (by_section m outside rva small even _ refl at stored)

@@ -3,11 +3,11 @@ use Rattle.std.specs.Prelude.{Option, Some, None}
 use Rattle.goblin_pe_head.specs.declared.optional_header.OptionalHeader.{OptionalHeader}
 use Rattle.goblin_pe_head.specs.declared.optional_header.standard_fields as standard
 use standard.StandardFields.{StandardFields}
-use Rattle.goblin_pe_head.specs.added.HeaderParts.{no_windows_fields}
+use Rattle.goblin_pe_head.specs.added.HeaderParts.{zero_windows_fields}
 use Rattle.goblin_pe_c_headers.specs.declared.headers.PeOptionalHeader.{PeOptionalHeader}
 
-abbrev pub no_standard_fields : StandardFields
-no_standard_fields = record {
+abbrev pub zero_standard_fields : StandardFields
+zero_standard_fields = record {
   magic = 0;
   major_linker_version = 0;
   minor_linker_version = 0;
@@ -22,6 +22,6 @@ no_standard_fields = record {
 -- the fields of an optional header, zeros where there is none
 abbrev pub optional_record : Option OptionalHeader → PeOptionalHeader
 optional_record None =
-    record { standard_fields = no_standard_fields; windows_fields = no_windows_fields }
+    record { standard_fields = zero_standard_fields; windows_fields = zero_windows_fields }
 optional_record (Some h) =
     record { standard_fields = h.standard_fields; windows_fields = h.windows_fields }

@@ -1,10 +1,10 @@
 -- The record of an image, as definitions.
 use Rattle.std.specs.Prelude.{◌≡◌, ℕ, List, [], ◌∷◌, false, replicate}
-use Rattle.goblin_pe_head.specs.added.HeaderParts.{no_windows_fields}
+use Rattle.goblin_pe_head.specs.added.HeaderParts.{zero_windows_fields}
 use Rattle.goblin_pe_head.specs.PeHeader.{zero_coff_header, zero_dos_header}
 use Rattle.goblin_pe_c_headers.specs.{Images.PeImage, declared.image.PeRichHeader.PeRichHeader}
-use Rattle.goblin_pe_c_headers.specs.{Options.PeOptions, Headers.no_standard_fields}
-use Rattle.goblin_pe_sect.specs.DataDirectories.{no_directory}
+use Rattle.goblin_pe_c_headers.specs.{Options.PeOptions, Headers.zero_standard_fields}
+use Rattle.goblin_pe_sect.specs.DataDirectories.{zero_directory}
 
 abbrev pub no_rich_header : PeRichHeader
 no_rich_header = record {
@@ -30,10 +30,10 @@ zero_image options kind image = record image {
   is_dos_stub_replaced = false;
   moved_by = 0;
   optional_header = record {
-    standard_fields = no_standard_fields;
-    windows_fields = no_windows_fields;
+    standard_fields = zero_standard_fields;
+    windows_fields = zero_windows_fields;
   };
-  directories = replicate 16 no_directory;
+  directories = replicate 16 zero_directory;
   dos_stub_size = 0;
   rich_header = no_rich_header;
   reserved = 0;

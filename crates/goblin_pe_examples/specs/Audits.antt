@@ -12,7 +12,8 @@ use Rattle.goblin_pe.specs.base.ErrorText.{error_text}
 use Rattle.goblin_pe.specs.export.ExportRecords.{ExportRow, ExportTables, NumberedExport}
 use Rattle.goblin_pe.specs.import.Imports.{NumberedImport}
 use Rattle.goblin_pe.specs.sect.Mapping.{section_at}
-use Rattle.goblin_pe.specs.sect.Options.{default_options, mapping_by}
+use Rattle.goblin_pe.specs.sect.Options.{default_options}
+use Rattle.goblin_pe.specs.declared.options.View.TheVariants.{Sections}
 use Rattle.goblin_pe.specs.head.PeHeader.{PeHeader}
 use Rattle.goblin_pe.specs.base.Reading.{IsRefused, Reading}
 use Rattle.goblin_pe.specs.readings.Reads.{mapped}
@@ -66,16 +67,16 @@ is_code_there None = false
 is_code_there (Some s) = is_code s
 
 -- whether the entry point of an optional header lies in a section that may be executed
-abbrev pub is_entered_in_code : ParseOptions → Option OptionalHeader → List Section → Bool
-is_entered_in_code opts None sections = false
-is_entered_in_code opts (Some h) sections =
+abbrev pub is_entered_in_code : Option OptionalHeader → List Section → Bool
+is_entered_in_code None sections = false
+is_entered_in_code (Some h) sections =
     let entry = h.standard_fields.address_of_entry_point in
-    is_code_there (section_at (mapping_by opts) h.windows_fields.file_alignment entry sections)
+    is_code_there (section_at Sections h.windows_fields.file_alignment entry sections)
 
 -- the same for a file
 abbrev pub enters_code : Reading Bool
 enters_code =
-    mapped (λ both. is_entered_in_code default_options both.0.optional_header both.1)
+    mapped (λ both. is_entered_in_code both.0.optional_header both.1)
     (layout default_options)
 
 -- ---- headers

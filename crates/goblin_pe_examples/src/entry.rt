@@ -23,22 +23,18 @@ pub fn enters_code(alloc: Global, bytes: &[u8]) -> Result<bool>
     let opts = ParseOptions::default();
     let header = Header::parse(bytes)?;
     let sections = sections_of(alloc, bytes, &header, &opts)?;
-    Ok(is_entered_in_code(&header.optional_header, &sections, &opts))
+    Ok(is_entered_in_code(&header.optional_header, &sections))
 }
 
 // Whether the entry point lies in a section that may be executed.
-fn is_entered_in_code(
-    header: &Option<OptionalHeader>,
-    sections: &[SectionTable],
-    opts: &ParseOptions,
-) -> bool
-    ensures { result ≡ is_entered_in_code opts.now header.now sections.now }
+fn is_entered_in_code(header: &Option<OptionalHeader>, sections: &[SectionTable]) -> bool
+    ensures { result ≡ is_entered_in_code header.now sections.now }
 {
     let Some(header) = header else {
         return false;
     };
     let entry = header.standard_fields.address_of_entry_point as usize;
-    match section_at(entry, sections, header.windows_fields.file_alignment, opts) {
+    match section_at(entry, sections, header.windows_fields.file_alignment) {
         Some(section) => section.characteristics & IMAGE_SCN_MEM_EXECUTE != 0,
         None => false,
     }

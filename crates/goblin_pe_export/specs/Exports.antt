@@ -1,15 +1,10 @@
 -- Export directories, the tables that they lead to, and the exports that these list, over a map of
 -- addresses to file offsets. The words here are parts of the readings of `ExportReadings`.
 use Rattle.std.specs.Prelude.{ℕ, List, [], Option, unwrap_or}
-use Rattle.goblin_pe_sect.specs.declared.data_directories.DataDirectory.{DataDirectory}
 use Rattle.goblin_pe_sect.specs.Addresses.{Addressing}
 pub use Rattle.goblin_pe_export.specs.ExportRecords.{ExportRow, ExportTables, export_read_model}
 pub use Rattle.goblin_pe_export.specs.ExportRecords.{rva_of}
 use Rattle.goblin_pe_export.specs.ExportReadings as reading
-
--- the export data of a directory
-abbrev pub export_data : Addressing → DataDirectory → List ℕ → Option ExportTables
-export_data addressing d bytes = (reading.export_data addressing d).value bytes
 
 -- the row of the name pointer at index x
 abbrev pub export_row : Addressing → List ℕ → ExportTables → ℕ → Option ExportRow

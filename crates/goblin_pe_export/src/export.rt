@@ -12,7 +12,7 @@ ghost use Rattle.goblin_pe_sect.specs.Options.{default_options};
 ghost use Rattle.goblin_pe_sect.specs.Addresses.{map_by, map_of, Addressing};
 ghost use Rattle.goblin_pe_export.specs.ExportReadings as reading;
 ghost use Rattle.goblin_pe_export.specs.{ExportRecords.numbered_by, ExportReadings.numbered_export};
-ghost use Rattle.goblin_pe_export.specs.Exports.{export_data, export_row, exports, rva_of};
+ghost use Rattle.goblin_pe_export.specs.Exports.{export_row, exports, rva_of};
 ghost use Rattle.goblin_pe_export.specs.Forwarders.{forwarder_value, forwarder_within};
 ghost use Rattle.readings.specs.Reads.{text_within};
 
@@ -38,7 +38,7 @@ pub use tables::{
 // The text at an offset, cut at a limit if there is one. `None` if there is no offset, or no text
 // there.
 #[inline(always)]
-pub(crate) fn text_at(bytes: &[u8], offset: Option<usize>, longest: Option<u32>) -> Option<&str>
+pub(crate) fn text_within(bytes: &[u8], offset: Option<usize>, longest: Option<u32>) -> Option<&str>
     ensures { option_map (λ s. s.now) result
         ≡ option_and_then (λ p. (text_within longest p).value bytes.now) offset }
 {
@@ -291,7 +291,7 @@ impl<'a> Export<'a> {
         let rva = rva_of(address);
         let offset = finder.offset_of(rva);
         let longest = finder.longest_name();
-        let name = text_at(bytes, finder.offset_of_name(pointer), longest);
+        let name = text_within(bytes, finder.offset_of_name(pointer), longest);
         let reexport = reexport_of(bytes, address, offset, longest)?;
         Some(Export {
             name,

@@ -1,5 +1,5 @@
 -- How many imports a file can have: no more than records fit it, each with no more entries than fit it.
-use Rattle.std.proofs.Common.{◌≡◌, ℕ, zero, suc, ◌+◌, ◌*◌, ◌/◌, ◌<◌, ◌≤◌, ◌&&◌, Bool, true, false, cond, not, List, [], ◌∷◌, ◌++◌, length, take_all, add-one, Option, Some, None, refl, sym, ap, subst, arith, get_or, map, nat_eq, slice_get, take, unwrap_or, is_some}
+use Rattle.std.proofs.Common.{sum_by, ◌≡◌, ℕ, zero, suc, ◌+◌, ◌*◌, ◌/◌, ◌<◌, ◌≤◌, ◌&&◌, Bool, true, false, cond, not, List, [], ◌∷◌, ◌++◌, length, take_all, add-one, Option, Some, None, refl, sym, ap, subst, arith, get_or, map, nat_eq, slice_get, take, unwrap_or, is_some}
 use Rattle.std.specs.List.{range_with_len}
 use Rattle.std.proofs.lemmas.Option.{get_or_from_slice_get, slice_get_within}
 use Rattle.std.proofs.lemmas.List.{length-append, length-map}
@@ -19,9 +19,13 @@ use Rattle.goblin_pe_import.specs.ImportRecords.{ImportedLibrary, import_slots, 
 use Rattle.goblin_pe_import.specs.ImportEntries.{EntryValue, LookupEntry, entry_slots}
 use Rattle.goblin_pe_import.specs.LookupReadings as reading
 use Rattle.readings.specs.Reads.{given, in_its_place, pair_of}
-use Rattle.goblin_pe_import.specs.Imports.{ImportValue, has_slots, import_at, imports_by, imports_of, kept_count, kept_entries, library_imports}
+use Rattle.goblin_pe_import.specs.Imports.{ImportValue, has_slots, import_at, imports_by, imports_of, kept_entries, library_imports}
 use Rattle.goblin_base.proofs.SlotTables as SlotTables
 use Rattle.readings.proofs.Pairs.{both, with_slots-both}
+
+-- how many entries the lookup tables of libraries keep
+abbrev kept_count : List ImportedLibrary → ℕ
+kept_count libraries = sum_by (λ library. length (kept_entries library)) libraries
 
 -- ---- tables of slots
 

@@ -2,7 +2,7 @@
 -- libraries and of the entries.
 use Rattle.std.specs.Prelude.{◌≡◌, ◌⊎◌, ℕ, ◌+◌, ◌*◌, ◌^◌, ◌++◌, ◌==◌, nat_lt, not, IsSomeAnd, Bool}
 use Rattle.std.specs.Prelude.{true, false, if◌then◌else◌, codes, List, [], length, map, slice_get}
-use Rattle.std.specs.Prelude.{sum_by, Option, Some, None, unwrap_or, decimal, find}
+use Rattle.std.specs.Prelude.{Option, Some, None, unwrap_or, decimal, find}
 use Rattle.goblin_base.specs.declared.error.ErrorOf.{ErrorOf}
 use Rattle.goblin_base.specs.{declared.error.ErrorOf.TheVariants.Malformed, Tables.each_below}
 use Rattle.goblin_base.specs.declared.error.CauseOf.TheVariants.{Overflow, SlotCount}
@@ -88,10 +88,6 @@ imports_by size dll rva entries slots =
 -- the entries that a library's lookup table keeps
 abbrev pub kept_entries : ImportedLibrary → List LookupEntry
 kept_entries library = unwrap_or library.import_lookup_table []
-
--- how many entries the lookup tables of libraries keep
-abbrev pub kept_count : List ImportedLibrary → ℕ
-kept_count libraries = sum_by (λ library. length (kept_entries library)) libraries
 
 -- a library has as many entries as slots
 abbrev pub has_slots : ImportedLibrary → Bool

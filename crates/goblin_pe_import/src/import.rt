@@ -138,7 +138,7 @@ impl<'a> ImportData<'a> {
     /// In permissive mode, a descriptor is left out if its library is refused for another cause
     /// than memory. The directory may end at the end of the file. The list is empty if the address
     /// of the directory has no file offset, or if that offset is 0, as [`ParseOptions::parse_mode`]
-    /// says. [`LeftOut`] counts what is left out.
+    /// says.
     ///
     /// # Errors
     /// In strict mode [`Error::Malformed`] with [`Cause::Unmapped`] if the directory's address has

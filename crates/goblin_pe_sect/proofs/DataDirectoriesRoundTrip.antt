@@ -8,7 +8,7 @@ use Rattle.goblin_base.specs.Bytes.{IsBytes, number_bytes, slice_at}
 use Rattle.goblin_base.specs.Record.{WritesBack, encoding, FieldsFit, ReadsBack}
 use Rattle.goblin_base.proofs.RecordRoundTrip.{front_more, writes_back, reads_back}
 use Rattle.goblin_base.proofs.{Numbers.slice_at-inside, Writing.encoding_append}
-use Rattle.goblin_pe_sect.specs.DataDirectories.{DataDirectory, directory_fields, directory_or_zeros, directory_record, entries_fields, entry_ending, no_directory}
+use Rattle.goblin_pe_sect.specs.DataDirectories.{DataDirectory, directory_fields, directory_or_zeros, directory_record, entries_fields, entry_ending, zero_directory}
 use Rattle.goblin_pe_sect.specs.DirectoryReadings.{EntriesWriteBack}
 use Rattle.goblin_pe_sect.proofs.DirectoryReadings.{directories_read}
 use Rattle.goblin_pe_sect.proofs.Entries.{directory_entry_at, directory_entry_at-below, directory_entry_at-past}
@@ -22,7 +22,7 @@ directory_again d fit = reads_back 8 directory_record directory_fields d refl (o
 
 pub ruleset round_trip = (directory_back, directory_again)
 
-zeros : encoding Little (directory_fields no_directory) ≡ replicate 8 0
+zeros : encoding Little (directory_fields zero_directory) ≡ replicate 8 0
 unfolding number_bytes
 zeros = refl
 

@@ -73,7 +73,7 @@ below_last xs x up k within =
 
 -- The pieces of the first n sections' windows, without the last: that one begins at `end`, which no window passes.
 pub record AreInOrder (mapping : Mapping) (alignment : ℕ) (sections : List Section) (begins : List ℕ) (owners : List (Option Owner)) (end n : ℕ) : Type 0 where
-  pub cuts : HasCuts mapping sections alignment (begins ++ end ∷ []) n
+  pub cuts : HasCuts mapping.view sections alignment (begins ++ end ∷ []) n
   pub rising : IsStrictlyIncreasing (begins ++ end ∷ [])
   pub past : (rva : ℕ) → end ≤ rva → find (window_holds rva) (section_windows mapping alignment (take n sections)) ≡ None
   pub owned : owners ≡ map (owner_among (section_windows mapping alignment (take n sections))) begins
@@ -97,13 +97,13 @@ module _ (mapping : Mapping) (alignment : ℕ) (sections : List Section) (begins
   -- a window that is empty
   pub in_order_empty : read_size mapping.view s alignment ≡ 0 → AreInOrder mapping alignment sections begins owners end (n + 1)
   in_order_empty empty = record {
-    cuts = cuts_empty mapping sections alignment (begins ++ end ∷ []) n s h.cuts here empty;
+    cuts = cuts_empty mapping.view sections alignment (begins ++ end ∷ []) n s h.cuts here empty;
     rising = h.rising;
     past = λ rva after. rw all-is (find-out old one rva (out_empty rva one (omega arith)) ∙ h.past rva after);
     owned = h.owned ∙ owners-out begins (λ k within. out_empty (get_or begins k 0) one (omega arith));
   }
 
-  past_more : end ≤ s.virtual_address → 0 < read_size mapping.view s alignment → (rva : ℕ) → window_end mapping s alignment ≤ rva → find (window_holds rva) all ≡ None
+  past_more : end ≤ s.virtual_address → 0 < read_size mapping.view s alignment → (rva : ℕ) → window_end mapping.view s alignment ≤ rva → find (window_holds rva) all ≡ None
   past_more apart some rva after =
       rw all-is (find-out old one rva (out_after rva one after) ∙ h.past rva (omega arith))
 
@@ -114,28 +114,28 @@ module _ (mapping : Mapping) (alignment : ℕ) (sections : List Section) (begins
   owned_window apart some = rw all-is (owner-new old one s.virtual_address (h.past s.virtual_address apart) (in_begin one (omega arith)))
 
   -- a window that begins where the last ends
-  pub in_order_touching : end ≡ s.virtual_address → 0 < read_size mapping.view s alignment → read_size mapping.view s alignment ≤ 2 ^ 33 → AreInOrder mapping alignment sections (begins ++ s.virtual_address ∷ []) (owners ++ Some one.owner ∷ []) (window_end mapping s alignment) (n + 1)
+  pub in_order_touching : end ≡ s.virtual_address → 0 < read_size mapping.view s alignment → read_size mapping.view s alignment ≤ 2 ^ 33 → AreInOrder mapping alignment sections (begins ++ s.virtual_address ∷ []) (owners ++ Some one.owner ∷ []) (window_end mapping.view s alignment) (n + 1)
   in_order_touching same some small =
       let points : List ℕ = begins ++ s.virtual_address ∷ [] in
-      let cuts : HasCuts mapping sections alignment points n = rw (← same) h.cuts in
+      let cuts : HasCuts mapping.view sections alignment points n = rw (← same) h.cuts in
       let rising : IsStrictlyIncreasing points = rw (← same) h.rising in
       let apart : end ≤ s.virtual_address = omega arith in
       record {
-        cuts = cuts_touching mapping sections alignment points n s cuts here some small (Contains-push begins s.virtual_address);
-        rising = rising_push begins s.virtual_address (window_end mapping s alignment) rising (omega arith);
+        cuts = cuts_touching mapping.view sections alignment points n s cuts here some small (Contains-push begins s.virtual_address);
+        rising = rising_push begins s.virtual_address (window_end mapping.view s alignment) rising (omega arith);
         past = past_more apart some;
         owned = rw (map-append (owner_among all) begins (s.virtual_address ∷ []), ← owned_begins apart, owned_window apart some) refl;
       }
 
   -- and one that begins after it
-  pub in_order_apart : end < s.virtual_address → 0 < read_size mapping.view s alignment → read_size mapping.view s alignment ≤ 2 ^ 33 → AreInOrder mapping alignment sections ((begins ++ end ∷ []) ++ s.virtual_address ∷ []) ((owners ++ None ∷ []) ++ Some one.owner ∷ []) (window_end mapping s alignment) (n + 1)
+  pub in_order_apart : end < s.virtual_address → 0 < read_size mapping.view s alignment → read_size mapping.view s alignment ≤ 2 ^ 33 → AreInOrder mapping alignment sections ((begins ++ end ∷ []) ++ s.virtual_address ∷ []) ((owners ++ None ∷ []) ++ Some one.owner ∷ []) (window_end mapping.view s alignment) (n + 1)
   in_order_apart after some small =
       let points : List ℕ = begins ++ end ∷ [] in
       let apart : end ≤ s.virtual_address = omega arith in
       let between : owner_among all end ≡ None = rw all-is (owner-out old one end (out_before end one after) ∙ ap (option_map (λ (w : Window). w.owner)) (h.past end (omega arith))) in
       record {
-        cuts = cuts_more mapping sections alignment points n s h.cuts here some small;
-        rising = rising_push points s.virtual_address (window_end mapping s alignment) (rising_push begins end s.virtual_address h.rising after) (omega arith);
+        cuts = cuts_more mapping.view sections alignment points n s h.cuts here some small;
+        rising = rising_push points s.virtual_address (window_end mapping.view s alignment) (rising_push begins end s.virtual_address h.rising after) (omega arith);
         past = past_more apart some;
         owned = rw (map-append (owner_among all) points (s.virtual_address ∷ []), map-append (owner_among all) begins (end ∷ []), ← owned_begins apart, between, owned_window apart some) refl;
       }
@@ -143,13 +143,13 @@ module _ (mapping : Mapping) (alignment : ℕ) (sections : List Section) (begins
 -- ---- all pieces
 
 module _ (mapping : Mapping) (alignment : ℕ) (sections : List Section) (begins : List ℕ) (owners : List (Option Owner)) (end n : ℕ) (h : AreInOrder mapping alignment sections begins owners end n) (whole : n ≡ length sections) where
-  pub near_in_order : AreNear mapping sections alignment
-  near_in_order = near_from mapping sections alignment (begins ++ end ∷ []) (rw (← whole) h.cuts)
+  pub near_in_order : AreNear mapping.view sections alignment
+  near_in_order = near_from mapping.view sections alignment (begins ++ end ∷ []) (rw (← whole) h.cuts)
 
-  pub cut_in_order : IsCut mapping sections alignment (begins ++ end ∷ [])
+  pub cut_in_order : IsCut mapping.view sections alignment (begins ++ end ∷ [])
   cut_in_order = record {
     rising = h.rising;
-    all = all_borders mapping sections alignment (begins ++ end ∷ []) (rw (← whole) h.cuts);
+    all = all_borders mapping.view sections alignment (begins ++ end ∷ []) (rw (← whole) h.cuts);
     only = h.cuts.only;
     few = omega (arith, h.cuts.few);
   }

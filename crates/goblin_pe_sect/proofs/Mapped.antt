@@ -27,36 +27,36 @@ read_size_le view s alignment =
     read-bounded (s.size_of_raw_data == 0) (s.virtual_size == 0) _ _ _ _ (omega (arith, up_near 4096 s.size_of_raw_data (omega arith)))
 
 -- nor past its raw size in whole pages
-pub window_below : (mapping : Mapping) (s : Section) (alignment : ℕ) → window_end mapping s alignment ≤ s.virtual_address + least_multiple 4096 s.size_of_raw_data
+pub window_below : (view : View) (s : Section) (alignment : ℕ) → window_end view s alignment ≤ s.virtual_address + least_multiple 4096 s.size_of_raw_data
 unfolding read_size
-window_below mapping s alignment =
-    let most : read_size mapping.view s alignment ≤ least_multiple 4096 s.size_of_raw_data = read-bounded (s.size_of_raw_data == 0) (s.virtual_size == 0) _ _ _ _ (omega arith) in
+window_below view s alignment =
+    let most : read_size view s alignment ≤ least_multiple 4096 s.size_of_raw_data = read-bounded (s.size_of_raw_data == 0) (s.virtual_size == 0) _ _ _ _ (omega arith) in
     omega (arith, most)
 
 -- an address in a window lies between its start and its end
-pub in_window : (mapping : Mapping) (alignment rva : ℕ) (s : Section) → is_in_window mapping alignment rva s ≡ true → InWindow mapping alignment rva s
-in_window mapping alignment rva s h = grind (arith, nat_tests)
+pub in_window : (view : View) (alignment rva : ℕ) (s : Section) → is_in_window view alignment rva s ≡ true → InWindow view alignment rva s
+in_window view alignment rva s h = grind (arith, nat_tests)
 
 -- a window that the test denies does not hold the address
-pub not_in_window : (mapping : Mapping) (alignment rva : ℕ) (s : Section) → is_in_window mapping alignment rva s ≡ false → ¬ InWindow mapping alignment rva s
-not_in_window mapping alignment rva s fails holds = grind (arith, nat_tests)
+pub not_in_window : (view : View) (alignment rva : ℕ) (s : Section) → is_in_window view alignment rva s ≡ false → ¬ InWindow view alignment rva s
+not_in_window view alignment rva s fails holds = grind (arith, nat_tests)
 
 -- the section that is found holds the address, and its window is the first
-pub found_in_window : (mapping : Mapping) (alignment rva : ℕ) (sections : List Section) (s : Section) → find (is_in_window mapping alignment rva) sections ≡ Some s → InWindow mapping alignment rva s
-found_in_window mapping alignment rva sections s e = in_window mapping alignment rva s (found_passes (is_in_window mapping alignment rva) sections s e)
+pub found_in_window : (view : View) (alignment rva : ℕ) (sections : List Section) (s : Section) → find (is_in_window view alignment rva) sections ≡ Some s → InWindow view alignment rva s
+found_in_window view alignment rva sections s e = in_window view alignment rva s (found_passes (is_in_window view alignment rva) sections s e)
 
-first_by : (mapping : Mapping) (sections : List Section) (alignment rva : ℕ) (found : Option Section) → find (is_in_window mapping alignment rva) sections ≡ found → MatchOption (option_map (λ s. offset_in mapping s rva) found) (MapsNowhere mapping sections alignment rva) (MapsTo mapping sections alignment rva)
-first_by mapping sections alignment rva None e = λ k s at. not_in_window mapping alignment rva s (none_passes (is_in_window mapping alignment rva) sections e k s at)
+first_by : (mapping : Mapping) (sections : List Section) (alignment rva : ℕ) (found : Option Section) → find (is_in_window mapping.view alignment rva) sections ≡ found → MatchOption (option_map (λ s. offset_in mapping s rva) found) (MapsNowhere mapping.view sections alignment rva) (MapsTo mapping sections alignment rva)
+first_by mapping sections alignment rva None e = λ k s at. not_in_window mapping.view alignment rva s (none_passes (is_in_window mapping.view alignment rva) sections e k s at)
 first_by mapping sections alignment rva (Some s) e =
-    let first : IsFirstWindow mapping sections alignment rva (position_or_len (is_in_window mapping alignment rva) sections) = record {
+    let first : IsFirstWindow mapping.view sections alignment rva (position_or_len (is_in_window mapping.view alignment rva) sections) = record {
       section = s;
-      is = found_at_first (is_in_window mapping alignment rva) sections s e;
-      holds = found_in_window mapping alignment rva sections s e;
-      least = λ k t lt at. not_in_window mapping alignment rva t (fails_before (is_in_window mapping alignment rva) sections k t lt at);
+      is = found_at_first (is_in_window mapping.view alignment rva) sections s e;
+      holds = found_in_window mapping.view alignment rva sections s e;
+      least = λ k t lt at. not_in_window mapping.view alignment rva t (fails_before (is_in_window mapping.view alignment rva) sections k t lt at);
     } in
-    (position_or_len (is_in_window mapping alignment rva) sections, first, refl)
+    (position_or_len (is_in_window mapping.view alignment rva) sections, first, refl)
 
-pub file_offset-mapped : (mapping : Mapping) (sections : List Section) (alignment rva : ℕ) → IsTrue mapping.resolve_rva → IsTrue (is_power_of_two alignment) → file_offset mapping sections alignment rva ≡ option_map (λ s. offset_in mapping s rva) (find (is_in_window mapping alignment rva) sections)
+pub file_offset-mapped : (mapping : Mapping) (sections : List Section) (alignment rva : ℕ) → IsTrue mapping.resolve_rva → IsTrue (is_power_of_two alignment) → file_offset mapping sections alignment rva ≡ option_map (λ s. offset_in mapping s rva) (find (is_in_window mapping.view alignment rva) sections)
 unfolding file_offset
 file_offset-mapped mapping sections alignment rva on even =
     let on' : mapping.resolve_rva ≡ true = search (rules, tests) in
@@ -64,24 +64,24 @@ file_offset-mapped mapping sections alignment rva on even =
     rw (on', even') refl
 
 -- the file offset of an address is that of the section with the least index among those whose windows hold it
-pub file_offset_first : (mapping : Mapping) (sections : List Section) (alignment rva : ℕ) → IsTrue mapping.resolve_rva → IsTrue (is_power_of_two alignment) → MatchOption (file_offset mapping sections alignment rva) (MapsNowhere mapping sections alignment rva) (MapsTo mapping sections alignment rva)
+pub file_offset_first : (mapping : Mapping) (sections : List Section) (alignment rva : ℕ) → IsTrue mapping.resolve_rva → IsTrue (is_power_of_two alignment) → MatchOption (file_offset mapping sections alignment rva) (MapsNowhere mapping.view sections alignment rva) (MapsTo mapping sections alignment rva)
 file_offset_first mapping sections alignment rva on even =
-    let Says : Option ℕ → Type 0 = λ o. MatchOption o (MapsNowhere mapping sections alignment rva) (MapsTo mapping sections alignment rva) in
-    subst Says (sym (file_offset-mapped mapping sections alignment rva on even)) (first_by mapping sections alignment rva (find (is_in_window mapping alignment rva) sections) refl)
+    let Says : Option ℕ → Type 0 = λ o. MatchOption o (MapsNowhere mapping.view sections alignment rva) (MapsTo mapping sections alignment rva) in
+    subst Says (sym (file_offset-mapped mapping sections alignment rva on even)) (first_by mapping sections alignment rva (find (is_in_window mapping.view alignment rva) sections) refl)
 
 -- an address that is in a window by its words passes the test
-pub window_test : (mapping : Mapping) (alignment rva : ℕ) (s : Section) → InWindow mapping alignment rva s → is_in_window mapping alignment rva s ≡ true
-window_test mapping alignment rva s holds = grind (arith, nat_tests)
+pub window_test : (view : View) (alignment rva : ℕ) (s : Section) → InWindow view alignment rva s → is_in_window view alignment rva s ≡ true
+window_test view alignment rva s holds = grind (arith, nat_tests)
 
 -- and one that is not fails it
-pub window_test_fails : (mapping : Mapping) (alignment rva : ℕ) (s : Section) → ¬ InWindow mapping alignment rva s → is_in_window mapping alignment rva s ≡ false
-window_test_fails mapping alignment rva s out = grind (arith, nat_tests)
+pub window_test_fails : (view : View) (alignment rva : ℕ) (s : Section) → ¬ InWindow view alignment rva s → is_in_window view alignment rva s ≡ false
+window_test_fails view alignment rva s out = grind (arith, nat_tests)
 
 -- the first section whose window holds the address is found
-pub first_window-find : (mapping : Mapping) (sections : List Section) (alignment rva index : ℕ) (first : IsFirstWindow mapping sections alignment rva index) → find (is_in_window mapping alignment rva) sections ≡ Some first.section
-first_window-find mapping sections alignment rva index first =
-    first_is_found (is_in_window mapping alignment rva) sections index first.section first.is (window_test mapping alignment rva first.section first.holds)
-    (λ k s lt at. window_test_fails mapping alignment rva s (first.least k s lt at))
+pub first_window-find : (view : View) (sections : List Section) (alignment rva index : ℕ) (first : IsFirstWindow view sections alignment rva index) → find (is_in_window view alignment rva) sections ≡ Some first.section
+first_window-find view sections alignment rva index first =
+    first_is_found (is_in_window view alignment rva) sections index first.section first.is (window_test view alignment rva first.section first.holds)
+    (λ k s lt at. window_test_fails view alignment rva s (first.least k s lt at))
 
 apart_by : (b even : Bool) (x y : Option ℕ) (first second : ℕ) → even ≡ true → (x ≡ y → first ≡ second) → cond b (cond even x None) (Some first) ≡ cond b (cond even y None) (Some second) → first ≡ second
 apart_by true true x y first second is same e = same e
@@ -89,15 +89,15 @@ apart_by true false x y first second is same e = absurd (cc)
 apart_by false even x y first second is same e = cc
 
 -- addresses that one section maps to one offset are the same
-pub file_offset_injective : (mapping : Mapping) (sections : List Section) (alignment first second index : ℕ) → IsTrue (is_power_of_two alignment) → IsFirstWindow mapping sections alignment first index → IsFirstWindow mapping sections alignment second index → file_offset mapping sections alignment first ≡ file_offset mapping sections alignment second → first ≡ second
+pub file_offset_injective : (mapping : Mapping) (sections : List Section) (alignment first second index : ℕ) → IsTrue (is_power_of_two alignment) → IsFirstWindow mapping.view sections alignment first index → IsFirstWindow mapping.view sections alignment second index → file_offset mapping sections alignment first ≡ file_offset mapping sections alignment second → first ≡ second
 unfolding file_offset
 file_offset_injective mapping sections alignment first second index even x y e =
     let even' : is_power_of_two alignment ≡ true = search (rules, tests) in
     let one : x.section ≡ y.section = cc (x.is, y.is) in
     let pointer = ap (raw_begin mapping) one in
     let address = ap (λ (s : Section). s.virtual_address) one in
-    let x_at = ap (option_map (λ s. offset_in mapping s first)) (first_window-find mapping sections alignment first index x) in
-    let y_at = ap (option_map (λ s. offset_in mapping s second)) (first_window-find mapping sections alignment second index y) in
+    let x_at = ap (option_map (λ s. offset_in mapping s first)) (first_window-find mapping.view sections alignment first index x) in
+    let y_at = ap (option_map (λ s. offset_in mapping s second)) (first_window-find mapping.view sections alignment second index y) in
     apart_by mapping.resolve_rva (is_power_of_two alignment) _ _ first second even' (λ same.
     let offsets : offset_in mapping x.section first ≡ offset_in mapping y.section second = cc (x_at, y_at, same) in
     omega (arith, offsets, pointer, address, x.holds, y.holds)) e

@@ -4,7 +4,8 @@ use Rattle.std.specs.{Int.is_power_of_two, List.AllPairs, List.position_or_len}
 use Rattle.std.proofs.lemmas.Bool.{cases_Bool}
 use Rattle.std.proofs.lemmas.List.Sorted.{Contains-permutation, IsPermutation-sym}
 use Rattle.std.proofs.lemmas.Option.{get_or_from_slice_get, slice_get_read, slice_get_within}
-use Rattle.goblin_pe_sect.specs.{declared.options.Mapping.Mapping, SectionTable.Section}
+use Rattle.goblin_pe_sect.specs.{declared.options.Mapping.Mapping, declared.options.View.View}
+use Rattle.goblin_pe_sect.specs.SectionTable.{Section}
 use Rattle.goblin_pe_sect.specs.Mapping.{file_offset, is_in_window, offset_in}
 use Rattle.goblin_pe_sect.specs.WindowOrder.{HaveDisjointWindows, IsReordering}
 use Rattle.goblin_base.proofs.Footprints.{same_if}
@@ -40,20 +41,20 @@ found_by {X} p xs ys moved alone (Some y) e =
     ])
 
 -- windows that do not meet hold an address at most once
-alone_in_windows : (mapping : Mapping) (alignment rva : ℕ) (sections : List Section) → AllPairs (HaveDisjointWindows mapping alignment) sections → AreAlone (is_in_window mapping alignment rva) sections
-alone_in_windows mapping alignment rva sections apart i j s t lt at_i at_j holds_s holds_t =
-    let pair : HaveDisjointWindows mapping alignment (get_or sections i s) (get_or sections j s) = apart i j s lt (slice_get_within sections j t at_j) in
-    let one : HaveDisjointWindows mapping alignment s t = rw (get_or_from_slice_get sections i s s at_i, get_or_from_slice_get sections j t s at_j) at pair in
-    one rva (in_window mapping alignment rva s holds_s) (in_window mapping alignment rva t holds_t)
+alone_in_windows : (view : View) (alignment rva : ℕ) (sections : List Section) → AllPairs (HaveDisjointWindows view alignment) sections → AreAlone (is_in_window view alignment rva) sections
+alone_in_windows view alignment rva sections apart i j s t lt at_i at_j holds_s holds_t =
+    let pair : HaveDisjointWindows view alignment (get_or sections i s) (get_or sections j s) = apart i j s lt (slice_get_within sections j t at_j) in
+    let one : HaveDisjointWindows view alignment s t = rw (get_or_from_slice_get sections i s s at_i, get_or_from_slice_get sections j t s at_j) at pair in
+    one rva (in_window view alignment rva s holds_s) (in_window view alignment rva t holds_t)
 
 -- a table in another order maps each address alike
-pub file_offset-reordered : (mapping : Mapping) (xs ys : List Section) (alignment : ℕ) → IsReordering mapping alignment xs ys → (rva : ℕ) → file_offset mapping xs alignment rva ≡ file_offset mapping ys alignment rva
+pub file_offset-reordered : (mapping : Mapping) (xs ys : List Section) (alignment : ℕ) → IsReordering mapping.view alignment xs ys → (rva : ℕ) → file_offset mapping xs alignment rva ≡ file_offset mapping ys alignment rva
 unfolding file_offset
 file_offset-reordered mapping xs ys alignment is rva =
     ap (λ (o : Option ℕ). cond mapping.resolve_rva o (Some rva)) (same_if (is_power_of_two alignment) (is_power_of_two alignment) _ _ None refl (λ even.
     let there : IsTrue (is_power_of_two alignment) = search (rules, tests) in
-    ap (option_map (λ s. offset_in mapping s rva)) (found_by (is_in_window mapping alignment rva) xs ys is.moved (alone_in_windows mapping alignment rva xs (is.apart there)) _ refl)))
+    ap (option_map (λ s. offset_in mapping s rva)) (found_by (is_in_window mapping.view alignment rva) xs ys is.moved (alone_in_windows mapping.view alignment rva xs (is.apart there)) _ refl)))
 
 -- the two maps are the same
-pub map-reordered : (mapping : Mapping) (xs ys : List Section) (alignment : ℕ) → IsReordering mapping alignment xs ys → file_offset mapping xs alignment ≡ file_offset mapping ys alignment
+pub map-reordered : (mapping : Mapping) (xs ys : List Section) (alignment : ℕ) → IsReordering mapping.view alignment xs ys → file_offset mapping xs alignment ≡ file_offset mapping ys alignment
 map-reordered mapping xs ys alignment is = λ i rva. file_offset-reordered mapping xs ys alignment is rva i

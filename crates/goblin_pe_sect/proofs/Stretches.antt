@@ -94,31 +94,31 @@ next_window mapping alignment i sections d within =
     let same : 0 + i ≡ i = omega arith in
     ap (λ (n : ℕ). section_windows mapping alignment (take n sections)) (add-one i) ∙ next_from mapping alignment 0 i sections d within ∙ ap (λ (k : ℕ). section_windows mapping alignment (take i sections) ++ section_window_at mapping alignment k (get_or sections i d) ∷ []) same
 
-from_by : (mapping : Mapping) (alignment n j : ℕ) (s : Section) (sections : List Section) (b : Bool) (found : Option Window) → option_map (λ (w : Window). w.owner) found ≡ option_map (owner_of_section mapping alignment (n + 1 + j)) (slice_get sections j) → option_map (λ (w : Window). w.owner) (cond b (Some (section_window_at mapping alignment n s)) found) ≡ option_map (owner_of_section mapping alignment (n + cond (not b) (1 + j) 0)) (slice_get (s ∷ sections) (cond (not b) (1 + j) 0))
+from_by : (mapping : Mapping) (alignment n j : ℕ) (s : Section) (sections : List Section) (b : Bool) (found : Option Window) → option_map (λ (w : Window). w.owner) found ≡ option_map (owner_of_section mapping (n + 1 + j)) (slice_get sections j) → option_map (λ (w : Window). w.owner) (cond b (Some (section_window_at mapping alignment n s)) found) ≡ option_map (owner_of_section mapping (n + cond (not b) (1 + j) 0)) (slice_get (s ∷ sections) (cond (not b) (1 + j) 0))
 from_by mapping alignment n j s sections true found later =
     let same : n ≡ n + 0 = omega arith in
-    ap (λ (i : ℕ). Some (owner_of_section mapping alignment i s)) same
+    ap (λ (i : ℕ). Some (owner_of_section mapping i s)) same
 from_by mapping alignment n j s sections false found later =
     let next : 1 + j ≡ suc j = omega arith in
     let place : n + 1 + j ≡ n + suc j = omega arith in
     rw (next, ← place) later
 
-from : (mapping : Mapping) (alignment rva n : ℕ) (sections : List Section) → option_map (λ (w : Window). w.owner) (find (window_holds rva) (map (λ (r : ℕ × Section). section_window_at mapping alignment r.0 r.1) (enumerate_from n sections))) ≡ option_map (owner_of_section mapping alignment (n + position_or_len (is_in_window mapping alignment rva) sections)) (slice_get sections (position_or_len (is_in_window mapping alignment rva) sections))
+from : (mapping : Mapping) (alignment rva n : ℕ) (sections : List Section) → option_map (λ (w : Window). w.owner) (find (window_holds rva) (map (λ (r : ℕ × Section). section_window_at mapping alignment r.0 r.1) (enumerate_from n sections))) ≡ option_map (owner_of_section mapping (n + position_or_len (is_in_window mapping.view alignment rva) sections)) (slice_get sections (position_or_len (is_in_window mapping.view alignment rva) sections))
 from mapping alignment rva n [] = refl
-from mapping alignment rva n (s ∷ sections) = from_by mapping alignment n (position_or_len (is_in_window mapping alignment rva) sections) s sections (is_in_window mapping alignment rva s) _ (from mapping alignment rva (n + 1) sections)
+from mapping alignment rva n (s ∷ sections) = from_by mapping alignment n (position_or_len (is_in_window mapping.view alignment rva) sections) s sections (is_in_window mapping.view alignment rva s) _ (from mapping alignment rva (n + 1) sections)
 
-first_by : (mapping : Mapping) (alignment : ℕ) (sections : List Section) (i : ℕ) (b : Bool) → (b ≡ false → slice_get sections i ≡ None) → option_map (owner_of_section mapping alignment i) (slice_get sections i) ≡ option_and_then (λ (i : ℕ). option_map (owner_of_section mapping alignment i) (slice_get sections i)) (cond b (Some i) None)
-first_by mapping alignment sections i true none = refl
-first_by mapping alignment sections i false none = rw (none refl) refl
+first_by : (mapping : Mapping) (sections : List Section) (i : ℕ) (b : Bool) → (b ≡ false → slice_get sections i ≡ None) → option_map (owner_of_section mapping i) (slice_get sections i) ≡ option_and_then (λ (i : ℕ). option_map (owner_of_section mapping i) (slice_get sections i)) (cond b (Some i) None)
+first_by mapping sections i true none = refl
+first_by mapping sections i false none = rw (none refl) refl
 
 -- the first window that holds an address has what an index keeps of the first section whose window does
 pub owner_among-sections : (mapping : Mapping) (alignment : ℕ) (sections : List Section) (rva : ℕ) → owner_among (section_windows mapping alignment sections) rva ≡ first_owner mapping sections alignment rva
 owner_among-sections mapping alignment sections rva =
-    let i : ℕ = position_or_len (is_in_window mapping alignment rva) sections in
+    let i : ℕ = position_or_len (is_in_window mapping.view alignment rva) sections in
     let start : 0 + i ≡ i = omega arith in
     let found = from mapping alignment rva 0 sections in
     let past : nat_lt i (length sections) ≡ false → slice_get sections i ≡ None = λ e. slice_get_past sections i (search (rules, tests)) in
-    found ∙ ap (λ (j : ℕ). option_map (owner_of_section mapping alignment j) (slice_get sections i)) start ∙ first_by mapping alignment sections i (nat_lt i (length sections)) past
+    found ∙ ap (λ (j : ℕ). option_map (owner_of_section mapping j) (slice_get sections i)) start ∙ first_by mapping sections i (nat_lt i (length sections)) past
 
 pub owners-sections : (mapping : Mapping) (alignment : ℕ) (sections : List Section) (begins : List ℕ) → map (owner_among (section_windows mapping alignment sections)) begins ≡ map (first_owner mapping sections alignment) begins
 owners-sections mapping alignment sections begins = map_same _ _ 0 begins (λ i lt. owner_among-sections mapping alignment sections (get_or begins i 0))

@@ -12,21 +12,21 @@ pub record IsLeft (mapping : Mapping) (alignment : ℕ) (sections left : List Se
   pub same : (other : ℕ) → low ≤ other → other < high → file_offset mapping sections alignment other ≡ file_offset mapping left alignment other
 
 module _ (mapping : Mapping) (alignment : ℕ) (on : IsTrue mapping.resolve_rva) (even : IsTrue (is_power_of_two alignment)) where
-  by_windows : (sections : List Section) (rva : ℕ) → file_offset mapping sections alignment rva ≡ option_map (λ s. offset_in mapping s rva) (find (is_in_window mapping alignment rva) sections)
+  by_windows : (sections : List Section) (rva : ℕ) → file_offset mapping sections alignment rva ≡ option_map (λ s. offset_in mapping s rva) (find (is_in_window mapping.view alignment rva) sections)
   by_windows sections rva = file_offset-mapped mapping sections alignment rva on even
 
   -- a section whose window does not hold an address has no part in its offset
-  not_first : (s : Section) (later : List Section) (rva : ℕ) → ¬ InWindow mapping alignment rva s → file_offset mapping (s ∷ later) alignment rva ≡ file_offset mapping later alignment rva
+  not_first : (s : Section) (later : List Section) (rva : ℕ) → ¬ InWindow mapping.view alignment rva s → file_offset mapping (s ∷ later) alignment rva ≡ file_offset mapping later alignment rva
   not_first s later rva out =
       by_windows (s ∷ later) rva
-      ∙ ap (λ (b : Bool). option_map (λ s. offset_in mapping s rva) (cond b (Some s) (find (is_in_window mapping alignment rva) later))) (window_test_fails mapping alignment rva s out)
+      ∙ ap (λ (b : Bool). option_map (λ s. offset_in mapping s rva) (cond b (Some s) (find (is_in_window mapping.view alignment rva) later))) (window_test_fails mapping.view alignment rva s out)
       ∙ sym (by_windows later rva)
 
   -- and one whose window holds it, before the others, says it
-  first : (s : Section) (later : List Section) (rva : ℕ) → InWindow mapping alignment rva s → file_offset mapping (s ∷ later) alignment rva ≡ Some (offset_in mapping s rva)
+  first : (s : Section) (later : List Section) (rva : ℕ) → InWindow mapping.view alignment rva s → file_offset mapping (s ∷ later) alignment rva ≡ Some (offset_in mapping s rva)
   first s later rva holds =
       by_windows (s ∷ later) rva
-      ∙ ap (λ (b : Bool). option_map (λ s. offset_in mapping s rva) (cond b (Some s) (find (is_in_window mapping alignment rva) later))) (window_test mapping alignment rva s holds)
+      ∙ ap (λ (b : Bool). option_map (λ s. offset_in mapping s rva) (cond b (Some s) (find (is_in_window mapping.view alignment rva) later))) (window_test mapping.view alignment rva s holds)
 
   module _ (sections left : List Section) (rva low high : ℕ) (is : IsLeft mapping alignment sections left rva low high) where
     module _ (s : Section) (later : List Section) (next : left ≡ s ∷ later) where
@@ -34,7 +34,7 @@ module _ (mapping : Mapping) (alignment : ℕ) (on : IsTrue mapping.resolve_rva)
       same_offsets other from to = is.same other from to ∙ ap (λ (left : List Section). file_offset mapping left alignment other) next
 
       -- a section is passed whose window ends before the address
-      pub passed_before : (low' high' end : ℕ) → low' ≡ max low end → high' ≡ high → window_end mapping s alignment ≤ end → end ≤ rva → IsLeft mapping alignment sections later rva low' high'
+      pub passed_before : (low' high' end : ℕ) → low' ≡ max low end → high' ≡ high → window_end mapping.view s alignment ≤ end → end ≤ rva → IsLeft mapping alignment sections later rva low' high'
       passed_before low' high' end up same before from = record {
         from = omega (arith, is.from, up, from);
         to = omega (arith, is.to, same);
@@ -50,7 +50,7 @@ module _ (mapping : Mapping) (alignment : ℕ) (on : IsTrue mapping.resolve_rva)
       }
 
       -- an address between them in the next window has the offset that its section says
-      pub owned : (other : ℕ) → low ≤ other → other < high → s.virtual_address ≤ other → other < window_end mapping s alignment → file_offset mapping sections alignment other ≡ Some (offset_in mapping s other)
+      pub owned : (other : ℕ) → low ≤ other → other < high → s.virtual_address ≤ other → other < window_end mapping.view s alignment → file_offset mapping sections alignment other ≡ Some (offset_in mapping s other)
       owned other from to begin end = same_offsets other from to ∙ first s later other (begin, end)
 
     -- the address has no offset where no section is left

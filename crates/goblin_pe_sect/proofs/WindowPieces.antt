@@ -10,7 +10,8 @@ use Rattle.std.proofs.{lemmas.Bool.cases_lt, lemmas.Bool.cases_Bool, lemmas.Opti
 use Rattle.std.proofs.{lemmas.Option.get_or_from_slice_get, lemmas.Bool.Decides.nat_tests}
 use Rattle.goblin_pe_sect.specs.Mapping.{read_size, window_end, is_in_window, offset_in, file_offset}
 use Rattle.goblin_pe_sect.specs.WindowIndex.{IsCut, IsIndex, Pieces, AreNear, reached, last_owner, located, owner_offset, first_owner, owner_of_section, owners_of}
-use Rattle.goblin_pe_sect.specs.{declared.options.Mapping.Mapping, SectionTable.Section}
+use Rattle.goblin_pe_sect.specs.{declared.options.Mapping.Mapping, declared.options.View.View}
+use Rattle.goblin_pe_sect.specs.SectionTable.{Section}
 use Rattle.goblin_pe_sect.specs.declared.windows.bounds.Piece.{Piece}
 use Rattle.goblin_pe_sect.specs.declared.windows.owners.Owner.{Owner}
 use Rattle.goblin_base.proofs.First.{find_same}
@@ -53,21 +54,21 @@ begins_after begins up rva k h v has high =
     ]
 
 -- a window holds an address as it holds the start of its piece
-same_window : (mapping : Mapping) (sections : List Section) (alignment : ℕ) (begins : List ℕ) → IsCut mapping sections alignment begins → (rva k : ℕ) → IsBetween begins rva k → (j : ℕ) (s : Section) → slice_get sections j ≡ Some s → is_in_window mapping alignment (slice_index begins k) s ≡ is_in_window mapping alignment rva s
-same_window mapping sections alignment begins cut rva k h j s is =
-    elim (cases_lt 0 (read_size mapping.view s alignment)) [
+same_window : (view : View) (sections : List Section) (alignment : ℕ) (begins : List ℕ) → IsCut view sections alignment begins → (rva k : ℕ) → IsBetween begins rva k → (j : ℕ) (s : Section) → slice_get sections j ≡ Some s → is_in_window view alignment (slice_index begins k) s ≡ is_in_window view alignment rva s
+same_window view sections alignment begins cut rva k h j s is =
+    elim (cases_lt 0 (read_size view s alignment)) [
       | inl some ↦
-          interval_same s.virtual_address (window_end mapping s alignment) (slice_index begins k) rva
+          interval_same s.virtual_address (window_end view s alignment) (slice_index begins k) rva
           (λ low. omega (arith, h.before, low))
           (λ low. at_or_before begins cut.rising rva k h s.virtual_address (cut.all s.virtual_address (inr (j, s, is, some, inl refl))) low)
-          (λ high. (begins_after begins cut.rising rva k h (window_end mapping s alignment) (cut.all (window_end mapping s alignment) (inr (j, s, is, some, inr refl))) high).2)
+          (λ high. (begins_after begins cut.rising rva k h (window_end view s alignment) (cut.all (window_end view s alignment) (inr (j, s, is, some, inr refl))) high).2)
           (λ high. omega (arith, h.before, high))
-      | inr none ↦ interval_none s.virtual_address (window_end mapping s alignment) (slice_index begins k) rva (omega arith)
+      | inr none ↦ interval_none s.virtual_address (window_end view s alignment) (slice_index begins k) rva (omega arith)
     ]
 
 -- every address lies in a piece
-in_one_piece : (mapping : Mapping) (sections : List Section) (alignment : ℕ) (begins : List ℕ) → IsCut mapping sections alignment begins → (rva : ℕ) → (0 < reached begins rva) × IsBetween begins rva (reached begins rva - 1)
-in_one_piece mapping sections alignment begins cut rva =
+in_one_piece : (view : View) (sections : List Section) (alignment : ℕ) (begins : List ℕ) → IsCut view sections alignment begins → (rva : ℕ) → (0 < reached begins rva) × IsBetween begins rva (reached begins rva - 1)
+in_one_piece view sections alignment begins cut rva =
     let n : ℕ = reached begins rva in
     let start : Contains begins 0 = cut.all 0 (inl refl) in
     let i : ℕ = start.0 in
@@ -88,33 +89,33 @@ in_one_piece mapping sections alignment begins cut rva =
       | inr none ↦ absurd (omega (arith, here, stops (omega (arith, start.1)), rising_to begins cut.rising n i (omega arith) start.1))
     ]
 
-section_answers : (mapping : Mapping) (alignment rva i : ℕ) (o : Option Section) → option_map (owner_offset rva) (option_map (owner_of_section mapping alignment i) o) ≡ option_map (λ s. offset_in mapping s rva) o
-section_answers mapping alignment rva i None = refl
-section_answers mapping alignment rva i (Some s) = refl
+section_answers : (mapping : Mapping) (rva i : ℕ) (o : Option Section) → option_map (owner_offset rva) (option_map (owner_of_section mapping i) o) ≡ option_map (λ s. offset_in mapping s rva) o
+section_answers mapping rva i None = refl
+section_answers mapping rva i (Some s) = refl
 
-index_answers : (mapping : Mapping) (sections : List Section) (alignment rva i : ℕ) (b : Bool) → (b ≡ false → slice_get sections i ≡ None) → option_map (owner_offset rva) (option_and_then (λ (i : ℕ). option_map (owner_of_section mapping alignment i) (slice_get sections i)) (cond b (Some i) None)) ≡ option_map (λ s. offset_in mapping s rva) (slice_get sections i)
-index_answers mapping sections alignment rva i true none = section_answers mapping alignment rva i (slice_get sections i)
-index_answers mapping sections alignment rva i false none = rw (none refl) refl
+index_answers : (mapping : Mapping) (sections : List Section) (rva i : ℕ) (b : Bool) → (b ≡ false → slice_get sections i ≡ None) → option_map (owner_offset rva) (option_and_then (λ (i : ℕ). option_map (owner_of_section mapping i) (slice_get sections i)) (cond b (Some i) None)) ≡ option_map (λ s. offset_in mapping s rva) (slice_get sections i)
+index_answers mapping sections rva i true none = section_answers mapping rva i (slice_get sections i)
+index_answers mapping sections rva i false none = rw (none refl) refl
 
 -- the owner answers as the first section does
-owner_answers : (mapping : Mapping) (sections : List Section) (alignment begin rva : ℕ) → option_map (owner_offset rva) (first_owner mapping sections alignment begin) ≡ option_map (λ s. offset_in mapping s rva) (find (is_in_window mapping alignment begin) sections)
+owner_answers : (mapping : Mapping) (sections : List Section) (alignment begin rva : ℕ) → option_map (owner_offset rva) (first_owner mapping sections alignment begin) ≡ option_map (λ s. offset_in mapping s rva) (find (is_in_window mapping.view alignment begin) sections)
 owner_answers mapping sections alignment begin rva =
-    let i : ℕ = position_or_len (is_in_window mapping alignment begin) sections in
+    let i : ℕ = position_or_len (is_in_window mapping.view alignment begin) sections in
     let past : nat_lt i (length sections) ≡ false → slice_get sections i ≡ None = λ e. slice_get_past sections i (search (rules, tests)) in
-    index_answers mapping sections alignment rva i (nat_lt i (length sections)) past ∙ ap (option_map (λ s. offset_in mapping s rva)) (sym (find_at (is_in_window mapping alignment begin) sections))
+    index_answers mapping sections rva i (nat_lt i (length sections)) past ∙ ap (option_map (λ s. offset_in mapping s rva)) (sym (find_at (is_in_window mapping.view alignment begin) sections))
 
 pub last_owner_some : (owners : List (Option Owner)) (n : ℕ) → 0 < n → last_owner owners n ≡ slice_index_or owners (n - 1) None
 last_owner_some owners zero some = absurd (omega arith)
 last_owner_some owners (suc k) some = let same : k ≡ suc k - 1 = omega arith in ap (λ (j : ℕ). slice_index_or owners j None) same
 
 -- pieces cut at the windows answer as the first section whose window holds the address
-pub mapped_pieces : (mapping : Mapping) (sections : List Section) (alignment : ℕ) (begins : List ℕ) → IsCut mapping sections alignment begins → (rva : ℕ) → option_map (owner_offset rva) (last_owner (map (first_owner mapping sections alignment) begins) (reached begins rva)) ≡ option_map (λ s. offset_in mapping s rva) (find (is_in_window mapping alignment rva) sections)
+pub mapped_pieces : (mapping : Mapping) (sections : List Section) (alignment : ℕ) (begins : List ℕ) → IsCut mapping.view sections alignment begins → (rva : ℕ) → option_map (owner_offset rva) (last_owner (map (first_owner mapping sections alignment) begins) (reached begins rva)) ≡ option_map (λ s. offset_in mapping s rva) (find (is_in_window mapping.view alignment rva) sections)
 mapped_pieces mapping sections alignment begins cut rva =
     let n : ℕ = reached begins rva in
-    let place = in_one_piece mapping sections alignment begins cut rva in
+    let place = in_one_piece mapping.view sections alignment begins cut rva in
     let answer : Option Owner → Option ℕ = option_map (owner_offset rva) in
     let owner : last_owner (map (first_owner mapping sections alignment) begins) n ≡ first_owner mapping sections alignment (slice_index begins (n - 1)) = last_owner_some (map (first_owner mapping sections alignment) begins) n place.0 ∙ get_or-map (first_owner mapping sections alignment) begins (n - 1) 0 None place.1.within in
-    let same : find (is_in_window mapping alignment (slice_index begins (n - 1))) sections ≡ find (is_in_window mapping alignment rva) sections = find_same _ _ sections (same_window mapping sections alignment begins cut rva (n - 1) place.1) in
+    let same : find (is_in_window mapping.view alignment (slice_index begins (n - 1))) sections ≡ find (is_in_window mapping.view alignment rva) sections = find_same _ _ sections (same_window mapping.view sections alignment begins cut rva (n - 1) place.1) in
     ap answer owner ∙ owner_answers mapping sections alignment (slice_index begins (n - 1)) rva ∙ ap (option_map (λ s. offset_in mapping s rva)) same
 
 -- an owner is that of a section whose window holds the address
@@ -122,13 +123,13 @@ record IsOwned (mapping : Mapping) (sections : List Section) (alignment begin : 
   place : ℕ
   section : Section
   is : slice_get sections place ≡ Some section
-  holds : is_in_window mapping alignment begin section ≡ true
+  holds : is_in_window mapping.view alignment begin section ≡ true
   address : o.address ≡ section.virtual_address
 
-owned_by_section : (mapping : Mapping) (sections : List Section) (alignment begin : ℕ) (o : Owner) (i : ℕ) → position (is_in_window mapping alignment begin) sections ≡ Some i → (found : Option Section) → slice_get sections i ≡ found → option_map (owner_of_section mapping alignment i) found ≡ Some o → IsOwned mapping sections alignment begin o
+owned_by_section : (mapping : Mapping) (sections : List Section) (alignment begin : ℕ) (o : Owner) (i : ℕ) → position (is_in_window mapping.view alignment begin) sections ≡ Some i → (found : Option Section) → slice_get sections i ≡ found → option_map (owner_of_section mapping i) found ≡ Some o → IsOwned mapping sections alignment begin o
 owned_by_section mapping sections alignment begin o i at None is e = absurd (cc)
 owned_by_section mapping sections alignment begin o i at (Some s) is e =
-    let passes : is_in_window mapping alignment begin (get_or sections i s) ≡ true = (position-Some (is_in_window mapping alignment begin) sections i s at).1 in
+    let passes : is_in_window mapping.view alignment begin (get_or sections i s) ≡ true = (position-Some (is_in_window mapping.view alignment begin) sections i s at).1 in
     let same : get_or sections i s ≡ s = get_or_from_slice_get sections i s s is in
     record {
       place = i;
@@ -138,7 +139,7 @@ owned_by_section mapping sections alignment begin o i at (Some s) is e =
       address = ap (λ (x : Option Owner). option_map_or (λ (o : Owner). o.address) x 0) (sym e);
     }
 
-owned_by_index : (mapping : Mapping) (sections : List Section) (alignment begin : ℕ) (o : Owner) (at : Option ℕ) → position (is_in_window mapping alignment begin) sections ≡ at → option_and_then (λ (i : ℕ). option_map (owner_of_section mapping alignment i) (slice_get sections i)) at ≡ Some o → IsOwned mapping sections alignment begin o
+owned_by_index : (mapping : Mapping) (sections : List Section) (alignment begin : ℕ) (o : Owner) (at : Option ℕ) → position (is_in_window mapping.view alignment begin) sections ≡ at → option_and_then (λ (i : ℕ). option_map (owner_of_section mapping i) (slice_get sections i)) at ≡ Some o → IsOwned mapping sections alignment begin o
 owned_by_index mapping sections alignment begin o None is e = absurd (cc)
 owned_by_index mapping sections alignment begin o (Some i) is e = owned_by_section mapping sections alignment begin o i is (slice_get sections i) refl e
 
@@ -152,19 +153,19 @@ owned_piece mapping sections alignment begins k o e =
           absurd (cc)
     ]
 
-pub index_is : (mapping : Mapping) (sections : List Section) (alignment : ℕ) (begins : List ℕ) → IsCut mapping sections alignment begins → AreNear mapping sections alignment → IsIndex true begins (map (first_owner mapping sections alignment) begins)
+pub index_is : (mapping : Mapping) (sections : List Section) (alignment : ℕ) (begins : List ℕ) → IsCut mapping.view sections alignment begins → AreNear mapping.view sections alignment → IsIndex true begins (map (first_owner mapping sections alignment) begins)
 index_is mapping sections alignment begins cut near = record {
   rising = cut.rising;
   one_each = length-map begins (first_owner mapping sections alignment);
   low = λ k o e.
       let own = owned_piece mapping sections alignment begins k o e in
-      omega (arith, own.1.address, in_window mapping alignment (slice_index begins k) own.1.section own.1.holds);
+      omega (arith, own.1.address, in_window mapping.view alignment (slice_index begins k) own.1.section own.1.holds);
   high = λ k o e.
       let own = owned_piece mapping sections alignment begins k o e in
       let s : Section = own.1.section in
-      let inside = in_window mapping alignment (slice_index begins k) s own.1.holds in
+      let inside = in_window mapping.view alignment (slice_index begins k) s own.1.holds in
       let here : IsBetween begins (slice_index begins k) k = record { within = own.0; before = omega arith; after = λ lt. rising_at begins cut.rising k (k + 1) (omega arith) lt } in
-      let next = begins_after begins cut.rising (slice_index begins k) k here (window_end mapping s alignment) (cut.all (window_end mapping s alignment) (inr (own.1.place, s, own.1.is, omega (arith, inside), inr refl))) inside.1 in
+      let next = begins_after begins cut.rising (slice_index begins k) k here (window_end mapping.view s alignment) (cut.all (window_end mapping.view s alignment) (inr (own.1.place, s, own.1.is, omega (arith, inside), inr refl))) inside.1 in
       (next.0, omega (arith, next.1, own.1.address, near own.1.place s own.1.is));
   unmapped = λ off. cc;
 }
@@ -178,7 +179,7 @@ pub located-unaligned : (mapping : Mapping) (sections : List Section) (alignment
 unfolding located file_offset
 located-unaligned mapping sections alignment rva on odd = rw (on, odd) refl
 
-pub located-prepared : (mapping : Mapping) (sections : List Section) (alignment : ℕ) (begins : List ℕ) (owners : List (Option Owner)) → mapping.resolve_rva ≡ true → is_power_of_two alignment ≡ true → IsCut mapping sections alignment begins → owners ≡ map (first_owner mapping sections alignment) begins → (rva : ℕ) → located (record { resolves = true; begins = begins; owners = owners }) rva ≡ file_offset mapping sections alignment rva
+pub located-prepared : (mapping : Mapping) (sections : List Section) (alignment : ℕ) (begins : List ℕ) (owners : List (Option Owner)) → mapping.resolve_rva ≡ true → is_power_of_two alignment ≡ true → IsCut mapping.view sections alignment begins → owners ≡ map (first_owner mapping sections alignment) begins → (rva : ℕ) → located (record { resolves = true; begins = begins; owners = owners }) rva ≡ file_offset mapping sections alignment rva
 unfolding located file_offset
 located-prepared mapping sections alignment begins owners on even cut is rva = rw (on, even, is) (mapped_pieces mapping sections alignment begins cut rva)
 

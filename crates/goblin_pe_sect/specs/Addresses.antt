@@ -75,7 +75,7 @@ AreMany count = 96 < count
 -- if addresses are mapped by windows, a walk goes over few sections only
 abbrev pub WalksFew : ParseOptions → Windows → Type 0
 WalksFew opts (Walked records view file_alignment) =
-    HasPieces (mapping_in view opts) file_alignment
+    HasPieces opts.resolve_rva file_alignment
     → ¬ AreMany (length (recorded_sections records.records))
 WalksFew opts (Indexed index) = ⊤
 WalksFew opts (IndexedWithFront index) = ⊤

@@ -31,12 +31,12 @@ abbrev pub entry_ending : ℕ → DataDirectory → Option (ℕ × DataDirectory
 entry_ending end d = if d.virtual_address == 0 && d.size == 0 then None else Some (end, d)
 
 -- the data directory that is all zeros
-abbrev pub no_directory : DataDirectory
-no_directory = record { virtual_address = 0; size = 0 }
+abbrev pub zero_directory : DataDirectory
+zero_directory = record { virtual_address = 0; size = 0 }
 
 -- the directory of an entry, or zeros if the entry is none
 abbrev pub directory_or_zeros : Option (ℕ × DataDirectory) → DataDirectory
-directory_or_zeros None = no_directory
+directory_or_zeros None = zero_directory
 directory_or_zeros (Some entry) = entry.1
 
 -- the fields of all entries, in order

@@ -48,21 +48,21 @@ read_size view s alignment =
     else min stored (least_multiple 4096 s.virtual_size))
 
 -- the first address after a section's window; the window begins at the section's address
-abbrev pub window_end : Mapping → Section → ℕ → ℕ
-window_end mapping s alignment = s.virtual_address + read_size mapping.view s alignment
+abbrev pub window_end : View → Section → ℕ → ℕ
+window_end view s alignment = s.virtual_address + read_size view s alignment
 
 -- the start and the end of a section's window; there is no window if the alignment is not a power
 -- of two
-abbrev pub window_of : Mapping → Section → ℕ → Option (ℕ × ℕ)
-window_of mapping s alignment =
+abbrev pub window_of : View → Section → ℕ → Option (ℕ × ℕ)
+window_of view s alignment =
     if is_power_of_two alignment
-    then Some (s.virtual_address, window_end mapping s alignment)
+    then Some (s.virtual_address, window_end view s alignment)
     else None
 
 -- the window of a section holds this address
-abbrev pub is_in_window : Mapping → ℕ → ℕ → Section → Bool
-is_in_window mapping alignment rva s =
-    nat_le s.virtual_address rva && nat_lt rva (window_end mapping s alignment)
+abbrev pub is_in_window : View → ℕ → ℕ → Section → Bool
+is_in_window view alignment rva s =
+    nat_le s.virtual_address rva && nat_lt rva (window_end view s alignment)
 
 -- the file offset at which raw data with this raw pointer begins, by a rule: the pointer as stored,
 -- or the greatest multiple of 512 that is at most the pointer
@@ -87,38 +87,37 @@ file_offset mapping sections alignment rva =
     if mapping.resolve_rva
     then (if is_power_of_two alignment
     then option_map (λ s. offset_in mapping s rva)
-    (find (is_in_window mapping alignment rva) sections)
+    (find (is_in_window mapping.view alignment rva) sections)
     else None)
     else Some rva
 
 -- the first section whose window holds the address; there is none if the alignment is not a power
 -- of two
-abbrev pub section_at : Mapping → ℕ → ℕ → List Section → Option Section
-section_at mapping alignment rva sections =
-    if is_power_of_two alignment then find (is_in_window mapping alignment rva) sections else None
+abbrev pub section_at : View → ℕ → ℕ → List Section → Option Section
+section_at view alignment rva sections =
+    if is_power_of_two alignment then find (is_in_window view alignment rva) sections else None
 
 -- ---- what holds of the file offset of an address
 
 -- the section's window holds the address
-abbrev pub InWindow : Mapping → ℕ → ℕ → Section → Type 0
-InWindow mapping alignment rva s =
-    (s.virtual_address ≤ rva) × (rva < window_end mapping s alignment)
+abbrev pub InWindow : View → ℕ → ℕ → Section → Type 0
+InWindow view alignment rva s = (s.virtual_address ≤ rva) × (rva < window_end view s alignment)
 
 -- the window of the section at this index holds the address, and no earlier section's window does
-pub record IsFirstWindow (mapping : Mapping) (sections : List Section)
+pub record IsFirstWindow (view : View) (sections : List Section)
     (alignment rva index : ℕ) : Type 0 where
   pub section : Section
   pub is : slice_get sections index ≡ Some section
-  pub holds : InWindow mapping alignment rva section
+  pub holds : InWindow view alignment rva section
   pub least : (k : ℕ) (s : Section) → k < index → slice_get sections k ≡ Some s
-      → ¬ InWindow mapping alignment rva s
+      → ¬ InWindow view alignment rva s
 
 -- Different addresses that one section maps have different offsets.
 abbrev pub OffsetsApart : Mapping → List Section → ℕ → Type 0
 OffsetsApart mapping sections alignment =
     (first second index : ℕ) → IsTrue (is_power_of_two alignment)
-    → IsFirstWindow mapping sections alignment first index
-    → IsFirstWindow mapping sections alignment second index
+    → IsFirstWindow mapping.view sections alignment first index
+    → IsFirstWindow mapping.view sections alignment second index
     → file_offset mapping sections alignment first ≡ file_offset mapping sections alignment second
     → first ≡ second
 
@@ -126,13 +125,13 @@ OffsetsApart mapping sections alignment =
 -- address
 abbrev pub MapsTo : Mapping → List Section → ℕ → ℕ → ℕ → Type 0
 MapsTo mapping sections alignment rva offset =
-    (index : ℕ) × (first : IsFirstWindow mapping sections alignment rva index)
+    (index : ℕ) × (first : IsFirstWindow mapping.view sections alignment rva index)
     × (offset ≡ offset_in mapping first.section rva)
 
 -- no section's window holds the address
-abbrev pub MapsNowhere : Mapping → List Section → ℕ → ℕ → Type 0
-MapsNowhere mapping sections alignment rva =
-    (k : ℕ) (s : Section) → slice_get sections k ≡ Some s → ¬ InWindow mapping alignment rva s
+abbrev pub MapsNowhere : View → List Section → ℕ → ℕ → Type 0
+MapsNowhere view sections alignment rva =
+    (k : ℕ) (s : Section) → slice_get sections k ≡ Some s → ¬ InWindow view alignment rva s
 
 -- the cause is this message
 abbrev pub IsMessage : List ℕ → ErrorOf → Type 0

@@ -8,6 +8,6 @@ use Rattle.goblin_pe_sect.specs.WindowIndex.{AreNear, IsCut, begins_of, first_ow
 -- window covers it
 pub record IsDivision (mapping : Mapping) (sections : List Section) (alignment : ℕ)
     (pieces : List Piece) : Type 0 where
-  pub cut : IsCut mapping sections alignment (begins_of pieces)
-  pub near : AreNear mapping sections alignment
+  pub cut : IsCut mapping.view sections alignment (begins_of pieces)
+  pub near : AreNear mapping.view sections alignment
   pub owned : owners_of pieces ≡ map (first_owner mapping sections alignment) (begins_of pieces)

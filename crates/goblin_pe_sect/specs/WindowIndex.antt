@@ -5,7 +5,7 @@ use Rattle.std.specs.Prelude.{false, nat_le, nat_lt, if◌then◌else◌, List, 
 use Rattle.std.specs.Prelude.{length, map, slice_index, slice_index_or, slice_get, Contains}
 use Rattle.std.specs.Prelude.{position, IsTrue, option_map, option_and_then}
 use Rattle.std.specs.{List.prefix_len, List.Sorted.IsStrictlyIncreasing, Int.is_power_of_two}
-use Rattle.goblin_pe_sect.specs.declared.options.Mapping.{Mapping}
+use Rattle.goblin_pe_sect.specs.{declared.options.Mapping.Mapping, declared.options.View.View}
 use Rattle.goblin_pe_sect.specs.declared.windows.bounds.Piece.{Piece}
 use Rattle.goblin_pe_sect.specs.{declared.windows.owners.Owner.Owner, SectionTable.Section}
 use Rattle.goblin_pe_sect.specs.Mapping.{read_size, window_end, is_in_window, raw_begin}
@@ -25,40 +25,39 @@ abbrev pub owners_of : List Piece → List (Option Owner)
 owners_of pieces = map (λ (p : Piece). p.owner) pieces
 
 -- an index has pieces: addresses are mapped, and the alignment is a power of two
-abbrev pub HasPieces : Mapping → ℕ → Type 0
-HasPieces mapping alignment = IsTrue mapping.resolve_rva × IsTrue (is_power_of_two alignment)
+abbrev pub HasPieces : Bool → ℕ → Type 0
+HasPieces resolves alignment = IsTrue resolves × IsTrue (is_power_of_two alignment)
 
 -- ---- the pieces
 
 -- x is a place where the address space is cut: 0, or a start or an end of a window that is not
 -- empty
-abbrev pub IsBorder : Mapping → List Section → ℕ → ℕ → Type 0
-IsBorder mapping sections alignment x =
+abbrev pub IsBorder : View → List Section → ℕ → ℕ → Type 0
+IsBorder view sections alignment x =
     (x ≡ 0)
     ⊎ ((k : ℕ) × (s : Section) × (slice_get sections k ≡ Some s)
-    × (0 < read_size mapping.view s alignment)
-    × ((x ≡ s.virtual_address) ⊎ (x ≡ window_end mapping s alignment)))
+    × (0 < read_size view s alignment)
+    × ((x ≡ s.virtual_address) ⊎ (x ≡ window_end view s alignment)))
 
 -- the pieces begin where the address space is cut, in rising order; there are at most two for each
 -- section, and the one at 0
-pub record IsCut (mapping : Mapping) (sections : List Section) (alignment : ℕ)
+pub record IsCut (view : View) (sections : List Section) (alignment : ℕ)
     (begins : List ℕ) : Type 0 where
   pub rising : IsStrictlyIncreasing begins
-  pub all : (x : ℕ) → IsBorder mapping sections alignment x → Contains begins x
-  pub only : (x : ℕ) → Contains begins x → IsBorder mapping sections alignment x
+  pub all : (x : ℕ) → IsBorder view sections alignment x → Contains begins x
+  pub only : (x : ℕ) → Contains begins x → IsBorder view sections alignment x
   pub few : length begins ≤ 2 * length sections + 1
 
 -- what an index of windows keeps of a section, with the index of the section in the table
-abbrev pub owner_of_section : Mapping → ℕ → ℕ → Section → Owner
-owner_of_section mapping alignment i s =
+abbrev pub owner_of_section : Mapping → ℕ → Section → Owner
+owner_of_section mapping i s =
     record { index = i; address = s.virtual_address; pointer = raw_begin mapping s }
 
 -- what an index keeps of the first section whose window holds an address
 abbrev pub first_owner : Mapping → List Section → ℕ → ℕ → Option Owner
 first_owner mapping sections alignment rva =
-    option_and_then
-    (λ (i : ℕ). option_map (owner_of_section mapping alignment i) (slice_get sections i))
-    (position (is_in_window mapping alignment rva) sections)
+    option_and_then (λ (i : ℕ). option_map (owner_of_section mapping i) (slice_get sections i))
+    (position (is_in_window mapping.view alignment rva) sections)
 
 -- ---- what an index returns
 
@@ -111,7 +110,6 @@ pub record IsIndex (resolves : Bool) (begins : List ℕ) (owners : List (Option 
   pub unmapped : resolves ≡ false → begins ≡ []
 
 -- every section's window has at most 2 ^ 33 bytes
-abbrev pub AreNear : Mapping → List Section → ℕ → Type 0
-AreNear mapping sections alignment =
-    (k : ℕ) (s : Section) → slice_get sections k ≡ Some s
-    → read_size mapping.view s alignment ≤ 2 ^ 33
+abbrev pub AreNear : View → List Section → ℕ → Type 0
+AreNear view sections alignment =
+    (k : ℕ) (s : Section) → slice_get sections k ≡ Some s → read_size view s alignment ≤ 2 ^ 33

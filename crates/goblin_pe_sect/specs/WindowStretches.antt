@@ -40,8 +40,8 @@ abbrev pub section_window_at : Mapping → ℕ → ℕ → Section → Window
 section_window_at mapping alignment i s =
     record {
       begin = s.virtual_address;
-      end = window_end mapping s alignment;
-      owner = owner_of_section mapping alignment i s;
+      end = window_end mapping.view s alignment;
+      owner = owner_of_section mapping i s;
     }
 
 abbrev pub section_windows : Mapping → ℕ → List Section → List Window

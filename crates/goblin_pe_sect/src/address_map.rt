@@ -52,8 +52,7 @@ pub struct AddressMap<'s> {
     pub(crate) longest: Option<u32>,
 }
 
-// The index of the sections' windows. If there are no sections, the index has no pieces and takes
-// no memory.
+// The index of the sections' windows. If there are no sections, it has no pieces.
 #[tactic(auto, using(crate::proofs::AddressMaps::located_nowhere))]
 pub(crate) fn index_of<'e>(
     alloc: Global,
@@ -72,9 +71,7 @@ pub(crate) fn index_of<'e>(
 }
 
 impl<'s> AddressMap<'s> {
-    /// Prepares a map with an index of the sections' windows. It takes no memory if there are no
-    /// sections, if `opts` says that addresses are offsets, or if `file_alignment` is not a power
-    /// of two.
+    /// Prepares a map with an index of the sections' windows.
     ///
     /// # Errors
     /// Only [`Error::Memory`](goblin_base::Error::Memory).

@@ -14,6 +14,7 @@ ghost use Rattle.goblin_pe_sect.specs.Mapping.{offset_in, raw_begin, section_at}
 ghost use Rattle.goblin_pe_sect.specs.Mapping.{MapsNowhere, OffsetsApart, IsMessage};
 ghost use Rattle.goblin_pe_sect.specs.Multiples.{greatest_multiple, least_multiple};
 ghost use Rattle.goblin_pe_sect.specs.Options.{default_options, is_strict, mapping_by};
+ghost use Rattle.goblin_pe_sect.specs.declared.options.View.TheVariants.{Sections};
 
 use crate::data_directories::DataDirectory;
 use crate::options::{Mapping, ParseOptions, RawPointerRule, View};
@@ -92,28 +93,25 @@ fn read_size(section: &SectionTable, file_alignment: u32, view: View) -> usize
 pub(crate) fn section_window(
     section: &SectionTable,
     file_alignment: u32,
-    mapping: Mapping,
+    view: View,
 ) -> (usize, usize)
     requires { 0 < file_alignment }
     ensures begin { result.0 ≡ section.now.virtual_address }
-    ensures end { result.1 ≡ window_end mapping section.now file_alignment }
+    ensures end { result.1 ≡ window_end view section.now file_alignment }
     ensures near { result.1 < result.0 + 2 ^ 33 }
 {
     let begin = section.virtual_address as usize;
-    (
-        begin,
-        begin + read_size(section, file_alignment, mapping.view),
-    )
+    (begin, begin + read_size(section, file_alignment, view))
 }
 
-// An upper bound of the end of the section's window, for any mapping and file alignment. It holds
+// An upper bound of the end of the section's window, for any view and file alignment. It holds
 // because no more than the raw size in whole pages is read. It takes fewer steps than the window
 // itself.
 #[inline(always)]
 #[tactic(auto, using(crate::proofs::Mapped::window_below))]
 pub(crate) fn past_window(section: &SectionTable) -> usize
-    ensures past { (mapping : Mapping) (alignment : ℕ)
-        → window_end mapping section.now alignment ≤ result }
+    ensures past { (view : View) (alignment : ℕ)
+        → window_end view section.now alignment ≤ result }
     ensures near { result < section.now.virtual_address + 2 ^ 33 }
 {
     section.virtual_address as usize + round_up(section.size_of_raw_data as usize, 4096)
@@ -133,7 +131,7 @@ pub(crate) fn past_window(section: &SectionTable) -> usize
 ///
 /// Source: none; PE Format leaves the mapping to loaders. These are goblin's windows.
 pub fn window(section: &SectionTable, file_alignment: u32) -> Option<(usize, usize)>
-    ensures { result ≡ window_of (mapping_by default_options) section.now file_alignment }
+    ensures { result ≡ window_of Sections section.now file_alignment }
 {
     let mapping = View::Sections.mapping(&ParseOptions::default());
     window_by(section, file_alignment, mapping)
@@ -147,10 +145,10 @@ pub fn window_by(
     file_alignment: u32,
     mapping: Mapping,
 ) -> Option<(usize, usize)>
-    ensures { result ≡ window_of mapping section.now file_alignment }
+    ensures { result ≡ window_of mapping.view section.now file_alignment }
 {
     if file_alignment.is_power_of_two() {
-        Some(section_window(section, file_alignment, mapping))
+        Some(section_window(section, file_alignment, mapping.view))
     } else {
         None
     }
@@ -158,11 +156,11 @@ pub fn window_by(
 
 // Whether the section's window holds the address.
 #[tactic(auto, unfolding(crate::specs::Mapping::read_size))]
-fn is_in_window(rva: usize, section: &SectionTable, file_alignment: u32, mapping: Mapping) -> bool
+fn is_in_window(rva: usize, section: &SectionTable, file_alignment: u32, view: View) -> bool
     requires { 0 < file_alignment }
-    ensures { result ≡ is_in_window mapping file_alignment rva section.now }
+    ensures { result ≡ is_in_window view file_alignment rva section.now }
 {
-    let (begin, end) = section_window(section, file_alignment, mapping);
+    let (begin, end) = section_window(section, file_alignment, view);
     is_in_range(rva, begin, end)
 }
 
@@ -172,32 +170,32 @@ fn first_in_window<'s>(
     rva: usize,
     sections: &'s [SectionTable],
     file_alignment: u32,
-    mapping: Mapping,
+    view: View,
 ) -> Option<&'s SectionTable>
     requires { 0 < file_alignment }
     ensures value { option_copied result
-        ≡ find (is_in_window mapping file_alignment rva) sections.now }
-    ensures holds { IfSome result (λ s. InWindow mapping file_alignment rva s.now) }
+        ≡ find (is_in_window view file_alignment rva) sections.now }
+    ensures holds { IfSome result (λ s. InWindow view file_alignment rva s.now) }
 {
-    sections.iter().find(|section| is_in_window(rva, section, file_alignment, mapping))
+    sections
+        .iter()
+        .find(|section| is_in_window(rva, section, file_alignment, view))
 }
 
-/// The section in which an address lies: the first whose window holds it. [`find_offset`] maps the
-/// address by this section. `None` if no window holds the address, or `file_alignment` is not a
-/// power of two.
+/// The section in which an address lies: the first whose window holds it. If addresses are mapped,
+/// [`find_offset`] maps the address by this section. `None` if no window holds the address, or
+/// `file_alignment` is not a power of two.
 #[tactic(auto, using(crate::proofs::Mapped::power_positive))]
 pub fn section_at<'s>(
     rva: usize,
     sections: &'s [SectionTable],
     file_alignment: u32,
-    opts: &ParseOptions,
 ) -> Option<&'s SectionTable>
-    ensures value { option_copied result
-        ≡ section_at (mapping_by opts.now) file_alignment rva sections.now }
-    ensures holds { IfSome result (λ s. InWindow (mapping_by opts.now) file_alignment rva s.now) }
+    ensures value { option_copied result ≡ section_at Sections file_alignment rva sections.now }
+    ensures holds { IfSome result (λ s. InWindow Sections file_alignment rva s.now) }
 {
     if file_alignment.is_power_of_two() {
-        first_in_window(rva, sections, file_alignment, View::Sections.mapping(opts))
+        first_in_window(rva, sections, file_alignment, View::Sections)
     } else {
         None
     }
@@ -220,7 +218,7 @@ pub fn raw_begin(section: &SectionTable, mapping: Mapping) -> u32
 // The file offset of an address in the section's window.
 #[tactic(auto, using(crate::proofs::Mapped::read_size_le))]
 fn offset_in(rva: usize, section: &SectionTable, file_alignment: u32, mapping: Mapping) -> usize
-    requires { InWindow mapping file_alignment rva section.now }
+    requires { InWindow mapping.view file_alignment rva section.now }
     ensures { result ≡ offset_in mapping section.now rva }
 {
     let distance = rva - section.virtual_address as usize;
@@ -242,7 +240,7 @@ fn offset_by(
     if !opts.resolve_rva {
         return Some(rva);
     }
-    let section = section_at(rva, sections, file_alignment, opts)?;
+    let section = section_at(rva, sections, file_alignment)?;
     let mapping = View::Sections.mapping(opts);
     Some(offset_in(rva, section, file_alignment, mapping))
 }
@@ -269,7 +267,7 @@ pub fn find_offset(
 ) -> Option<usize>
     ensures value { result ≡ file_offset (mapping_by opts.now) sections.now file_alignment rva }
     ensures first { IsTrue opts.now.resolve_rva → IsTrue (is_power_of_two file_alignment) →
-        MatchOption result (MapsNowhere (mapping_by opts.now) sections.now file_alignment rva)
+        MatchOption result (MapsNowhere Sections sections.now file_alignment rva)
         (MapsTo (mapping_by opts.now) sections.now file_alignment rva) }
     ensures apart { OffsetsApart (mapping_by opts.now) sections.now file_alignment }
 {

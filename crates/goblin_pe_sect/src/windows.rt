@@ -10,6 +10,7 @@ ghost use Rattle.std.specs.Prelude.{length, map, []};
 ghost use Rattle.std.specs.{Int.is_power_of_two, List.Sorted.IsStrictlyIncreasing};
 ghost use Rattle.goblin_base.specs.Answers.{IsMemory};
 ghost use Rattle.goblin_pe_sect.specs.{Mapping.file_offset, Options.mapping_by};
+ghost use Rattle.goblin_pe_sect.specs.declared.options.View.TheVariants.{Sections};
 ghost use Rattle.goblin_pe_sect.specs.WindowIndexFields.{KeepsPiecesAlone};
 ghost use Rattle.goblin_pe_sect.specs.WindowIndex.{IsCut, begins_of, first_owner, located};
 ghost use Rattle.goblin_pe_sect.specs.WindowIndex.{reached, halvings, HasPieces};
@@ -95,8 +96,7 @@ impl WindowIndex {
     /// [`find_offset`](crate::utils::find_offset) does with the same arguments.
     ///
     /// The index has at most two pieces for each section, and one more. If `opts` says that
-    /// addresses are offsets, or `file_alignment` is not a power of two, it has no pieces and takes
-    /// no memory.
+    /// addresses are offsets, or `file_alignment` is not a power of two, it has no pieces.
     ///
     /// # Errors
     /// Only [`Error::Memory`](goblin_base::Error::Memory).
@@ -111,12 +111,12 @@ impl WindowIndex {
             (λ w. (rva : ℕ) → located w rva ≡ file_offset mapping sections.now file_alignment rva) }
         ensures refused { IfErr result IsMemory }
         ensures few { IfOk result (λ w. length w.begins ≤ 2 * length sections.now + 1) }
-        ensures no_pieces { let mapping = mapping_by opts.now in
-            IfOk result (λ w. ¬ HasPieces mapping file_alignment → w.begins ≡ []) }
+        ensures no_pieces { IfOk result
+            (λ w. ¬ HasPieces opts.now.resolve_rva file_alignment → w.begins ≡ []) }
         ensures cut { IfOk result
             (λ w.
             IsTrue opts.now.resolve_rva → IsTrue (is_power_of_two file_alignment)
-            → IsCut (mapping_by opts.now) sections.now file_alignment w.begins) }
+            → IsCut Sections sections.now file_alignment w.begins) }
         ensures owned { let mapping = mapping_by opts.now in
             IfOk result
             (λ w. w.owners ≡ map (first_owner mapping sections.now file_alignment) w.begins) }
@@ -137,11 +137,12 @@ impl WindowIndex {
             (rva : ℕ) → located w rva ≡ file_offset mapping sections.now file_alignment rva) }
         ensures refused { IfErr result IsMemory }
         ensures few { IfOk result (λ w. length w.begins ≤ 2 * length sections.now + 1) }
-        ensures no_pieces { IfOk result (λ w. ¬ HasPieces mapping file_alignment → w.begins ≡ []) }
+        ensures no_pieces { IfOk result
+            (λ w. ¬ HasPieces mapping.resolve_rva file_alignment → w.begins ≡ []) }
         ensures cut { IfOk result
             (λ w.
             IsTrue mapping.resolve_rva → IsTrue (is_power_of_two file_alignment)
-            → IsCut mapping sections.now file_alignment w.begins) }
+            → IsCut mapping.view sections.now file_alignment w.begins) }
         ensures owned { IfOk result
             (λ w. w.owners ≡ map (first_owner mapping sections.now file_alignment) w.begins) }
     {

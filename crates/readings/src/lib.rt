@@ -8,7 +8,8 @@
 //! `specs/Reads` defines readings, from a number at an offset to a table of slots, and ways to
 //! combine them. Each definition proves the laws, so a reader that is specified with these needs no
 //! proof of its own. `specs/Walks` has the definitions for calls that return the items of a table
-//! one at a time, and `specs/added/Questions` those for questions that callers ask about the items.
+//! one at a time, `specs/Tests` the one for tests of items, and `specs/added/Questions` those for
+//! questions that callers ask about the items.
 //!
 //! The proofs are in `proofs/`:
 //!
@@ -17,5 +18,6 @@
 //! - `Walks`: how a walk moves from slot to slot.
 //! - `WalkValues`: what collecting the items of a walk gives.
 //! - `Walked`: what a loop over a walk has made.
+//! - `Pairs`: equal pairs of values.
 //! - `added/Questions`: if the first item that passes a test is found, some item passes it.
 #![tactic(auto)]

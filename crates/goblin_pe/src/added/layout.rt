@@ -117,7 +117,7 @@ impl<'a> Layout<'a> {
     /// - If the file alignment is below 512, a section's window has no more bytes than its raw
     ///   data, rounded up to that alignment.
     /// - The front of the file is mapped at the image's base: as many bytes as the header says that
-    ///   the headers have, in whole file blocks.
+    ///   the headers have, in whole file blocks, but no more than whole pages of 4,096 bytes.
     ///
     /// So this layout finds names and tables in the headers, where packers hide them.
     ///

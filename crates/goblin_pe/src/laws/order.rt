@@ -1,6 +1,7 @@
 //! The readers that map addresses, run with two tables of sections.
 
-ghost use Rattle.goblin_pe_sect.specs.{Options.mapping_by, WindowOrder.IsReordering};
+ghost use Rattle.goblin_pe_sect.specs.WindowOrder.{IsReordering};
+ghost use Rattle.goblin_pe_sect.specs.declared.options.View.TheVariants.{Sections};
 ghost use Rattle.goblin_pe_sect.specs.Addresses.{map_by, reads_strictly};
 ghost use Rattle.goblin_pe.specs.TableRuns.{AreAlike, AreTables};
 
@@ -126,8 +127,8 @@ pub fn reorder_whole_tables<'a, 'e, T: Bitfield<'a>, D: TryFromCtx<'a>>(
     ensures second { let m = map_by opts.now second.now file_alignment in
         AreTables T.format D.model D.value_of D.refusal (reads_strictly m) m.addressing bytes.now
         request.now result.1 }
-    ensures alike { IsReordering (mapping_by opts.now) file_alignment first.now
-        second.now → AreAlike D.model result.0 result.1 }
+    ensures alike { IsReordering Sections file_alignment first.now second.now
+        → AreAlike D.model result.0 result.1 }
 {
     let one = read_tables::<T, D>(alloc, bytes, first, request, file_alignment, opts);
     let other = read_tables::<T, D>(alloc, bytes, second, request, file_alignment, opts);

@@ -10,7 +10,7 @@ use Rattle.goblin_pe_sect.specs.declared.data_directories.DataDirectory.{DataDir
 use Rattle.goblin_pe_sect.specs.Addresses.{Addressing}
 use Rattle.goblin_pe_export.specs.ExportReadings as reading
 use Rattle.goblin_pe_export.specs.ExportRecords.{ExportTables, export_directory_record, name_pointers}
-use Rattle.goblin_pe_export.specs.{Exports.export_data, ExportReadings.numbered_export}
+use Rattle.goblin_pe_export.specs.ExportReadings.{numbered_export}
 use Rattle.goblin_pe_export.specs.declared.added.exports.Exports.{Exports}
 use Rattle.goblin_pe_export.specs.declared.added.exports.WalkedExport.{WalkedExport}
 use Rattle.goblin_pe_export.specs.added.ExportWalks.{GivesExport, GivesExportBefore, NumberedExport, exports_position, numbered_from, walked_tables}
@@ -100,7 +100,7 @@ given-all end s t None given all =
 
 -- the file has bytes, since it has the record
 data-there : (addressing : Addressing) (d : DataDirectory) (bytes : List ℕ)
-    (tables : ExportTables) → export_data addressing d bytes ≡ Some tables
+    (tables : ExportTables) → (reading.export_data addressing d).value bytes ≡ Some tables
     → (length bytes == 0) ≡ false
 unfolding reading.export_data
 data-there addressing d bytes tables is =
@@ -111,7 +111,7 @@ data-there addressing d bytes tables is =
 
 -- the tables of a directory with all that comes are what is read
 pub read_walked : (addressing : Addressing) (d : DataDirectory) (bytes : List ℕ)
-    (tables : ExportTables) → export_data addressing d bytes ≡ Some tables
+    (tables : ExportTables) → (reading.export_data addressing d).value bytes ≡ Some tables
     → (reading.numbered_read addressing d).value bytes
     ≡ Some (tables, numbered_from addressing bytes tables 0)
 unfolding reading.numbered_read reading.numbered_rows numbered_from

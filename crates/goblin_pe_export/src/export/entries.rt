@@ -12,7 +12,7 @@ use crate::export::tables::{
     ExportOrdinalTable, SIZEOF_EXPORT_ADDRESS_TABLE_ENTRY, SIZEOF_NAME_POINTER, SIZEOF_ORDINAL,
     test_counts, whole_entries,
 };
-use crate::export::{ExportData, text_at};
+use crate::export::{ExportData, text_within};
 use goblin_base::{Cause, Endian, Error, Result, ResultOf, field_u16, field_u32};
 use goblin_pe_sect::DataDirectory;
 use goblin_pe_sect::address_map::Finder;
@@ -93,7 +93,7 @@ impl<'a> TablesInFile<'a> {
         let ordinals = finder.offset_of(table.ordinal_table_rva);
         let addresses = finder.offset_of(table.export_address_table_rva);
         TablesInFile {
-            name: text_at(
+            name: text_within(
                 bytes,
                 finder.offset_of_name(table.name_rva),
                 finder.longest_name(),

@@ -11,7 +11,7 @@ use Rattle.goblin_pe_head.specs.{CoffHeader.CoffHeader, DosHeader.DosHeader}
 use Rattle.goblin_pe_head.specs.{declared.added.parts.HeaderParts.HeaderParts, PeHeader.PeHeader}
 use Rattle.goblin_pe_head.specs.OptionalHeader.{OptionalHeader, StandardFields, WindowsFields64}
 use Rattle.goblin_pe_head.specs.OptionalHeader.{fields_size}
-use Rattle.goblin_pe_head.specs.added.HeaderParts.{AreOfHeader, AreOfWhole, ArePartsOf, coff_part, directories_front, optional_part, placed_coff, standard_front, no_windows_fields, windows_front}
+use Rattle.goblin_pe_head.specs.added.HeaderParts.{AreOfHeader, AreOfWhole, ArePartsOf, coff_part, directories_front, optional_part, placed_coff, standard_front, zero_windows_fields, windows_front}
 use Rattle.goblin_pe_head.specs.HeaderReadings.{dos_header, optional_at, optional_header, pe_header}
 use Rattle.goblin_pe_head.proofs.OptionalParts.{IsOptionalOf, optional_of}
 use Rattle.goblin_pe_head.proofs.PeHeaderRoundTrip.{IsHeaderOf, parts_of}
@@ -87,7 +87,7 @@ answered view (Err error) reading bytes y reads e = absurd (cc (reads.0, e))
 remade : (o : Option OptionalHeader) (s : Option StandardFields) (w : Option WindowsFields64) (d : Option DataDirectories)
     → s ≡ option_map (λ h. h.standard_fields) o → w ≡ option_map (λ h. h.windows_fields) o
     → option_map (λ d. d.data_directories) d ≡ option_map (λ h. h.data_directories.data_directories) o
-    → option_map (λ standard. record { standard_fields = standard; windows_fields = unwrap_or w no_windows_fields; data_directories = unwrap_or d (record { data_directories = replicate 16 None }) }) s ≡ o
+    → option_map (λ standard. record { standard_fields = standard; windows_fields = unwrap_or w zero_windows_fields; data_directories = unwrap_or d (record { data_directories = replicate 16 None }) }) s ≡ o
 remade None s w d es ew ed = rw es refl
 remade (Some h) s w None es ew ed = absurd cc
 remade (Some h) s w (Some d) es ew ed =

@@ -96,8 +96,8 @@ pub record ArePartsOf (bytes : List ℕ) (parts : HeaderParts) : Type 0 where
 -- ---- what is known of an optional header
 
 -- Windows fields of zeros
-abbrev pub no_windows_fields : WindowsFields64
-no_windows_fields = record {
+abbrev pub zero_windows_fields : WindowsFields64
+zero_windows_fields = record {
   image_base = 0;
   section_alignment = 0;
   file_alignment = 0;
@@ -133,7 +133,7 @@ known_optional parts =
     let none : DataDirectories = record { data_directories = replicate 16 None } in
     option_map (λ standard. record {
       standard_fields = standard;
-      windows_fields = unwrap_or (part_given parts.windows_fields) no_windows_fields;
+      windows_fields = unwrap_or (part_given parts.windows_fields) zero_windows_fields;
       data_directories = unwrap_or (part_given parts.data_directories) none;
     }) (part_given parts.standard_fields)
 

@@ -6,7 +6,7 @@ ghost use Rattle.goblin_pe_sect.specs.SectionTable.{recorded_sections};
 ghost use Rattle.goblin_pe_head.specs.HeaderReadings.{dos_header as file_dos_header, optional_with};
 ghost use Rattle.goblin_pe_head.specs.added.HeaderParts as reading;
 ghost use Rattle.goblin_pe_head.specs.added.HeaderParts.{AreOfWhole, ArePartsOf, known_optional};
-ghost use Rattle.goblin_pe_head.specs.added.HeaderParts.{no_windows_fields, part_given};
+ghost use Rattle.goblin_pe_head.specs.added.HeaderParts.{zero_windows_fields, part_given};
 ghost use Rattle.goblin_pe_head.specs.added.HeaderParts.{sections_there, unnamed_sections};
 
 use crate::header::{CoffHeader, DosHeader, SIZEOF_PE_MAGIC};
@@ -202,6 +202,7 @@ impl<'a> HeaderParts<'a> {
             },
         }
     }
+
     /// The optional header, made of the parts that could be read. It is `None` if the standard
     /// fields are `None` or refused. If the Windows fields are refused, they are zeros here. If the
     /// data directories are refused, there are none here.
@@ -220,7 +221,7 @@ impl<'a> HeaderParts<'a> {
 }
 
 fn windows_or_zeros(fields: Option<WindowsFields>) -> WindowsFields
-    ensures { result ≡ unwrap_or fields no_windows_fields }
+    ensures { result ≡ unwrap_or fields zero_windows_fields }
 {
     fields.unwrap_or_default()
 }

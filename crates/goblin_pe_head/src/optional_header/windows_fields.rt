@@ -21,13 +21,6 @@ pub const SIZEOF_WINDOWS_FIELDS_64: usize = 88;
 /// The offset of the checksum in the Windows fields for 64 bits, in bytes from their front.
 pub const OFFSET_WINDOWS_FIELDS_64_CHECKSUM: usize = 40;
 
-const _: () = prove!(
-    SIZEOF_WINDOWS_FIELDS_32 == 68
-        && OFFSET_WINDOWS_FIELDS_32_CHECKSUM == 36
-        && SIZEOF_WINDOWS_FIELDS_64 == 88
-        && OFFSET_WINDOWS_FIELDS_64_CHECKSUM == 40
-);
-
 /// The Windows fields of an optional header for 32 bits.
 ///
 /// Source: PE Format, "Optional Header Windows-Specific Fields (Image Only)". Numbers are as
@@ -62,7 +55,8 @@ pub struct WindowsFields32 {
     /// section alignment, and what the loader reserves.
     pub size_of_image: u32,
     /// The size of all headers together, in bytes, rounded up to the file alignment, at 32. The
-    /// loader maps this much of the front of the file, in whole file blocks, at the image's base.
+    /// loader maps this much of the front of the file at the image's base, in whole file blocks,
+    /// but no more than whole pages of 4,096 bytes.
     pub size_of_headers: u32,
     /// The checksum of the image, at 36. The loader tests it for drivers and for images that are
     /// loaded at boot; no reader tests it.
@@ -212,7 +206,8 @@ pub struct WindowsFields64 {
     /// section alignment, and what the loader reserves.
     pub size_of_image: u32,
     /// The size of all headers together, in bytes, rounded up to the file alignment, at 36. The
-    /// loader maps this much of the front of the file, in whole file blocks, at the image's base.
+    /// loader maps this much of the front of the file at the image's base, in whole file blocks,
+    /// but no more than whole pages of 4,096 bytes.
     pub size_of_headers: u32,
     /// The checksum of the image, at 40. The loader tests it for drivers and for images that are
     /// loaded at boot; no reader tests it.

@@ -22,7 +22,7 @@ module _ (mapping : Mapping) (sections : List Section) (alignment p : ℕ) where
   passed (Some rva) h = found_is (file_offset mapping sections alignment rva) h
 
   -- the section that maps an address to the offset has that address there
-  has_address : (s : Section) (rva : ℕ) → is_power_of_two alignment ≡ true → InWindow mapping alignment rva s → p ≡ offset_in mapping s rva → rva_in mapping alignment p s ≡ Some rva
+  has_address : (s : Section) (rva : ℕ) → is_power_of_two alignment ≡ true → InWindow mapping.view alignment rva s → p ≡ offset_in mapping s rva → rva_in mapping alignment p s ≡ Some rva
   has_address s rva even holds is = grind (arith, nat_tests)
 
   finds_itself : (s : Section) (rva : ℕ) → rva_in mapping alignment p s ≡ Some rva → file_offset mapping sections alignment rva ≡ Some p → maps_to mapping sections alignment p (rva_in mapping alignment p s) ≡ true
@@ -61,7 +61,7 @@ module _ (mapping : Mapping) (sections : List Section) (alignment p : ℕ) where
   none_found on none rva is =
       let even = aligned rva on is in
       let says = file_offset_first mapping sections alignment rva (search (rules, tests)) (search (rules, tests)) in
-      let to : MapsTo mapping sections alignment rva p = subst (λ (o : Option ℕ). MatchOption o (MapsNowhere mapping sections alignment rva) (MapsTo mapping sections alignment rva)) is says in
+      let to : MapsTo mapping sections alignment rva p = subst (λ (o : Option ℕ). MatchOption o (MapsNowhere mapping.view sections alignment rva) (MapsTo mapping sections alignment rva)) is says in
       by_section rva even to is (none_passes test sections none)
 
   found : mapping.resolve_rva ≡ true → (o : Option Section) → find test sections ≡ o → Says (option_and_then (rva_in mapping alignment p) o)

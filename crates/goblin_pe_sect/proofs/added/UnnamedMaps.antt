@@ -13,10 +13,10 @@ unnamed_by : (b : Bool) (s : Section) (x y : Option Section) → x ≡ option_ma
 unnamed_by true s x y e = refl
 unnamed_by false s x y e = e
 
-find_unnamed : (mapping : Mapping) (alignment rva : ℕ) (sections : List Section) → find (is_in_window mapping alignment rva) (map unnamed sections) ≡ option_map unnamed (find (is_in_window mapping alignment rva) sections)
+find_unnamed : (mapping : Mapping) (alignment rva : ℕ) (sections : List Section) → find (is_in_window mapping.view alignment rva) (map unnamed sections) ≡ option_map unnamed (find (is_in_window mapping.view alignment rva) sections)
 unfolding read_size
 find_unnamed mapping alignment rva [] = refl
-find_unnamed mapping alignment rva (s ∷ sections) = unnamed_by (is_in_window mapping alignment rva s) s _ _ (find_unnamed mapping alignment rva sections)
+find_unnamed mapping alignment rva (s ∷ sections) = unnamed_by (is_in_window mapping.view alignment rva s) s _ _ (find_unnamed mapping alignment rva sections)
 
 offset_by : (mapping : Mapping) (alignment rva : ℕ) (found : Option Section) → option_map (λ s. offset_in mapping s rva) (option_map unnamed found) ≡ option_map (λ s. offset_in mapping s rva) found
 offset_by mapping alignment rva None = refl
@@ -28,7 +28,7 @@ unfolding file_offset
 unnamed_offsets mapping sections alignment =
     fun_ext (λ (rva : ℕ).
     ap (λ (x : Option ℕ). cond mapping.resolve_rva (cond (is_power_of_two alignment) x None) (Some rva))
-    (ap (option_map (λ s. offset_in mapping s rva)) (find_unnamed mapping alignment rva sections) ∙ offset_by mapping alignment rva (find (is_in_window mapping alignment rva) sections)))
+    (ap (option_map (λ s. offset_in mapping s rva)) (find_unnamed mapping alignment rva sections) ∙ offset_by mapping alignment rva (find (is_in_window mapping.view alignment rva) sections)))
 
 -- also with the file's front, which has no such name
 unnamed_with : (mapping : Mapping) (front : Option ℕ) (sections : List Section) (alignment : ℕ) → file_offset mapping (with_front front (map unnamed sections)) alignment ≡ file_offset mapping (with_front front sections) alignment

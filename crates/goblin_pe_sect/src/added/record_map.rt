@@ -5,7 +5,7 @@ ghost use Rattle.std.specs.Prelude.{◌≡◌, IfErr, IfOk, length};
 ghost use Rattle.goblin_base.specs.Answers.{GivesOrMemory};
 ghost use Rattle.goblin_pe_sect.specs.Addresses.{Walked, AreMany, WalksFew, map_in, map_of};
 ghost use Rattle.goblin_pe_sect.specs.Addresses.{map_with, strict_map, with_longest};
-ghost use Rattle.goblin_pe_sect.specs.Mapping.{file_offset};
+ghost use Rattle.goblin_pe_sect.specs.{Mapping.file_offset, WindowIndex.HasPieces};
 ghost use Rattle.goblin_pe_sect.specs.SectionTable.{mapped_of, mapped_sections, recorded_sections};
 
 use crate::address_map::run::Run;
@@ -66,6 +66,7 @@ impl<'s> Windows<'s> {
         ensures made { GivesOrMemory (map_with opts.now) result
             (map_in opts.now (mapped_of view records.entry) file_alignment) }
         ensures few { IfOk result (WalksFew opts.now) }
+        ensures pieces { IfErr result (λ e. HasPieces opts.now.resolve_rva file_alignment) }
     {
         if !opts.resolve_rva || !file_alignment.is_power_of_two() {
             return Ok(Windows::Walked(records, view, file_alignment));
@@ -107,6 +108,7 @@ impl<'s> AddressMap<'s> {
             (λ m. ¬ AreMany count → m.windows ≡ Walked records.entry view file_alignment) }
         ensures grown { let count = length (recorded_sections records.entry.records) in
             IfErr result (λ e. AreMany count) }
+        ensures pieces { IfErr result (λ e. HasPieces opts.now.resolve_rva file_alignment) }
     {
         let windows = if MOST_WITHOUT_INDEX < records.records.len() {
             Windows::of_many(alloc, records, view, file_alignment, opts)?

@@ -20,8 +20,8 @@ const ALL_ADDRESSES: Run = Run {
 
 // The file offset of an address, by the first section whose window holds it. Sets `run` to the
 // addresses around it that this section owns: those up to the windows of the sections before it in
-// the table. (So the walk compares the windows of all these sections with the address, which the
-// search in `utils` does not. The address is not a u32, which would be kept in two registers.)
+// the table. (So the walk keeps how near these come to the address, which the search in `utils`
+// does not. The address is not a u32, which would be kept in two registers.)
 #[inline(always)]
 fn find_window(
     records: MappedRecords,
@@ -50,7 +50,7 @@ fn find_window(
             low = low.max(past);
             continue 'records;
         }
-        let (begin, end) = section_window(&section, file_alignment, mapping);
+        let (begin, end) = section_window(&section, file_alignment, mapping.view);
         if rva < begin {
             high = high.min(begin);
         } else if end <= rva {

@@ -88,7 +88,7 @@ fn division_of_any(
     requires { 0 < file_alignment }
     ensures { IfOk result (λ v. IsDivision mapping sections.now file_alignment v.items) }
 {
-    let begins = cuts_of(alloc, sections, file_alignment, mapping)?;
+    let begins = cuts_of(alloc, sections, file_alignment, mapping.view)?;
     put_pieces(
         alloc,
         &begins,

@@ -54,7 +54,7 @@ pub(super) fn window_at(
     ensures value { result ≡ section_window_at mapping file_alignment index section.now }
     ensures near { result.end ≤ result.begin + 2 ^ 33 }
 {
-    let (begin, end) = section_window(section, file_alignment, mapping);
+    let (begin, end) = section_window(section, file_alignment, mapping.view);
     Window {
         begin,
         end,

@@ -9,7 +9,7 @@ pub records-preserved-then-past-rva : goal.records-preserved-then-past-rva
 records-preserved-then-past-rva c =
     let now = c.records.invariant in
     record {
-      is = passed_before _ _ c.requires.maps c.requires.aligned _ _ _ _ _ now.is _ _ c.in-Some.ensures _ _ c.past_window-past.result (grind (arith, common_steps)) refl (c.past_window-past.ensures.past c.args.mapping c.args.file_alignment) c.if-past-rva.true;
+      is = passed_before _ _ c.requires.maps c.requires.aligned _ _ _ _ _ now.is _ _ c.in-Some.ensures _ _ c.past_window-past.result (grind (arith, common_steps)) refl (c.past_window-past.ensures.past c.args.mapping.view c.args.file_alignment) c.if-past-rva.true;
       same = now.same;
     }
 

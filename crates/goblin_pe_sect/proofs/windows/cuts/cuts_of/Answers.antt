@@ -12,7 +12,7 @@ loop-section-preserved c =
     let here : slice_get c.args.sections.now c.loop-section.section-index ≡ Some s = slice_get_read _ _ _ s refl c.loop-section-test.true c.section-item.is in
     elim c.if-begin-end.branch [
       | then-begin-end+in_ok-push-2+in_ok-push-3 w ↦
-          let points : c.if-begin-end.points.items ≡ (c.loop-section.points.items ++ s.virtual_address ∷ []) ++ window_end c.args.mapping s c.args.file_alignment ∷ [] = cc (w.in_ok-push-3.ensures.items, w.in_ok-push-2.ensures.items, c.section_window-begin.ensures.begin, c.section_window-begin.ensures.end, w.points-is) in
+          let points : c.if-begin-end.points.items ≡ (c.loop-section.points.items ++ s.virtual_address ∷ []) ++ window_end c.args.view s c.args.file_alignment ∷ [] = cc (w.in_ok-push-3.ensures.items, w.in_ok-push-2.ensures.items, c.section_window-begin.ensures.begin, c.section_window-begin.ensures.end, w.points-is) in
           rw points (cuts_more _ _ _ _ _ s c.loop-section.invariant here (omega (arith, w.if-begin-end.true, c.section_window-begin.ensures)) (omega (arith, c.section_window-begin.ensures)))
       | else-begin-end w ↦
           rw w.points-is (cuts_empty _ _ _ _ _ s c.loop-section.invariant here (omega (arith, w.if-begin-end.false, c.section_window-begin.ensures)))
@@ -28,4 +28,4 @@ returns-clause-cut c =
 pub returns-clause-near : goal.returns-clause-near
 returns-clause-near c =
     let all : c.loop-section.section-index ≡ length c.args.sections.now = omega arith in
-    near_from c.args.mapping c.args.sections.now c.args.file_alignment c.loop-section.points.items (rw (← all) c.loop-section.invariant)
+    near_from c.args.view c.args.sections.now c.args.file_alignment c.loop-section.points.items (rw (← all) c.loop-section.invariant)

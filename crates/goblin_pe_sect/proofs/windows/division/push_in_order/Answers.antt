@@ -13,12 +13,12 @@ sections-preserved c =
     let here : slice_get c.args.sections.now c.sections.index ≡ Some s = slice_get_read _ _ _ s refl c.sections-test.true c.index-sections-index.is in
     let window : c.window_at-window.result ≡ section_window_at c.args.mapping c.args.file_alignment c.sections.index s = c.window_at-window.ensures.value in
     let begin : c.window_at-window.result.begin ≡ s.virtual_address = ap (λ (w : Window). w.begin) window in
-    let end : c.window_at-window.result.end ≡ window_end c.args.mapping s c.args.file_alignment = ap (λ (w : Window). w.end) window in
+    let end : c.window_at-window.result.end ≡ window_end c.args.mapping.view s c.args.file_alignment = ap (λ (w : Window). w.end) window in
     let small : read_size c.args.mapping.view s c.args.file_alignment ≤ 2 ^ 33 = omega (arith, c.window_at-window.ensures.near, begin, end) in
     elim c.if-window.branch [
       | then-window+else-window-end+in_ok-push_window w ↦
           let some : 0 < read_size c.args.mapping.view s c.args.file_alignment = omega (arith, w.if-window.true, begin, end) in
-          let last : c.if-window.end ≡ window_end c.args.mapping s c.args.file_alignment = w.end-is ∙ end in
+          let last : c.if-window.end ≡ window_end c.args.mapping.view s c.args.file_alignment = w.end-is ∙ end in
           elim (cases_lt c.sections.end s.virtual_address) [
             | inl after ↦
                 rw (w.pieces-is, last, w.in_ok-push_window.ensures.apart_begins (omega arith), w.in_ok-push_window.ensures.apart_owners (omega arith), window) (in_order_apart _ _ _ _ _ _ _ s c.sections.invariant here after some small)
