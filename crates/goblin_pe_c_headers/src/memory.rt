@@ -164,7 +164,7 @@ fn window_size(mapped: &Mapped, section: &SectionTable) -> usize
     ensures value { result ≡ window_size (mapped_model mapped.now) section.now }
     ensures small { result < 2 ^ 33 }
 {
-    match window_by(section, mapped.file_alignment, mapped.mapping) {
+    match window_by(section, mapped.file_alignment, mapped.mapping.view) {
         Some((begin, end)) => {
             let raw_size = section.size_of_raw_data as usize;
             prove!(end - begin < raw_size + 4096);

@@ -133,22 +133,17 @@ pub(crate) fn past_window(section: &SectionTable) -> usize
 pub fn window(section: &SectionTable, file_alignment: u32) -> Option<(usize, usize)>
     ensures { result ≡ window_of Sections section.now file_alignment }
 {
-    let mapping = View::Sections.mapping(&ParseOptions::default());
-    window_by(section, file_alignment, mapping)
+    window_by(section, file_alignment, View::Sections)
 }
 
-/// As [`window`], in the view of `mapping`. In the views of a loader, if `file_alignment` is below
+/// As [`window`], in a view. In the views of a loader, if `file_alignment` is below
 /// 512, the first of the three sizes is the raw size rounded up to `file_alignment`.
 #[tactic(auto, using(crate::proofs::Mapped::power_positive))]
-pub fn window_by(
-    section: &SectionTable,
-    file_alignment: u32,
-    mapping: Mapping,
-) -> Option<(usize, usize)>
-    ensures { result ≡ window_of mapping.view section.now file_alignment }
+pub fn window_by(section: &SectionTable, file_alignment: u32, view: View) -> Option<(usize, usize)>
+    ensures { result ≡ window_of view section.now file_alignment }
 {
     if file_alignment.is_power_of_two() {
-        Some(section_window(section, file_alignment, mapping.view))
+        Some(section_window(section, file_alignment, view))
     } else {
         None
     }

@@ -61,8 +61,7 @@ const PACKED: Numbers = (0x1000, 0x10, 0x10, 0x390);
 
 /// The window of [`PACKED`] in a view.
 fn packed(view: View, alignment: u32) -> Option<(usize, usize)> {
-    let mapping = view.mapping(&ParseOptions::default());
-    window_by(&section_of(PACKED), alignment, mapping)
+    window_by(&section_of(PACKED), alignment, view)
 }
 
 #[test]

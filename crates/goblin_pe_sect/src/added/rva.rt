@@ -21,7 +21,7 @@ pub fn rva_in(
 ) -> Option<usize>
     ensures { result ≡ rva_in mapping file_alignment offset section.now }
 {
-    let (first, end) = window_by(section, file_alignment, mapping)?;
+    let (first, end) = window_by(section, file_alignment, mapping.view)?;
     let begin = raw_begin(section, mapping) as usize;
     if offset < begin || end - first <= offset - begin {
         return None;
