@@ -125,7 +125,7 @@ headers-there bytes (suc n) p xs read =
     let records = mapped (slice_at bytes p (40 * suc n)) sections_in xs (sym (rw some refl) ∙ read) in
     rw (some, records.is) records.made
 
-pub some-weaker : {A : Type 0} (v : Option A) (P Q : A → Type 0) → ((a : A) → P a → Q a) → IsSomeAnd v P → IsSomeAnd v Q
+some-weaker : {A : Type 0} (v : Option A) (P Q : A → Type 0) → ((a : A) → P a → Q a) → IsSomeAnd v P → IsSomeAnd v Q
 some-weaker None P Q then h = absurd h
 some-weaker (Some a) P Q then h = then a h
 
