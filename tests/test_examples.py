@@ -244,7 +244,6 @@ class Map(WithExamples):
                     self.assertTrue(any(it.startswith(f"{s.name.decode()} (") for it, _, _ in parts))
                     self.assertIn(f"at {s.virtual_address:#x}, {s.size_of_raw_data} bytes", words)
                 self.assertTrue(all(one >= least - 0.1 and left <= x <= left + width - one + 0.1 for _, x, one in parts), parts)
-                self.assertIn(f"The answers depend on {sum(map(len, image.footprint()))} bytes.", words)
                 self.assertEqual((tree.get("role"), tree.get("aria-labelledby")), ("img", "title desc"))
                 self.assertIn(sample.name, tree.find(SVG + "title").text)
 
@@ -267,10 +266,6 @@ class Map(WithExamples):
         words = [it for it, _, _ in self.parts(self.drawn("some & <other>.dll", data))]
         for wanted in r'<&">\x1b\x0a', "</svg>":
             self.assertEqual(sum(it.startswith(wanted + " (") for it in words), 2)
-
-    def test_a_footprint_that_takes_too_long_is_left_out(self):
-        tree = self.drawn("names.dll", bytes(images.one_long_name(3000, 300000)))
-        self.assertIn("The answers depend on unknown bytes.", tree.find(SVG + "desc").text)
 
     def test_no_image(self):
         self.assertRaisesRegex(SystemExit, "no image", self.drawn, "some.obj", OBJECTS[0].read_bytes())

@@ -367,10 +367,10 @@ class LongNames(Read):
             self.assertEqual([it.section_by_name(name) for name in ("12345678", "123456789", "123456789A")], [None, None, None])
         self.assertIsNone(self.both(self.named(b"/4x"), longest_name=1)[0].section_by_name("/4"))
 
-    def test_an_export_is_found_by_its_whole_name(self):
-        for found in self.images(images.library(b"a.dll", [(b"123456789A", 0x9000)])):
-            self.assertEqual(found.find_export(b"123456789"), None)
-            self.assertEqual(found.find_export(b"123456789A").name, b"123456789A")
+    def test_an_export_is_found_by_no_name_that_is_cut(self):
+        for found in self.images(images.library(b"a.dll", [(b"123456789A", 0x9000), (b"12345678", 0x9000)])):
+            self.assertEqual([found.find_export(it) for it in (b"123456789", b"123456789A")], [None, None])
+            self.assertEqual(found.find_export(b"12345678").name, b"12345678")
 
     def test_imports_are_hashed_with_whole_names_alone(self):
         file = images.importer([(b"a_long_name.dll", [b"a_long_name", b"f"])])

@@ -207,6 +207,9 @@ class Releases(Case):
         shutil.copytree(BINDINGS, self.top / "bindings", ignore=shutil.ignore_patterns("lib", "target", "__pycache__"))
         for it in ("LICENSE", "SECURITY.md", "CHANGELOG.md", ".gitignore"):
             shutil.copy(TOP / it, self.top)
+        for it in "one", "two":
+            (self.top / "crates" / it / "must-fail").mkdir(parents=True)
+            (self.top / "crates" / it / "must-fail/wrong.edit").write_text("file: src/lib.rt\n", "ascii")
         self.git("init", "-q")
         self.commit()
         (self.kit / "bin").mkdir(parents=True)
@@ -307,6 +310,7 @@ class Releases(Case):
     def test_a_gate_that_did_not_pass_or_kept_something(self):
         for lines, status in ((GATE, 1), ([*GATE[:-1], "9 passed, 1 failed"], 1), ([*GATE[:-1], "0 passed, 0 failed"], 0), ([], 0),
                               ([*GATE[:-1], "quick: 9 passed, 0 failed"], 0), (GATE[3:], 0), ([*GATE[:3], GATE[-1]], 0),
+                              ([it.replace("2 refused", "1 refused, 1 bad") for it in GATE], 0),
                               (["rt: goblin_base is kept: an earlier run on this machine proved the same files", *GATE[2:]], 0)):
             with self.subTest(lines=lines, status=status):
                 self.assertIn("the gate", self.package(gate=lambda clone, env: (lines, status)))

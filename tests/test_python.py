@@ -94,18 +94,20 @@ class Python(Case):
                 self.assertEqual({*json.loads(out)} >= {"file", "refusal"}, True)
 
     def test_json_has_all_that_the_walks_give(self):
-        package_, names = package(), ("imports", "exports", "export_addresses", "relocation_blocks", "rich_entries", "symbols")
+        package_, names = package(), ("imports", "libraries", "exports", "export_addresses", "relocation_blocks", "rich_entries", "symbols")
         for sample in IMAGES:
             found, image = json.loads(self.lists("--json", sample)[1]), package_.Image(sample.read_bytes())
             self.assertEqual((found["kind"], found["refusal"], found["ended_early"]), ("IMAGE", None, {}))
             for name in names:
                 self.assertEqual(found[name], package_.jsonable([*getattr(image, name)()]), name)
             self.assertEqual((found["sections"], found["damage"]), (package_.jsonable(image.sections), [package_.jsonable(image.damage())]))
+            self.assertEqual(found["export_directory"], package_.jsonable([*filter(None, [image.export_directory()])]))
         for samples, read in (OBJECTS, package_.Image.object), (TERSE, package_.Image.te):
             for sample in samples:
                 found, image = json.loads(self.lists("--json", sample)[1]), read(sample.read_bytes())
                 self.assertEqual(found["symbols"], package_.jsonable([*image.symbols()]))
-                self.assertEqual(found["relocations"], package_.jsonable([it for s in image.sections for it in s.relocations(image)]))
+                wanted = [{"section": s.index, **it._asdict()} for s in image.sections for it in s.relocations(image)]
+                self.assertEqual((found["kind"], found["relocations"]), (package_.Kind.of(image.data).name, wanted))
                 self.assertEqual((found["sections"], found["te_header"]), (package_.jsonable(image.sections), package_.jsonable(image.te_header)))
 
     def test_json_says_where_it_stopped(self):
@@ -115,10 +117,19 @@ class Python(Case):
         self.assertEqual((status, errors, second["ended_early"]), (1, b"", {}))
         self.assertEqual(first["ended_early"]["imports"], "imports: no steps are left")
         self.assertTrue(0 < len(first["imports"]) <= 500)
+        # (sections and entries of the Rich header are steps, too)
+        rich = self.written("rich.dll", triaged_images()["rich.dll"])
+        for steps, wanted in (3, "header: no steps are left"), (5, "Rich header: no steps are left"):
+            found = json.loads(self.lists("--json", "--steps", str(steps), rich)[1])
+            self.assertIn(wanted, found["ended_early"].values())
+        self.assertIn(b"a budget has from 0", self.lists("--steps", "-1", BY_NAME)[2])
+        # (a file that is no image has no kind)
+        self.assertEqual(json.loads(self.lists("--json", __file__)[1])["kind"], "UNKNOWN")
         # (a table that is refused ends no other)
         status, out, _ = self.lists("--json", self.written("damaged.dll", bytes(images.with_directory(BY_NAME.read_bytes(), 1, 0x9000, 40))))
         found = json.loads(out)
-        self.assertEqual((status, found["ended_early"]), (1, {"imports": "imports: the address 0x9000 has no offset in the file"}))
+        wanted = dict.fromkeys(("imports", "libraries"), "imports: the address 0x9000 has no offset in the file")
+        self.assertEqual((status, found["ended_early"]), (1, wanted))
         self.assertEqual(len(found["exports"]), 2)
         # (names are limited)
         long = self.written("long.dll", bytes(images.one_long_name(3, 10000)))

@@ -13,7 +13,7 @@ case $1 in
 help) echo "ci [--anew]" ;;
 try) cat > /dev/null; cat "$HERE/tried"; printf '%s' "$RT_LINE" >&2; echo "run=ended status=${RT_STATUS:-0} runners=1 proved=no" >&2 ;;
 run) mkdir -p out && cp "$PROGRAM" out/pe_list ;;
-ci) ls crates/*/out >> "$HERE/called"; echo "${RT_COUNTS:-3 passed, 0 failed}" ;;
+ci) ls crates/*/out >> "$HERE/called"; echo "rt: ok; must-fail edits: ${RT_REFUSED:-2} refused; all"; echo "${RT_COUNTS:-3 passed, 0 failed}" ;;
 esac
 """
 NOT_PROVED = "pe_list: not proved: ./pe_list --prove proves and builds the program\n"
@@ -100,6 +100,9 @@ class Gate(Copy):
         super().setUp()
         self.written("bin/python3", b'#!/bin/sh\necho "$*" >> "$HERE/called"\necho "2 passed, 0 failed"\n').chmod(0o755)
         self.written("bin/cargo", b"").chmod(0o755)
+        for crate in "goblin_base", "pe_list":
+            (self.folder / "crates" / crate / "must-fail").mkdir()
+            self.written(f"crates/{crate}/must-fail/wrong.edit", b"")
         for it in ("rlib/stamp", "incremental/proof", "pe_list"):
             (self.folder / "crates/pe_list/out" / it).parent.mkdir(parents=True, exist_ok=True)
             self.written("crates/pe_list/out/" + it, b"forged")
@@ -123,6 +126,10 @@ class Gate(Copy):
 
     def test_a_gate_that_fails(self):
         self.assertEqual(self.gate(RT_COUNTS="3 passed, 1 failed")[:2], (1, "7 passed, 1 failed"))
+
+    def test_a_wrong_body_that_was_not_tried(self):
+        """The toolchain passes an edit that does not compile."""
+        self.assertEqual(self.gate(RT_REFUSED="1")[:2], (1, "7 passed, 1 failed"))
 
     def test_the_quick_part_is_not_the_gate(self):
         self.assertEqual(self.gate("--quick"), (0, "quick: 2 passed, 0 failed", ["-m tests.unproved"]))

@@ -7,6 +7,7 @@ import contextlib
 import copy
 import dataclasses
 import gc
+import hashlib
 import io
 import itertools
 import json
@@ -26,7 +27,7 @@ import zlib
 
 import goblin_pe
 from goblin_pe import (AuxiliaryKind, Budget, Cause, CoffRelocation, DataDirectory, DirectoryType, ErrorKind, Image, Import, Kind, Mapping,
-                       Options, OutOfSteps, Pe, PeError, Region, Section, Table, TableState, names_of, printable)
+                       Options, OutOfSteps, Pe, PeError, Region, RichHeader, Section, Table, TableState, names_of, printable)
 from goblin_pe import _library, _records, _rows
 
 HERE = pathlib.Path(__file__).resolve().parent
@@ -129,6 +130,14 @@ def with_libraries(data, names, counts):
     return data + b"".join(struct.pack("<Q", 1 << 63 | 7) * it + bytes(8) for it in counts)
 
 
+def with_rich_header(*words):
+    """The program with a Rich header of these words, and its key."""
+    data, key = bytearray(sample("program_x64.exe")), 0x1234ABCD
+    stored = struct.pack("<%dI" % (4 + len(words)), *(it ^ key for it in (0x536E6144, 0, 0, 0, *words))) + struct.pack("<II", 0x68636952, key)
+    data[64: 64 + len(stored)] = stored
+    return bytes(data), key
+
+
 class Errors(unittest.TestCase):
     FILES = [DATA, FORWARDERS, b"no image"]
 
@@ -184,7 +193,7 @@ class Errors(unittest.TestCase):
             for what in ("dos_header", "coff_header", "optional_header", "directories", "sections"):
                 self.assertEqual(getattr(pe.image, what), getattr(wanted.image, what))
             rva = pe.sections[0].virtual_address
-            self.assertEqual((pe.image.find_offset(rva), pe.image.footprint()), (wanted.image.find_offset(rva), wanted.image.footprint()))
+            self.assertEqual(pe.image.find_offset(rva), wanted.image.find_offset(rva))
 
     def test_of_two_refused_tables_the_first_is_raised(self):
         """The imports, whose directory has an address that no section maps, before the exports."""
@@ -275,7 +284,7 @@ class Buffers(unittest.TestCase):
                            memoryview(b"." + DATA)[1:], io.BytesIO(DATA).getbuffer()):
                 with Pe(buffer) as pe:
                     self.assertEqual(tables_of(pe), tables_of(wanted))
-                    self.assertEqual((pe.image.footprint(), pe.image.data), (wanted.image.footprint(), DATA))
+                    self.assertEqual(pe.image.data, DATA)
         self.assertEqual((pe.imports, pe.sections), (wanted.imports, wanted.sections))
         self.assertEqual([*Image.object(bytearray(OBJECT)).symbols()], [*Image.object(OBJECT).symbols()])
         data = sample("firmware_x64.te")
@@ -294,7 +303,7 @@ class Buffers(unittest.TestCase):
             for buffer, copies in ((data, 0), (memoryview(data), 0), (memoryview(memoryview(data)).cast("H"), 0), (mapped, 0),
                                    (bytearray(data), 1), (memoryview(bytearray(data)).toreadonly(), 1)):
                 # (the mapped file has no bytes but zeros)
-                call = (lambda: self.assertRaises(PeError, Image, buffer)) if buffer is mapped else lambda: Image(buffer).footprint()
+                call = (lambda: self.assertRaises(PeError, Image, buffer)) if buffer is mapped else lambda: Image(buffer).checksum()
                 self.assertLess(most_memory(call), copies * len(data) + (1 << 20))
         data = bytearray(data)
         image = Image(data)
@@ -315,7 +324,7 @@ class Buffers(unittest.TestCase):
 
                 with unittest.mock.patch.object(_library.LIB, "goblin_pe_read_image", changes):
                     image = Image(buffer)
-                self.assertEqual((walks_of(image), image.footprint()), (walks_of(Image(DATA)), Image(DATA).footprint()))
+                self.assertEqual((walks_of(image), image.data), (walks_of(Image(DATA)), DATA))
                 self.assertRaises(PeError, Image, buffer)
 
     def test_views_that_are_released_are_not_those_of_the_image(self):
@@ -329,19 +338,21 @@ class Buffers(unittest.TestCase):
     def test_with_ends_and_what_was_read_stays(self):
         with Image(sample("program_x64.exe")) as whole:
             pass
-        self.assertEqual((whole.dos_stub, whole.rich_header), (Image(sample("program_x64.exe")).dos_stub, None))
-        with Pe(DATA) as pe:
+        self.assertEqual((whole.optional_header, whole.entry), (Image(sample("program_x64.exe")).optional_header, whole.entry))
+        with Pe(with_rich_header(1, 2)[0]) as pe:
             image = pe.image
         image.close()  # (again)
-        for closed in (image.footprint, lambda: image.data, lambda: next(image.exports()), image.patched, image.damage, image.checksum,
+        for closed in (lambda: image.data, lambda: next(image.exports()), image.patched, image.damage, image.checksum,
                        image.overlay, lambda: image.find_offset(0x1020), lambda: image.sections[0].data(image), image.export_directory,
-                       lambda: pickle.dumps(image)):
+                       lambda: pickle.dumps(image), lambda: image.dos_stub, lambda: image.rich_header, lambda: whole.sections):
             self.assertRaisesRegex(ValueError, "the image is closed", closed)
-        wanted = Pe(DATA)
+        wanted = Pe(with_rich_header(1, 2)[0])
         self.assertEqual(tables_of(pe), tables_of(wanted))
-        for what in ("dos_header", "dos_stub", "coff_header", "optional_header", "directories", "rich_header", "sections", "entry"):
+        for what in ("dos_header", "coff_header", "optional_header", "directories", "sections", "entry"):
             self.assertEqual(getattr(image, what), getattr(wanted.image, what))
-        self.assertEqual(repr(image), "<image of 4 sections>")
+        self.assertEqual(repr(image), "<image of %d sections>" % len(pe.sections))
+        with open(PATH, "rb") as file, mmap.mmap(file.fileno(), 0, access=mmap.ACCESS_READ) as mapped, Image(mapped):
+            mapped.close()
 
     def test_walks_that_have_begun_end_alike_after_close(self):
         """With the rows that were read before, and then ValueError; also where the next row is a forwarder."""
@@ -392,6 +403,9 @@ class Buffers(unittest.TestCase):
                 self.assertEqual((again.data, again.te_header, again.find_offset(0x1020)), (image.data, image.te_header, image.find_offset(0x1020)))
                 self.assertEqual((again.refusal, dict(again.header_faults)), (image.refusal, dict(image.header_faults)))
                 self.assertEqual([*again.symbols()], [*image.symbols()])
+        with unittest.mock.patch.object(_records, "INTERFACE", 1):
+            stored = pickle.dumps(image)
+        self.assertRaisesRegex(ValueError, "another interface", pickle.loads, stored)
         pe = Pe(DATA)
         rows = [pe.imports, pe.image.damage(), pe.image.optional_header, pe.relocation_blocks, [*pe.image.libraries()]]
         self.assertEqual(pickle.loads(pickle.dumps(rows)), rows)
@@ -417,11 +431,17 @@ class Memory(unittest.TestCase):
         image = Image(data, PERMISSIVE)
         self.assertLess(most_memory(lambda: (repr(image), image.find_offset(0x1010), image.find_rva(0x210), image.memory_at(0x1010, 4))), 1 << 19)
         self.assertEqual((image.memory_at(0x1010, 4).section, image.memory_at(0x5000, 4).section), (count - 1, None))
+        self.assertLess(most_memory(image.close), 1 << 19)
         short = Image(data, Options(permissive=True, longest_name=64))
         self.assertLess(most_memory(lambda: short.sections), 4 << 20)
         with Image(with_section_names(3, 10), PERMISSIVE) as image:
             again = pickle.loads(pickle.dumps(image))
         self.assertEqual([s.name for s in again.sections], [b"n" * it for it in (10, 8, 6)])
+
+    def test_a_name_of_many_rows_is_one_object(self):
+        """In each batch: that of a DLL, from which 4,000 ordinals are imported."""
+        data = with_libraries(FORWARDERS, [b"x" * 200000], [4000])
+        self.assertLess(most_memory(lambda: Pe(data, dataclasses.replace(IDENTITY, permissive=True))), 20 * 200000 + (1 << 22))
 
     def test_symbols_are_walked_and_looked_up_alone(self):
         """Those of an object of 140 KB, whose names have 180 MB."""
@@ -456,7 +476,7 @@ class Walks(unittest.TestCase):
         first = next(strict.libraries())
         return (strict.imports, permissive.imports, strict.libraries, lambda it=None: first.imports(strict, it), forwarders.exports,
                 forwarders.export_addresses, Image(sample("program_x64.exe")).relocation_blocks, image.symbols, forwarders.symbols,
-                lambda it=None: section.relocations(image, it))
+                lambda it=None: section.relocations(image, it), strict.section_headers, Image(with_rich_header(1, 2, 3, 4)[0]).rich_entries)
 
     def test_a_walk_goes_on_with_more_steps(self):
         for walk in self.walks():
@@ -512,15 +532,42 @@ class Walks(unittest.TestCase):
         budget = Budget(1500)
         self.assertEqual(sum(1 for _ in image.imports(budget)), 1000)
         self.assertLess(budget.left, 500)
-        for call in image.imphash, image.damage, image.footprint, image.fingerprint, lambda it: [*image.imports(it)]:
+        for call in image.imphash, image.damage, lambda it: [*image.imports(it)]:
             self.assertRaises(OutOfSteps, call, budget)
         self.assertRaises(OutOfSteps, Pe, image.data, IDENTITY, Budget(900))
         with unittest.mock.patch("goblin_pe._pe._STEPS", 900):
             self.assertRaises(OutOfSteps, Pe, image.data, IDENTITY)
             permissive = Options(permissive=True, mapping=Mapping.IDENTITY)
             self.assertEqual(len(Pe(image.data, permissive, Budget()).imports), 1000)
-        self.assertEqual((Budget().left, Budget(-3).left, repr(Budget(7)), repr(Budget())), (None, 0, "Budget(7)", "Budget()"))
-        self.assertEqual(sum(1 for _ in image.imports(Budget())), 1000)
+        data, _ = with_rich_header(1, 2, 3, 4)
+        for steps, table in enumerate([Table.HEADER] * (len(Image(data).sections) + 1) + [Table.RICH_HEADER] * 2):  # (the end is a step)
+            with self.assertRaises(OutOfSteps) as caught:
+                Pe(data, Options(), Budget(steps))
+            self.assertEqual(caught.exception.table, table)
+        self.assertEqual((Budget().left, repr(Budget(7)), repr(Budget())), (None, "Budget(7)", "Budget()"))
+        self.assertEqual((pickle.loads(pickle.dumps(budget)).left, copy.copy(Budget(7)).left), (budget.left, 7))
+        self.assertEqual([sum(1 for _ in image.imports(Budget(it))) for it in (None, 2**64 - 1)], [1000] * 2)
+
+    def test_what_is_no_number_of_steps(self):
+        """It never becomes a budget without a limit."""
+        for wrong, error in (-1, ValueError), (1 << 64, ValueError), (1.5, TypeError), ("7", TypeError):
+            self.assertRaises(error, Budget, wrong)
+            budget = Budget(10)
+            self.assertRaises(error, setattr, budget, "left", wrong)
+            self.assertEqual(budget.left, 10)
+
+    def test_threads_share_one_budget(self):
+        image, budget = Image(with_names(3000, 3000), IDENTITY), Budget(5000)
+
+        def names(walk):
+            found = []
+            with contextlib.suppress(OutOfSteps):
+                found.extend(it.name_rva for it in walk)
+            return found
+
+        with concurrent.futures.ThreadPoolExecutor(8) as threads:
+            found = [it.result() for it in [threads.submit(names, image.exports(budget)) for _ in range(8)]]
+        self.assertEqual((sum(map(len, found)), budget.left), (5000, 0))
 
     def test_a_walk_ends_with_the_error_of_a_read(self):
         image = Image(DATA)
@@ -642,19 +689,23 @@ class Headers(unittest.TestCase):
         self.assertEqual(Image(DATA).optional_header.windows_fields._replace(file_alignment=3).file_alignment, 3)
 
     def test_a_rest_of_the_rich_header_is_an_error_after_the_entries(self):
-        data, key = bytearray(sample("program_x64.exe")), 0x1234ABCD
+        data = sample("program_x64.exe")
         self.assertEqual((Image(data).rich_header, Pe(data).rich_entries, Image(data).table_state(Table.RICH_HEADER)), (None, (), TableState.ABSENT))
-        words = [0x536E6144, 0, 0, 0, 261 << 16 | 30159, 7]
         for rest, wanted in (([], []), ([5], [(ErrorKind.TOO_BIG, Table.RICH_HEADER)])):
-            stored = struct.pack("<%dI" % len(words + rest), *(it ^ key for it in words + rest)) + struct.pack("<II", 0x68636952, key)
-            data[64: 64 + len(stored)] = stored
+            data, key = with_rich_header(261 << 16 | 30159, 7, *rest)
             pe = Pe(data)
             self.assertEqual(([(it.build, it.product, it.use_count) for it in pe.rich_entries]), [(30159, 261, 7)])
             self.assertEqual([(it.kind, it.table) for it in pe.errors], wanted)
             rich = pe.image.rich_header
-            pe.image.close()
-            self.assertEqual((pe.image.rich_header, rich.key, rich.stored[:4]), (rich, key, stored[:4]))
+            self.assertEqual((rich.key, rich.stored[:4]), (key, data[64:68]))
             self.assertRegex(rich.hash(), "^[0-9a-f]{32}$")
+
+    def test_the_hash_of_a_large_rich_header_ends_soon(self):
+        """That of 24 MB. Its words and its key are alike, so the bytes that are hashed are zeros."""
+        begun = time.process_time()
+        wanted = hashlib.md5(bytes(24 << 20) + b"\2").hexdigest()
+        self.assertEqual(RichHeader(b"DanS" * (6 << 20) + b"F", int.from_bytes(b"DanS", "little"), 0, 0, 0).hash(), wanted)
+        self.assertLess(time.process_time() - begun, 1)
 
     def test_what_neither_mode_passes_over(self):
         optional = SIGNATURE + 24
@@ -690,8 +741,6 @@ class Headers(unittest.TestCase):
                 if len(faults) < 2 and not missing:
                     self.assertEqual((walks_of(image)[1:], image.imphash()), (walks_of(whole)[1:], whole.imphash()))
                     self.assertEqual(image.find_offset(0x2000), whole.find_offset(0x2000))
-                image.close()
-                self.assertEqual((len(image.sections), *image.header_faults), (4 - missing, *image.header_faults))
 
     def test_a_header_inside_the_dos_header(self):
         data = bytearray(DATA)
@@ -759,6 +808,11 @@ class Places(unittest.TestCase):
                              lambda it: image.memory_at(it, 1), lambda it: image.memory_at(0, it)):
                     self.assertRaises(OverflowError, call, rva)
         self.assertEqual([image.find_offset(it) for it in (2**32 - 1, 2**32, 2**64 - 1)], [2**32 - 1, None, None])
+        self.assertEqual(_rows._import(_records.Import(iat_rva=2**32), _rows.text).iat_rva, 2**32)  # (it does not begin again at 0)
+        for image, rva in (Image(DATA), 2**32 + 0x1020), (image, 2**32 + 0x20), (image, 2**32):
+            self.assertEqual((image.find_offset(rva), image.memory_at(rva, 4)), (None, (b"", 0, 4, None, Region.UNMAPPED)))
+            self.assertRaises(PeError, image.text_at, rva)
+            self.assertRaises(PeError, image.forwarder_at, rva)
 
     def test_a_look_up_in_many_sections_ends_soon(self):
         """In 2.6 MB of section headers: find_rva looks at each twice, for offsets that are near, far and nowhere."""
@@ -776,6 +830,7 @@ class Places(unittest.TestCase):
     def test_the_data_of_sections(self):
         data = sample("align16_x64.dll")
         image = Image(data)
+        self.assertEqual((Image(DATA).overlay(), Image(DATA + b"more").overlay()), (b"", b"more"))
         for s in image.sections:
             found = s.data(image)
             self.assertEqual(found.data, data[s.pointer_to_raw_data:][:s.size_of_raw_data])
@@ -841,8 +896,13 @@ class Places(unittest.TestCase):
         image = Image(FORWARDERS)
         exports, addresses = list(image.exports()), {it.ordinal: it for it in image.export_addresses()}
         self.assertEqual([image.find_export(x.name) for x in exports], exports)
-        self.assertEqual([image.with_options(Options(longest_name=1)).find_export(x.name).rva for x in exports], [x.rva for x in exports])
         self.assertEqual((image.find_export("answer").name, image.find_export("nothing"), image.find_export("")), (b"answer", None, None))
+        # (a name that the options cut is not found, nor is what they leave of it)
+        short = image.with_options(Options(longest_name=4))
+        self.assertEqual([short.find_export(it) for it in (b"answer", b"answe", b"fwd")], [None, None, [*short.exports()][2]])
+        for wrong in 1, None, ["answer"]:
+            for call in image.find_export, image.section_by_name:
+                self.assertRaises(TypeError, call, wrong)
         self.assertEqual(min(addresses), image.export_directory().ordinal_base)
         for ordinal, it in addresses.items():
             self.assertEqual(image.find_export_by_ordinal(ordinal), it if it.rva else None)
@@ -854,18 +914,15 @@ class Places(unittest.TestCase):
         without = Image(with_directory(FORWARDERS, DirectoryType.EXPORT_TABLE, 0, 0))
         self.assertEqual([without.find_export_by_ordinal(1), without.find_export("answer")], [None] * 2)
 
-    def test_a_file_depends_on_its_footprint_alone(self):
-        image = Image(DATA, PERMISSIVE)
-        other = bytearray(~it & 0xFF for it in DATA)
-        for it in image.footprint():
-            other[it.start: it.stop] = DATA[it.start: it.stop]
-        again = Image(other, PERMISSIVE)
-        self.assertEqual((walks_of(again), again.coff_header), (walks_of(image), image.coff_header))
-        self.assertNotEqual(other, DATA)
-        self.assertEqual((again.fingerprint(), again.imphash()), (image.fingerprint(), image.imphash()))
-        self.assertNotEqual(Image(DATA + b"\0", PERMISSIVE).fingerprint(), image.fingerprint())
-        self.assertRegex(image.fingerprint(Budget(1000)), "^[0-9a-f]{64}$")
-        self.assertEqual((image.overlay(), Image(DATA + b"more").overlay()), (b"", b"more"))
+    def test_an_export_whose_forwarder_can_not_be_read_is_passed_over(self):
+        """A walk gives no such export, so none is found. Another one of the same name is."""
+        image, broken = Image(FORWARDERS), FORWARDERS.replace(b"WS2_32.#3", b"WS2_32_#3")
+        _, first, second = image.exports()
+        names = image.find_offset(image.export_directory().name_pointer_rva)
+        both = with_words(broken, (names + 4 * second.hint, first.name_rva))
+        for options in Options(), PERMISSIVE:
+            self.assertIsNone(Image(broken, options).find_export(first.name))
+            self.assertEqual(Image(both, options).find_export(first.name), second._replace(name=first.name, name_rva=first.name_rva))
 
     def test_the_relocations_of_a_block(self):
         data = sample("program_x64.exe")
@@ -874,7 +931,7 @@ class Places(unittest.TestCase):
         words = struct.unpack("<%dH" % (len(block.entries) // 2), block.entries)
         self.assertEqual([*block.relocations()], [(block.rva + (it & 0xFFF), it >> 12) for it in words])
         cut = block._replace(rva=0xFFFFFFFF, entries=b"\x01\xa0\0")
-        self.assertEqual([*cut.relocations()], [(0, 10)])
+        self.assertEqual([*cut.relocations()], [(2**32, 10)])
         self.assertEqual(sorted([block, cut, block._replace(entries=b"")]), [block._replace(entries=b""), block, cut])
 
 
@@ -906,8 +963,13 @@ class Objects(unittest.TestCase):
         self.assertEqual(([*Image(DATA).symbols()], Image(DATA).symbol_at(0), Image(DATA).string_at(4)), ([], None, None))
 
     def test_a_symbol_has_auxiliary_records_of_its_kind_alone(self):
-        record = struct.pack("<IIIIH", 1, 2, 3, 4, 0)
+        record = struct.pack("<IHHIHBBH", 1, 2, 3, 4, 5, 6, 0, 0)
         kinds = AuxiliaryKind
+        fields = {
+            kinds.FUNCTION_DEFINITION: {"tag_index": 1, "total_size": 0x30002, "pointer_to_line_number": 4, "pointer_to_next_function": 0x60005},
+            kinds.BEGIN_AND_END_FUNCTION: {"line_number": 2, "pointer_to_next_function": 0x60005},
+            kinds.WEAK_EXTERNAL: {"tag_index": 1, "characteristics": 0x30002}, kinds.FILE: {"file": b"\1"},
+            kinds.SECTION_DEFINITION: {"length": 1, "number_of_relocations": 2, "number_of_line_numbers": 3, "checksum": 4, "number": 5, "selection": 6}}
         # (the storage class, the type, the section and the value)
         for row, wanted in (((2, 0x20, 1, 0x10), kinds.FUNCTION_DEFINITION), ((2, 0, 1, 0x10), None), ((101, 0, 1, 5), kinds.BEGIN_AND_END_FUNCTION),
                             ((105, 0, 0, 0), kinds.WEAK_EXTERNAL), ((2, 0, 0, 0), kinds.WEAK_EXTERNAL), ((2, 0, 0, 8), None),
@@ -918,8 +980,7 @@ class Objects(unittest.TestCase):
                 header = struct.pack("<HHIIIHH", 0x8664, 0, 0, 20, 2, 0, 0)
                 symbol, = Image.object(header + records + struct.pack("<I", 4)).symbols()
                 found = symbol.auxiliary()
-                self.assertEqual(found and found.kind, wanted)
-                self.assertEqual(found and wanted is kinds.FILE, found and found.file is not None)
+                self.assertEqual(found and {name: it for name, it in found._asdict().items() if it}, wanted and {"kind": wanted, **fields[wanted]})
                 self.assertIsNone(symbol._replace(aux_bytes=b"").auxiliary())
 
     def test_more_relocations_than_a_counter_says(self):
@@ -1001,6 +1062,14 @@ class Patched(unittest.TestCase):
         bare = Image(DATA[:SIGNATURE + 20] + bytes(2) + DATA[SIGNATURE + 22:])
         self.assertRaises(PeError, bare.patched, optional_header=image.optional_header)
         self.assertRaises(PeError, bare.patched, checksum=True)
+
+    def test_a_class_of_a_user_is_patched(self):
+        class Named(Image):
+            def __init__(self, name, data):
+                super().__init__(data)
+                self.name = name
+
+        self.assertEqual(Named("a", DATA).patched(checksum=True), Image(DATA).patched(checksum=True))
 
     def with_small_header(self, size, directories=16):
         """The sample whose section table begins so many bytes after its optional header, with so many directories."""
@@ -1145,6 +1214,8 @@ class Names(unittest.TestCase):
         self.assertEqual(Image(DATA).imphash(Budget(100)), "27abfd9cfda7519d5efb3f08a2a4f3ce")
         # (pefile has an empty text if there are no imports; None is that the options cut a name)
         self.assertEqual((Image(FORWARDERS).imphash(), Image(DATA, Options(longest_name=4)).imphash()), ("", None))
+        one = with_libraries(FORWARDERS, [b"x"], [1])  # (ord7 is no name of the file)
+        self.assertEqual(Image(one, dataclasses.replace(IDENTITY, longest_name=1)).imphash(), hashlib.md5(b"x.ord7").hexdigest())
         self.assertRaises(OutOfSteps, Image(DATA).imphash, Budget(2))
         for dll, ordinal, wanted in [
             (b"KERNEL32.dll", 901, "149d2e96f294661822cac53bee31923e"),
@@ -1191,12 +1262,13 @@ class Names(unittest.TestCase):
 
     def test_help_names_what_is_for_users(self):
         text = pydoc.plain(pydoc.render_doc(goblin_pe))
-        for name in ("class Image", "class Pe", "class Budget", "class PeError", "class Options", "footprint(", "imports(", "symbols(", "patched("):
+        for name in ("class Image", "class Pe", "class Budget", "class PeError", "class Options", "damage(", "imports(", "symbols(", "patched("):
             self.assertIn(name, text)
         self.assertNotIn("ctypes", text)
         self.assertNotIn("ForwardRef", text)
         self.assertIn("dos_stub: 'PeError | None'", pydoc.plain(pydoc.render_doc(goblin_pe.Damage)))
-        for it in ErrorKind, Mapping, Region, Table, TableState, Options, Budget, PeError, Pe, goblin_pe.Damage:
+        self.assertRegex(Budget.__doc__, r"\bleft\b")
+        for it in ErrorKind, Mapping, Region, Table, TableState, Options, PeError, Pe, goblin_pe.Damage:
             for name in getattr(it, "__members__", None) or it.__annotations__:
                 self.assertRegex(it.__doc__, r"\b%s\b" % name)
 

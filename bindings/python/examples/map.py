@@ -1,23 +1,19 @@
 """Draws an image as a picture, and writes it as SVG: map.py FILE. A band shows the bytes of the file from front to end: headers,
-sections, tables and the overlay. A strip shows the bytes on which the answers of the library depend. A band below shows the memory
-that a loader makes of the file. Sizes are to scale, but each part has a least width. Only the first sections are drawn."""
+sections, tables and the overlay. A band below shows the memory that a loader makes of the file. Sizes are to scale, but each part has
+a least width. Only the first sections are drawn."""
 import bisect
 import html
 import itertools
-import multiprocessing
-import multiprocessing.connection
 import os
-import signal
 import struct
 import sys
-from typing import Callable, Dict, Iterator, List, NamedTuple, Optional, Tuple, Union
+from typing import Callable, Dict, Iterator, List, NamedTuple, Tuple, Union
 
 from goblin_pe import DirectoryType, Image, Kind, Options, PeError, Section, constants, printable
 
 OPTIONS = Options(permissive=True, longest_name=64)
-# How many sections are drawn, from how many on the others are not even read, how long a name may be, and how many seconds the
-# footprint may take.
-SECTIONS, MANY, LONGEST, SECONDS = 24, 2_000, 14, 0.15
+# How many sections are drawn, from how many on the others are not even read, and how long a name may be.
+SECTIONS, MANY, LONGEST = 24, 2_000, 14
 # The width of a band, where it begins, the least width of a part, the height of a row, and the width of a letter.
 WIDTH, LEFT, LEAST, HEIGHT, LETTER = 1100, 80, 14, 92, 6.6
 MIDDLE = ' text-anchor="middle"'
@@ -95,32 +91,6 @@ def parts_of_memory(image: Image, sections: List[Section]) -> Iterator[Part]:
         for size, what in ((len(data.data), kind_of(s)), (data.zeros, "zeros"), (data.missing, "missing bytes")):
             yield Part(at, at + size, name, what)
             at += size
-
-
-def send_footprint(path: str, to: multiprocessing.connection.Connection) -> None:
-    """Sends the footprint of a file, if it is made in time."""
-    signal.setitimer(signal.ITIMER_PROF, SECONDS)  # (then this process ends)
-    try:
-        with Image.open(path, OPTIONS) as image:
-            to.send(image.footprint())
-    except (OSError, PeError, MemoryError):
-        pass
-
-
-def footprint(path: str) -> Optional[List[range]]:
-    """The footprint of a file; None if the file is refused, or if it needs too much time. No budget limits that time, so a process of
-    its own computes the footprint."""
-    come, go = multiprocessing.Pipe(duplex=False)
-    process = multiprocessing.get_context("fork").Process(target=send_footprint, args=(path, go))
-    process.start()
-    go.close()
-    try:
-        found: List[range] = come.recv()
-        return found
-    except EOFError:
-        return None
-    finally:
-        process.join()
 
 
 def cut(parts: Iterator[Part], end: int) -> List[Part]:
@@ -209,23 +179,9 @@ def ruler(scale: Scale, y: float) -> Iterator[str]:
             last = x
 
 
-def needed(ranges: Optional[List[range]], scale: Scale, y: float) -> Iterator[str]:
-    """The bytes on which the answers depend."""
-    if ranges is None:
-        yield text(LEFT, y + 12, "not drawn, because it needs too much time, or because the file is refused")
-    begin = end = -1.0
-    for it in itertools.chain(ranges or (), [None]):
-        one, two = (scale(it.start), scale(it.stop)) if it else (1e9, 1e9)
-        if one - end > 0.5:
-            if end > 0:
-                yield '<rect x="%.1f" y="%.1f" width="%.1f" height="16" fill="#333"/>' % (begin, y, max(end - begin, 1))
-            begin = one
-        end = two
-
-
 def legend(y: float) -> Iterator[str]:
     """What each kind of part looks like."""
-    others = ("bytes that the answers depend on", "#333"), ("a gap that is drawn shorter", "none"), ("entry point", "")
+    others = ("a gap that is drawn shorter", "none"), ("entry point", "")
     for index, (what, fill) in enumerate([*FILLS.items(), *others]):
         x, row = LEFT + 240 * (index % 5), y + 22 * (index // 5)
         sign = '<rect x="%.1f" y="%.1f" width="24" height="14" fill="%s"/>' % (x, row, fill)
@@ -234,16 +190,14 @@ def legend(y: float) -> Iterator[str]:
             yield text(x + 12, row + 9, "...", MIDDLE)
 
 
-def picture(image: Image, name: str, count: int, ranges: Optional[List[range]]) -> Iterator[str]:
+def picture(image: Image, name: str, count: int) -> Iterator[str]:
     """The lines of the SVG. The header counts `count` sections."""
     sections, length = list(image.sections[:SECTIONS]), len(image.data)
     parts, tables = cut(parts_of_file(image, sections, count), length), cut(tables_of(image), length)
     memory = cut(parts_of_memory(image, sections), 1 << 33)
     in_file = Scale([*parts, *tables], max(length, 1), False)
     in_memory = Scale(memory, max((it.end for it in memory), default=1), True)
-    lines = [text(LEFT - 8, 62, "needed", ' text-anchor="end"'), *needed(ranges, in_file, 50)]
-    drawing, y = band("tables", tables, in_file, 74)
-    lines += drawing
+    lines, y = band("tables", tables, in_file, 50)
     drawing, y = band("file", parts, in_file, y + 8)
     lines += [*drawing, *ruler(in_file, y)]
     below, top = y + 20, y + 90
@@ -262,9 +216,8 @@ def picture(image: Image, name: str, count: int, ranges: Optional[List[range]]) 
     yield '<svg xmlns="http://www.w3.org/2000/svg" role="img" aria-labelledby="title desc" viewBox="0 0 %d %d" width="%d" height="%d">' % (
         WIDTH + LEFT + 60, height, WIDTH + LEFT + 60, height)
     yield '<title id="title">%s</title>' % html.escape(title)
-    yield '<desc id="desc">In the file: %s. In memory: %s. The answers depend on %s bytes.</desc>' % (
-        html.escape("; ".join(map(in_words, [*parts, *tables]))), html.escape("; ".join(map(in_words, memory))),
-        "unknown" if ranges is None else sum(map(len, ranges)))
+    yield '<desc id="desc">In the file: %s. In memory: %s.</desc>' % (
+        html.escape("; ".join(map(in_words, [*parts, *tables]))), html.escape("; ".join(map(in_words, memory))))
     yield ('<style>text{font:11px sans-serif;fill:#000}.small{font-size:9px}.clear{stroke:#fff;stroke-width:4;paint-order:stroke}'
            'rect,path{stroke:#444;stroke-width:.6}.way{fill:#e8e8e8;stroke:#fff;stroke-width:1.5}</style><defs>')
     for pattern, path in PATTERNS:
@@ -289,7 +242,7 @@ def main(path: str) -> None:
             data = bytearray(data)
             struct.pack_into("<H", data, image.dos_header.pe_pointer + 6, SECTIONS)
             image = Image.partial(data, OPTIONS)
-        print("\n".join(picture(image, printable(os.fsencode(os.path.basename(path))), count, footprint(path))))
+        print("\n".join(picture(image, printable(os.fsencode(os.path.basename(path))), count)))
     except (OSError, MemoryError, PeError) as error:
         raise SystemExit("%s: %s" % (path, error)) from None
 

@@ -10,12 +10,14 @@ from typing import Any, Dict, List, Tuple
 from . import Budget, Image, Kind, Mapping, Options, Pe, PeError, Table, TableState, jsonable, printable
 
 # What is written about each file before its tables.
-HEADERS = ("refusal", "header_faults", "dos_header", "coff_header", "optional_header", "directories", "te_header", "rich_header", "sections")
+HEADERS = ("refusal", "header_faults", "dos_header", "coff_header", "optional_header", "directories", "te_header", "rich_header")
+# How many libraries are written at most: each can take long.
+LIBRARIES = 500
 MAPPINGS = {it.name.lower().replace("_", "-"): it for it in Mapping}
 
 
 def heading(image: Image, table: Table, count: int) -> str:
-    """The line above the rows of a table: whether the image has it, and how many rows. Permissive mode reads refused imports, too."""
+    """The line above the rows of a table: whether the image has it, and how many rows. Of refused imports, pe_list says that there are 0."""
     state = image.table_state(table)
     if state is TableState.REFUSED and table is Table.IMPORTS:
         state = TableState.PRESENT
@@ -56,7 +58,7 @@ def object_lines(image: Image, budget: Budget) -> Iterator[str]:
     for it in image.symbols(budget):
         yield "symbol %d value=%d section=%d class=%d aux=%d name=%s" % (
             it.index, it.value, it.section_number, it.storage_class, it.number_of_aux_symbols, printable(it.name or b""))
-    for s in image.sections:
+    for s in image.section_headers(budget):
         if s.number_of_relocations:
             yield "relocations %s %d" % (printable(s.name), s.number_of_relocations)
 
@@ -86,13 +88,15 @@ def lines_of(data: bytes, asked: argparse.Namespace) -> Iterator[str]:
 
 def tables(image: Image, budget: Budget) -> Iterator[Tuple[str, Iterable[Any]]]:
     """The tables of a file, with a walk over each."""
+    yield "sections", image.section_headers(budget)
     if image.kind is Kind.IMAGE:
-        yield "rich_entries", image.rich_entries()
-        for name in ("imports", "exports", "export_addresses", "relocation_blocks"):
+        yield "libraries", image.libraries(Budget(min(budget.left or 0, LIBRARIES)))
+        yield "export_directory", filter(None, map(Image.export_directory, [image]))
+        for name in ("rich_entries", "imports", "exports", "export_addresses", "relocation_blocks"):
             yield name, getattr(image, name)(budget)
-        yield "damage", (image.damage(budget) for _ in range(1))
+        yield "damage", map(image.damage, [budget])
     yield "symbols", image.symbols(budget)
-    yield "relocations", (it for s in image.sections for it in s.relocations(image, budget))
+    yield "relocations", ({"section": s.index, **it._asdict()} for s in image.section_headers(budget) for it in s.relocations(image, budget))
 
 
 def opened(path: str, options: Options) -> Image:
@@ -110,7 +114,7 @@ def write_json(path: str, asked: argparse.Namespace) -> int:
     early: Dict[str, str] = {}
     try:
         image = opened(path, asked.options)
-        found.update(kind=image.kind, **{name: getattr(image, name) for name in HEADERS})
+        found.update(kind=Kind.of(image.data), **{name: getattr(image, name) for name in HEADERS})
     except (OSError, PeError, MemoryError) as error:
         write(json.dumps({"file": path, "refusal": {"text": str(error) or "out of memory"}}) + "\n")
         return 1
@@ -147,6 +151,7 @@ def asked_of(words: List[str]) -> argparse.Namespace:
     parser.add_argument("files", metavar="FILE", nargs="+")
     asked = parser.parse_args(words)
     try:
+        Budget(asked.steps)
         asked.options = Options(permissive=asked.permissive, mapping=MAPPINGS[asked.mapping], longest_name=asked.longest_name)
     except ValueError as error:
         parser.error(str(error))

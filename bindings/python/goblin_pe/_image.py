@@ -17,7 +17,7 @@ from ._headers import CoffHeader, DataDirectory, DirectoryType, DosHeader, Optio
 from ._imphash import line as imphash_line
 from ._library import LIB, Data, held, kept
 from ._number import Number
-from ._options import Budget, Options
+from ._options import Budget, Options, lent
 from ._patch import STUB as _STUB, Headers, patched, written as _written
 from ._rows import (
     BLOCKS, EXPORT_ADDRESSES, EXPORTS, IMPORTS, LIBRARIES, RICH_ENTRIES, SECTIONS, SYMBOLS, BaseRelocation, Damage, Export,
@@ -53,8 +53,7 @@ class TableState(enum.Enum):
 
     ABSENT: the image has no such table.
     PRESENT: a walk gives its rows as far as they can be read.
-    REFUSED: strict mode refuses it as a whole. In permissive mode, a walk over imports gives those
-        that can be read, and a walk over another table gives none.
+    REFUSED: strict mode refuses it as a whole. In permissive mode, a walk gives no row.
     """
 
     ABSENT = "absent"
@@ -67,8 +66,9 @@ class Image:
 
     Properties say what is in the header. Methods read the tables; they may raise PeError, and some
     need a Budget. The image keeps the bytes until close(), or until the end of a `with`. After that,
-    methods and `data` raise ValueError; the other properties stay, and so do all rows. An image can
-    be pickled, with its bytes."""
+    methods, `data`, `dos_stub` and `rich_header` raise ValueError, and so does `sections` if you did
+    not ask for it before. The other properties stay, and so do all rows. An image can be pickled,
+    with its bytes."""
 
     def __init__(self, data: Data, options: Options = Options()) -> None:
         """Reads the header and the section table of an image. PeError is raised if they can't be
@@ -120,10 +120,7 @@ class Image:
         return image
 
     def close(self) -> None:
-        """Releases the bytes. Properties and rows stay."""
-        if self._data is not None:
-            self._stay = {"dos_stub": self.dos_stub, "rich_header": self.rich_header}
-            self._sections = self.sections
+        """Releases the bytes. Rows stay, and what was read of the header."""
         self._data = None
 
     def __enter__(self) -> Image:
@@ -139,7 +136,7 @@ class Image:
 
     def __reduce__(self) -> tuple[Any, ...]:
         state = {**self.__dict__, "_data": bytes(self.data), "_record": bytes(self._record), "_faults": dict(self._faults), "_sections": None}
-        return _restored, (type(self), state)
+        return _restored, (type(self), state, _records.INTERFACE)
 
     def __repr__(self) -> str:
         return "<%s of %d sections>" % (self.kind.name.lower(), self._record.section_count)
@@ -153,8 +150,6 @@ class Image:
     _faults: _Mapping[str, PeError] = types.MappingProxyType({})
     _refusal: PeError | None = None
     _sections: tuple[Section, ...] | None = None
-    # What stays when the bytes are gone.
-    _stay: _Mapping[str, Any] = types.MappingProxyType({})
 
     @classmethod
     def _made(cls, data: Data, options: Options, call: Any, *also: Any) -> Image:
@@ -263,13 +258,13 @@ class Image:
 
     @property
     def entry(self) -> int:
-        """The rva of the entry point; 0 if there is none."""
+        """The rva of the entry point; 0 if there is no optional header, as in a Terse Executable."""
         entry: int = self._record.optional_header.standard_fields.address_of_entry_point
         return entry
 
     @property
     def image_base(self) -> int:
-        """The preferred address in memory; 0 if there is no optional header."""
+        """The preferred address in memory; 0 if there is no optional header, as in a Terse Executable."""
         base: int = self._record.optional_header.windows_fields.image_base
         return base
 
@@ -282,8 +277,6 @@ class Image:
     @property
     def dos_stub(self) -> bytes:
         """The bytes between the DOS header and the PE signature."""
-        if "dos_stub" in self._stay:
-            return self._stay["dos_stub"]  # type: ignore[no-any-return]
         size = self._record.dos_stub_size
         if self._record.is_dos_stub_replaced:
             return _written(self._record)[_STUB: _STUB + size]
@@ -292,8 +285,6 @@ class Image:
     @property
     def rich_header(self) -> RichHeader | None:
         """The Rich header; None if there is none."""
-        if "rich_header" in self._stay:
-            return self._stay["rich_header"]  # type: ignore[no-any-return]
         it = self._record.rich_header
         if not it.is_present:
             return None
@@ -327,15 +318,20 @@ class Image:
 
     @property
     def sections(self) -> tuple[Section, ...]:
-        """The section headers. They are read at the first use, and kept."""
+        """The section headers. They are read at the first use, and kept. A small file can have 65,535 of
+        them with long names: `longest_name` and section_headers(budget) limit that."""
         if self._sections is None:
-            self._sections = tuple(Walk(self, SECTIONS))
+            self._sections = tuple(self.section_headers())
         return self._sections
 
     # Walks.
-    def rich_entries(self) -> Walk[RichEntry]:
+    def section_headers(self, budget: Budget | None = None) -> Walk[Section]:
+        """The section headers, one after the other. None is kept."""
+        return Walk(self, SECTIONS, None, budget)
+
+    def rich_entries(self, budget: Budget | None = None) -> Walk[RichEntry]:
         """The entries of the Rich header."""
-        return Walk(self, RICH_ENTRIES)
+        return Walk(self, RICH_ENTRIES, None, budget)
 
     def imports(self, budget: Budget | None = None) -> Walk[Import]:
         """The imports, in the order of the import directory. `damage` counts the entries that lead to
@@ -389,7 +385,7 @@ class Image:
     # Look-ups.
     def section_by_name(self, name: bytes | str) -> Section | None:
         """The first section of this name; None if there is none, or if the options cut the name."""
-        wanted, longest = name.encode() if isinstance(name, str) else name, self.options.longest_name
+        wanted, longest = _bytes_of(name), self.options.longest_name
         if longest is None or len(wanted) <= longest:
             return next((it for it in self.sections if it.name == wanted), None)
         # (a name that is longer than this limit is cut to a longer text than the wanted one)
@@ -412,14 +408,12 @@ class Image:
             return export_directory(found)
 
     def find_export(self, name: bytes | str, budget: Budget | None = None) -> Export | None:
-        """The first export of this name; None if there is none."""
-        wanted = name.encode() if isinstance(name, str) else bytes(name)
-        # (a name that is longer than the wanted one need not be read whole)
-        image = self.with_options(dataclasses.replace(self.options, longest_name=max(len(wanted), 1)))
-        found = next((it for it in image.exports(budget) if it.name == wanted), None)
-        if found is None or found.forwarder is None:
-            return found
-        return found._replace(forwarder=self.forwarder_at(found.rva))
+        """The first export of this name that `exports` gives; None if there is none, or if the options
+        cut the name."""
+        wanted, longest = _bytes_of(name), self.options.longest_name
+        if longest is not None and len(wanted) > longest:
+            return None
+        return next((it for it in self.exports(budget) if it.name == wanted), None)
 
     def find_export_by_ordinal(self, ordinal: int) -> ExportAddress | None:
         """The export of this ordinal, whether or not it has a name; None if there is none."""
@@ -481,18 +475,15 @@ class Image:
         """What strict mode refuses, and what the walks skip. The answer is the same in both modes.
         OutOfSteps is raised if the budget is too small for the whole image, and then nothing is
         known about its damage."""
-        left = None if budget is None else budget.left
-        steps, found = c.c_size_t(left or 0), _records.Damage()
-        with self._held() as image:
-            test(LIB.goblin_pe_read_damage(image, c.byref(found), None if left is None else c.byref(steps)), None)
-        if budget is not None and left is not None:
-            budget.left = steps.value
+        found = _records.Damage()
+        with lent(budget) as steps, self._held() as image:
+            test(LIB.goblin_pe_read_damage(image, c.byref(found), steps), None)
         return damage(found)
 
     def imphash(self, budget: Budget | None = None) -> str | None:
         """The hash of the imports that analysts compare, in hexadecimal, as pefile's get_imphash. It
-        is "" if no import counts. It is None if `longest_name` cuts a name, because the hash of a
-        name that is cut would be another hash."""
+        is "" if no import counts. It is None if `longest_name` cuts the name of a DLL or of an import,
+        as it is in the file, because the hash of a name that is cut would be another hash."""
         digest, separator, longest = hashlib.md5(usedforsecurity=False), b"", self.options.longest_name
         for it in self.imports(budget):
             if longest and (len(it.dll) > longest or len(it.name or b"") > longest):
@@ -502,35 +493,6 @@ class Image:
                 digest.update(separator + line)
                 separator = b","
         return digest.hexdigest() if separator else ""
-
-    def footprint(self, budget: Budget | None = None) -> list[range]:
-        """The file offsets of the bytes on which these answers depend: the headers, the section
-        headers, and the rows of imports, exports and base relocations, with the options of the
-        image. Another file of the same length that has the same bytes there gives the same answers.
-        It may differ in everything else: symbols, the data of sections, what is at addresses, the
-        overlay, the checksum, and the damage.
-
-        The budget does not limit the time, because names are read whole: with long names that
-        overlap, a file of a megabyte takes half a minute."""
-        if budget is not None and budget.left is not None:
-            self.damage(budget)  # (the library looks at the whole image, so the budget has to be enough for that)
-        found = _records.Footprint()
-        with self._held() as image:
-            test(LIB.goblin_pe_read_footprint(image, c.byref(found)), None)
-        try:
-            return [range(it.offset, it.offset + it.length) for it in found.ranges[: found.count]]
-        finally:
-            LIB.goblin_pe_free_footprint(c.byref(found))
-
-    def fingerprint(self, budget: Budget | None = None) -> str:
-        """A key for a cache: the SHA-256 of the file's length and its footprint. The options are no
-        part of it, so keep them beside the key. `footprint` says which answers are the same for files
-        with the same key, and how long it takes."""
-        digest = hashlib.sha256(b"%d" % len(self.data))
-        for it in self.footprint(budget):
-            digest.update(b" %d %d " % (it.start, it.stop))
-            digest.update(self.data[it.start: it.stop])
-        return digest.hexdigest()
 
     def overlay(self) -> memoryview:
         """The bytes after the raw data of all sections; empty if there are none. They begin at file
@@ -570,8 +532,14 @@ def _tested(options: Options) -> Options:
     return options
 
 
-def _restored(cls: type[Image], state: dict[str, Any]) -> Image:
+def _bytes_of(name: bytes | str) -> bytes:
+    return name.encode() if isinstance(name, str) else bytes(memoryview(name))
+
+
+def _restored(cls: type[Image], state: dict[str, Any], interface: int) -> Image:
     # an image that was pickled
+    if interface != _records.INTERFACE:
+        raise ValueError("the image was pickled by a package with another interface")
     image = cls.__new__(cls)
     image.__dict__.update(state)
     image._record = _records.Image.from_buffer_copy(state["_record"])

@@ -1,4 +1,5 @@
 """The names of numbers and flags in headers, symbols and relocations."""
+import functools
 from typing import Dict, List, Literal, Tuple
 
 from . import constants
@@ -16,6 +17,7 @@ _RELOCATIONS = {constants.COFF_MACHINE_X86: "I386", constants.COFF_MACHINE_X86_6
 Kind = Literal["machine", "subsystem", "file", "dll", "section", "storage_class", "comdat", "weak_external", "base_relocation"]
 
 
+@functools.lru_cache(None)
 def _constants(beginning: str) -> Dict[str, int]:
     # those whose names begin so, without masks
     return {name: number for name, number in vars(constants).items() if name.startswith(beginning) and not name.endswith("_MASK")}

@@ -1,8 +1,13 @@
 """How a file is read, and how much work may be done for it."""
 from __future__ import annotations
 
+import contextlib
+import ctypes as c
 import dataclasses
 import operator
+import threading
+from collections.abc import Iterator
+from typing import Any
 
 from . import _records
 from ._number import Number
@@ -59,19 +64,43 @@ class Budget:
     """How many steps calls may still take. A step is one look at an entry of an import or export
     table, or one row of another walk. A call that needs more steps raises OutOfSteps. If the options
     limit names, 100,000 steps take 10 to 200 milliseconds in the library, depending on the length of
-    the names. Image.libraries and Image.footprint can take longer.
+    the names. Image.libraries can take longer.
 
     Walks read their rows in batches. So the budget may already have paid for rows that you do not
-    have yet.
+    have yet. Threads can share a budget; their calls then wait for one another.
 
     left: how many steps are left; None if there is no limit. If you set it after OutOfSteps, the walk
-        can go on.
+        can go on. ValueError is raised if it is not from 0 to 2**64 - 1, and TypeError if it is no int.
     """
 
-    left: int | None
-
     def __init__(self, steps: int | None = None) -> None:
-        self.left = steps if steps is None else max(operator.index(steps), 0)
+        self._turn = threading.RLock()
+        self.left = steps
+
+    @property
+    def left(self) -> int | None:
+        return self._left
+
+    @left.setter
+    def left(self, steps: int | None) -> None:
+        if steps is not None and not 0 <= operator.index(steps) < 1 << 64:
+            raise ValueError("a budget has from 0 to 2**64 - 1 steps, not %r" % (steps,))
+        self._left = None if steps is None else operator.index(steps)
+
+    def __reduce__(self) -> tuple[Any, ...]:
+        return type(self), (self.left,)
 
     def __repr__(self) -> str:
         return "Budget(%s)" % ("" if self.left is None else self.left)
+
+
+@contextlib.contextmanager
+def lent(budget: Budget | None) -> Iterator[Any]:
+    """The steps of a budget, for a call that counts them down; None if there is no limit."""
+    if budget is None or budget.left is None:
+        yield None
+    else:
+        with budget._turn:
+            steps = c.c_size_t(budget.left)
+            yield steps
+            budget.left = steps.value

@@ -40,8 +40,9 @@ def jsonable(value: Any) -> Any:
 
 class Pe:
     """An image and the rows of all its tables, as tuples: what the walks of an Image give. It reads
-    everything at once, so a budget also limits the memory that it needs. Without a budget, the limit
-    is ten million steps; with Budget() there is none. The tuples stay when the file is closed.
+    everything at once. A budget limits how many rows that are, and `longest_name` how long their
+    names are. Without a budget, the limit is ten million steps; with Budget() there is none. The
+    tuples stay when the file is closed.
 
     image: the image itself, with the headers and the look-ups.
     sections, rich_entries, imports, exports, export_addresses, relocation_blocks: the rows.
@@ -97,8 +98,10 @@ class Pe:
             return tuple(found)
 
         budget = Budget(_STEPS) if budget is None else budget
+        if image._sections is None:
+            image._sections = tuple(image.section_headers(budget))
         self.image, self.sections = image, image.sections
-        self.rich_entries = listed(image.rich_entries(), True)
+        self.rich_entries = listed(image.rich_entries(budget), True)
         self.imports = listed(image.imports(budget))
         self.export_directory = next(iter(listed(image.export_directory() for _ in range(1))), None)
         self.exports = listed(image.exports(budget))

@@ -11,7 +11,7 @@ from . import _records
 from ._errors import PeError, Table, error_of, test
 from ._library import LIB
 from ._number import Number
-from ._walk import Kind, Walk
+from ._walk import Kind, Texts, Walk
 from .constants import IMAGE_SCN_LNK_NRELOC_OVFL, SIZEOF_SECTION_TABLE
 
 if TYPE_CHECKING:
@@ -128,9 +128,10 @@ class RichHeader(NamedTuple):
 
     def hash(self) -> str:
         """The MD5 that analysts compare, in hexadecimal, as pefile's get_rich_header_hash."""
-        key = self.key.to_bytes(4, "little")
-        cleared = bytes(byte ^ key[i % 4] for i, byte in enumerate(self.stored))
-        return hashlib.md5(cleared, usedforsecurity=False).hexdigest()
+        size = len(self.stored)
+        keys = self.key.to_bytes(4, "little") * (size // 4 + 1)
+        cleared = int.from_bytes(self.stored, "little") ^ int.from_bytes(keys[:size], "little")
+        return hashlib.md5(cleared.to_bytes(size, "little"), usedforsecurity=False).hexdigest()
 
 
 class RichEntry(NamedTuple):
@@ -144,9 +145,9 @@ class RichEntry(NamedTuple):
 @_sorted_with_none
 class Import(NamedTuple):
     """An import. An import by name has a `name` and a `hint`; an import by ordinal has an `ordinal`.
-    The other fields are None. The loader puts the address of the function at `iat_rva`. `library` is
-    the index of the import descriptor, and `thunk_index` that of the entry in its lookup table. In
-    permissive mode `dll` is empty if it can't be read."""
+    The other fields are None. The loader puts the address of the function at `iat_rva`, which may
+    pass 2**32. `library` is the index of the import descriptor, and `thunk_index` that of the entry in
+    its lookup table. In permissive mode `dll` is empty if it can't be read."""
 
     dll: bytes
     name: bytes | None
@@ -238,7 +239,7 @@ class ExportDirectory(NamedTuple):
 
 class BaseRelocation(NamedTuple):
     """An address that the loader changes if it puts the image elsewhere than at its base. `typ` is an
-    IMAGE_REL_BASED_*: `names_of(typ, "base_relocation")` has its name."""
+    IMAGE_REL_BASED_*: `names_of(typ, "base_relocation")` has its name. The address may pass 2**32."""
 
     rva: int
     typ: int
@@ -254,7 +255,7 @@ class RelocationBlock(NamedTuple):
     def relocations(self) -> Iterator[BaseRelocation]:
         """The base relocations of the block."""
         for (word,) in struct.iter_unpack("<H", self.entries[: len(self.entries) & ~1]):
-            yield BaseRelocation(self.rva + (word & 0xFFF) & 0xFFFFFFFF, word >> 12)
+            yield BaseRelocation(self.rva + (word & 0xFFF), word >> 12)
 
 
 class AuxiliaryKind(Number):
@@ -368,8 +369,6 @@ class Damage(NamedTuple):
 
 # ---- the rows of records ----
 
-_U32 = 0xFFFFFFFF
-
 
 def text(it: Any) -> bytes:
     """The bytes of a slice."""
@@ -391,24 +390,24 @@ def _section_record(it: Section) -> _records.Section:
     return record
 
 
-def _section(it: Any, image: Image) -> Section:
+def _section(it: Any, text: Texts) -> Section:
     return Section(
         text(it.name), bytes(it.stored_name), it.index, it.virtual_size, it.virtual_address, it.size_of_raw_data, it.pointer_to_raw_data,
         it.pointer_to_relocations, it.pointer_to_linenumbers, it.number_of_relocations, it.number_of_linenumbers, it.characteristics)
 
 
-def _rich_entry(it: Any, image: Image) -> RichEntry:
+def _rich_entry(it: Any, text: Texts) -> RichEntry:
     return RichEntry(it.build, it.product, it.use_count)
 
 
-def _import(it: Any, image: Image) -> Import:
+def _import(it: Any, text: Texts) -> Import:
     is_by_name, number = it.is_by_name, it.hint_or_ordinal
     return Import(
         text(it.dll), text(it.name) if is_by_name else None, number if is_by_name else None, None if is_by_name else number,
-        it.iat_rva & _U32, it.hint_name_rva & _U32, it.library_index, it.thunk_index)
+        it.iat_rva, it.hint_name_rva, it.library_index, it.thunk_index)
 
 
-def _library(it: Any, image: Image) -> Library:
+def _library(it: Any, text: Texts) -> Library:
     error, record, cursor = error_of(it.name_fault, Table.IMPORTS), it.record, it.imports
     return Library(
         None if error else text(it.name), error, it.index, it.offset, record.import_lookup_table_rva, record.time_date_stamp,
@@ -416,21 +415,21 @@ def _library(it: Any, image: Image) -> Library:
         tuple(int(getattr(cursor, name)) for name, _ in cursor._fields_ if name != "reserved"))
 
 
-def forwarder(it: Any) -> Forwarder | None:
+def forwarder(it: Any, text: Callable[[Any], bytes] = text) -> Forwarder | None:
     """The forwarder of a record; None if it is none."""
     if not it.kind:
         return None
     return Forwarder(text(it.dll), text(it.name) if it.kind == 1 else None, it.ordinal if it.kind == 2 else None)
 
 
-def _export(it: Any, image: Image) -> Export:
+def _export(it: Any, text: Texts) -> Export:
     return Export(
-        text(it.name) if it.has_name else None, it.ordinal, it.hint, it.rva & _U32, it.name_rva & _U32,
-        it.offset if it.has_offset else None, forwarder(it.forwarder))
+        text(it.name) if it.has_name else None, it.ordinal, it.hint, it.rva, it.name_rva,
+        it.offset if it.has_offset else None, forwarder(it.forwarder, text))
 
 
-def _export_address(it: Any, image: Image) -> ExportAddress:
-    return ExportAddress(it.ordinal, it.rva & _U32, it.is_forwarder)
+def _export_address(it: Any, text: Texts) -> ExportAddress:
+    return ExportAddress(it.ordinal, it.rva, it.is_forwarder)
 
 
 def export_directory(it: Any) -> ExportDirectory | None:
@@ -441,11 +440,11 @@ def export_directory(it: Any) -> ExportDirectory | None:
     return ExportDirectory(text(it.name) if it.has_name else None, *fields)
 
 
-def _block(it: Any, image: Image) -> RelocationBlock:
-    return RelocationBlock(it.rva & _U32, it.size, bytes(image.data[it.relocations.offset: it.relocations.end]))
+def _block(it: Any, text: Texts) -> RelocationBlock:
+    return RelocationBlock(it.rva, it.size, bytes(text.image.data[it.relocations.offset: it.relocations.end]))
 
 
-def _symbol(it: Any, image: Image) -> Symbol:
+def _symbol(it: Any, text: Texts) -> Symbol:
     record = it.record
     return Symbol(
         it.index, text(it.name) if it.has_name else None, bytes(record.name), record.value, record.section_number, record.typ,
@@ -460,7 +459,7 @@ def _auxiliary(kind: AuxiliaryKind, it: Any) -> Auxiliary:
         it.checksum, it.number, it.selection)
 
 
-def _coff_relocation(it: Any, image: Image) -> CoffRelocation:
+def _coff_relocation(it: Any, text: Texts) -> CoffRelocation:
     return CoffRelocation(it.virtual_address, it.symbol_table_index, it.typ)
 
 

@@ -6,7 +6,7 @@ from typing import TYPE_CHECKING, Any, Callable, Generic, Iterator, NamedTuple, 
 
 from . import _records
 from ._errors import Table, steps_error, test
-from ._options import Budget
+from ._options import Budget, lent
 
 if TYPE_CHECKING:
     from ._image import Image
@@ -17,6 +17,20 @@ _Row = TypeVar("_Row", covariant=True)
 _FIRST, _ROOM = 32, 256
 
 
+class Texts:
+    """The texts of an image for a batch of rows. A slice that several rows have becomes one object."""
+
+    def __init__(self, image: Image) -> None:
+        self.image = image
+        self._found: dict[tuple[int, int], bytes] = {}
+
+    def __call__(self, it: Any) -> bytes:
+        place = it.bytes, it.length
+        if place not in self._found:
+            self._found[place] = c.string_at(*place)
+        return self._found[place]
+
+
 class Kind(NamedTuple):
     """A kind of walk: the call, its record and cursor, the table that its errors name, and what makes a row of a record. If the call
     does not count steps, each row is a step."""
@@ -25,7 +39,7 @@ class Kind(NamedTuple):
     record: Any
     cursor: Any
     table: Table
-    row: Callable[[Any, Image], Any]
+    row: Callable[[Any, Texts], Any]
     counts_steps: bool = False
 
 
@@ -56,23 +70,19 @@ class Walk(Generic[_Row]):
 
     def _batch(self) -> list[Any]:
         # the next rows
-        kind, budget = self._kind, self._budget
-        left = None if budget is None else budget.left
-        room = self._room if kind.counts_steps or left is None else min(self._room, left)
-        if not room:
-            raise steps_error(kind.table)
-        records, batch = (kind.record * room)(), _records.Batch()
-        steps = None if left is None else c.c_size_t(left)
-        taken = [steps and c.byref(steps)] if kind.counts_steps else []
-        cursor = kind.cursor.from_buffer_copy(self._cursor)  # (its own: another thread may go on with the walk meanwhile)
-        with self._image._held() as image:
-            fault = kind.call(image, c.byref(cursor), records, room, *taken, c.byref(batch))
+        kind, cursor = self._kind, self._kind.cursor.from_buffer_copy(self._cursor)  # (another thread may go on with the walk meanwhile)
+        with lent(self._budget) as steps, self._image._held() as image:
+            room = self._room if kind.counts_steps or steps is None else min(self._room, steps.value)
+            if not room:
+                raise steps_error(kind.table)
+            records, batch = (kind.record * room)(), _records.Batch()
+            fault = kind.call(image, c.byref(cursor), records, room, *([steps] if kind.counts_steps else []), c.byref(batch))
             if fault.status:
                 self._is_over = fault.status not in (5, 7)  # (with more memory or steps it goes on)
                 test(fault, kind.table)
-            row, of = kind.row, self._image
-            rows = [row(it, of) for it in records[: batch.count]]
-        if budget is not None and left is not None:
-            budget.left = steps.value if kind.counts_steps and steps is not None else left - batch.count
+            row, text = kind.row, Texts(self._image)
+            rows = [row(it, text) for it in records[: batch.count]]
+            if steps is not None and not kind.counts_steps:
+                steps.value -= batch.count
         self._cursor, self._room, self._is_over = cursor, _ROOM, batch.is_done
         return rows
