@@ -143,8 +143,7 @@ def tables(out, image):
     out.put(result(image.export_directory, to=some))
     for export in list(out.rows(image.exports(budget(300))))[:20]:
         out.put(result(image.find_export_by_ordinal, export.ordinal, to=some))
-        name = export.name if export.name and len(export.name) <= 9 else b""
-        out.put(result(image.find_export, name, budget(300), to=some))
+        out.put(result(image.find_export, export.name or b"", budget(300), to=some))
     for address in list(out.rows(image.export_addresses(budget(300)))):
         out.put(some(result(image.forwarder_at, address.rva) if address.is_forwarder else None))
     for block in list(out.rows(image.relocation_blocks(budget(20)))):

@@ -38,8 +38,7 @@ fn tables(image: &Image) {
     println!("{:?}", image.export_directory());
     for export in rows(image.exports().within(&mut budget(300))).into_iter().take(20) {
         println!("{:?}", image.find_export_by_ordinal(export.ordinal));
-        // (of a longer name it is not known whether it was cut)
-        let name = export.name.filter(|it| it.len() <= 9).unwrap_or_default();
+        let name = export.name.unwrap_or_default();
         println!("{:?}", image.find_export(name, &mut budget(300)));
     }
     for address in rows(image.export_addresses().within(&mut budget(300))) {

@@ -26,6 +26,14 @@ def numbered():
     return images.sample((0x204, imports[0]), (0x214, imports[1]), (0x2A0, exports), (0x56, b"\0\x21"), (0x9C, b"\1"))
 
 
+def past_32_bits():
+    """The small image, whose section ends at 2^32, and whose address table and base relocations pass that."""
+    section, block = struct.pack("<4I", 0x100, 0xFFFFFF00, 0x100, 0x200), struct.pack("<2I2H", 0xFFFFFFFF, 12, 0x3000, 0x3001)
+    library, entries = struct.pack("<5I", 0xFFFFFF40, 0, 0, 0xFFFFFF80, 0xFFFFFFF8), struct.pack("<3I", *(1 << 31 | it for it in range(3)))
+    return images.sample((0x140, section), (0x200, library), (0xB8, struct.pack("<4I", 0, 0, 0xFFFFFF00, 40)),
+                         (0xE0, struct.pack("<2I", 0xFFFFFFE0, 12)), (0x2E0, block), (0x240, entries))
+
+
 def with_auxiliary_records():
     """An object of a symbol for each kind of auxiliary record, whose bytes all differ. The last has the name of a file in the string
     table."""
@@ -40,7 +48,8 @@ class Layers(test_rust.Crate):
     def test_rust_and_python_say_the_same(self):
         """Of all fields of all rows of samples, of changed copies of them and of other files."""
         rich = images.with_rich_header(images.library(b"rich.dll", [(b"Apple", 0x3010)]), 0x12345678, [(0x1047809, 3), (0x930001, 7)])
-        files = [numbered(), with_auxiliary_records(), bytes(rich), *hostile.files(8)]
+        broken = images.library(b"a.dll", [(b"f", b"BROKEN"), (b"f", 0x5010)])
+        files = [numbered(), past_32_bits(), bytes(broken), with_auxiliary_records(), bytes(rich), *hostile.files(8)]
         paths = [self.written(f"{index}.bin", data) for index, data in enumerate(files)]
         program = self.user("dump", pathlib.Path(__file__).with_name("dump.rs").read_text("utf-8"))
         listed = self.written("files", "\n".join(map(str, paths)).encode())
