@@ -205,8 +205,9 @@ fn add_libraries<'a, 'e, T: Bitfield<'a>>(
 /// which parts of the file it has.
 ///
 /// No range is empty or runs past the end of the file. They come in the order in which the import
-/// data is read, so they may overlap. They are as many as its records, entries and texts, and each
-/// has 16 bytes.
+/// data is read, and may overlap. A range takes 16 bytes. There are about as many as
+/// [`ImportData::parse`](crate::import::ImportData::parse) makes entries: a table that several
+/// libraries share is read, and its ranges are listed, for each of them.
 ///
 /// # Errors
 /// [`Error::Memory`](goblin_base::Error::Memory) only.

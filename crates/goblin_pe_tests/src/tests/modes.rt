@@ -41,7 +41,7 @@ fn has_tables_by(alloc: Global, file: &[u8], rule: RawPointerRule) -> bool {
     matches!(&Whole::read(alloc, file, &opts), Ok(whole) if has_tables(whole))
 }
 
-/// Whether strict mode refuses a file, of which permissive mode reads no table.
+/// Whether strict mode refuses a file in which permissive mode reads no table.
 fn has_no_tables(alloc: Global, file: &[u8]) -> bool {
     matches!(
         &Whole::read(alloc, file, &in_mode(ParseMode::Strict)),
