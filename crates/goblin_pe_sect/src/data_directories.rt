@@ -23,6 +23,8 @@ use goblin_base::{
 /// The size of a data directory's record, in bytes.
 pub const SIZEOF_DATA_DIRECTORY: usize = 8;
 
+const _: () = prove!(SIZEOF_DATA_DIRECTORY == 8);
+
 /// How many entries the table of data directories has.
 pub const NUM_DATA_DIRECTORIES: usize = 16;
 
@@ -165,6 +167,24 @@ pub enum DataDirectoryType {
     /// The header of the common language runtime, at index 14: an image with it has managed code.
     ClrRuntimeHeader,
 }
+
+const _: () = prove!(
+    DataDirectoryType::ExportTable as u8 == 0
+        && DataDirectoryType::ImportTable as u8 == 1
+        && DataDirectoryType::ResourceTable as u8 == 2
+        && DataDirectoryType::ExceptionTable as u8 == 3
+        && DataDirectoryType::CertificateTable as u8 == 4
+        && DataDirectoryType::BaseRelocationTable as u8 == 5
+        && DataDirectoryType::DebugTable as u8 == 6
+        && DataDirectoryType::Architecture as u8 == 7
+        && DataDirectoryType::GlobalPtr as u8 == 8
+        && DataDirectoryType::TlsTable as u8 == 9
+        && DataDirectoryType::LoadConfigTable as u8 == 10
+        && DataDirectoryType::BoundImportTable as u8 == 11
+        && DataDirectoryType::ImportAddressTable as u8 == 12
+        && DataDirectoryType::DelayImportDescriptor as u8 == 13
+        && DataDirectoryType::ClrRuntimeHeader as u8 == 14
+);
 
 impl TryFrom<usize> for DataDirectoryType {
     type Error = Error;

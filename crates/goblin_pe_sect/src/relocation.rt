@@ -137,6 +137,8 @@ pub use constants::IMAGE_REL_IA64_UREL32;
 /// The size of a relocation of a COFF object, in bytes.
 pub const COFF_RELOCATION_SIZE: usize = 10;
 
+const _: () = prove!(COFF_RELOCATION_SIZE == 10);
+
 /// A relocation of a COFF object. It says which bytes of a section a linker changes, and how.
 ///
 /// Source: PE Format, "COFF Relocations (Object Only)". Numbers are as stored. The record has 10

@@ -54,6 +54,8 @@ pub use records::SectionRecords;
 /// The size of a section header, in bytes.
 pub const SIZEOF_SECTION_TABLE: usize = 40;
 
+const _: () = prove!(SIZEOF_SECTION_TABLE == 40);
+
 /// A section, as its section header describes it.
 ///
 /// Source: PE Format, "Section Table (Section Headers)". Numbers are as stored. A section header

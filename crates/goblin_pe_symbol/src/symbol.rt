@@ -56,6 +56,8 @@ pub use constants::{
 /// The size of a record of the symbol table, in bytes.
 pub const COFF_SYMBOL_SIZE: usize = 18;
 
+const _: () = prove!(COFF_SYMBOL_SIZE == 18);
+
 // The size of the length field at the front of a string table, in bytes. The offsets that symbols
 // store count these bytes.
 const LENGTH_FIELD_SIZE: u32 = 4;

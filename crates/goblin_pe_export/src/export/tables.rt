@@ -16,8 +16,12 @@ use goblin_pe_sect::utils::is_in_range;
 /// The size of an export directory's record, in bytes.
 pub const SIZEOF_EXPORT_DIRECTORY_TABLE: usize = 40;
 
+const _: () = prove!(SIZEOF_EXPORT_DIRECTORY_TABLE == 40);
+
 /// The size of an entry of the export address table, in bytes.
 pub const SIZEOF_EXPORT_ADDRESS_TABLE_ENTRY: usize = 4;
+
+const _: () = prove!(SIZEOF_EXPORT_ADDRESS_TABLE_ENTRY == 4);
 
 // The sizes of a name pointer and of an ordinal, in bytes.
 pub(crate) const SIZEOF_NAME_POINTER: usize = 4;

@@ -24,6 +24,8 @@ use std::alloc::Global;
 /// The size of a COFF header, in bytes.
 pub const SIZEOF_COFF_HEADER: usize = 20;
 
+const _: () = prove!(SIZEOF_COFF_HEADER == 20);
+
 // The size of the length at the front of a string table, in bytes.
 const LENGTH_FIELD_SIZE: usize = 4;
 

@@ -22,6 +22,10 @@ pub const SIZEOF_PE_MAGIC: usize = 4;
 /// The offset, in the DOS header, of the field with the file offset of the PE signature.
 pub const PE_POINTER_OFFSET: u32 = 0x3C;
 
+const _: () = prove!(
+    DOS_MAGIC == 0x5A4D && PE_MAGIC == 0x4550 && SIZEOF_PE_MAGIC == 4 && PE_POINTER_OFFSET == 0x3C
+);
+
 // The size of a DOS header, in bytes.
 pub(crate) const SIZEOF_DOS_HEADER: usize = 64;
 

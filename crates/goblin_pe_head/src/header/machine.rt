@@ -60,3 +60,35 @@ pub const COFF_MACHINE_SH5: u16 = 0x1A8;
 pub const COFF_MACHINE_THUMB: u16 = 0x1C2;
 /// The machine: MIPS WCE v2, little-endian.
 pub const COFF_MACHINE_WCEMIPSV2: u16 = 0x169;
+
+const _: () = prove!(
+    COFF_MACHINE_UNKNOWN == 0x0
+        && COFF_MACHINE_ALPHA == 0x184
+        && COFF_MACHINE_ALPHA64 == 0x284
+        && COFF_MACHINE_AM33 == 0x1D3
+        && COFF_MACHINE_X86_64 == 0x8664
+        && COFF_MACHINE_ARM == 0x1C0
+        && COFF_MACHINE_ARM64 == 0xAA64
+        && COFF_MACHINE_ARMNT == 0x1C4
+        && COFF_MACHINE_EBC == 0xEBC
+        && COFF_MACHINE_X86 == 0x14C
+        && COFF_MACHINE_IA64 == 0x200
+        && COFF_MACHINE_LOONGARCH32 == 0x6232
+        && COFF_MACHINE_LOONGARCH64 == 0x6264
+        && COFF_MACHINE_M32R == 0x9041
+        && COFF_MACHINE_MIPS16 == 0x266
+        && COFF_MACHINE_MIPSFPU == 0x366
+        && COFF_MACHINE_MIPSFPU16 == 0x466
+        && COFF_MACHINE_POWERPC == 0x1F0
+        && COFF_MACHINE_POWERPCFP == 0x1F1
+        && COFF_MACHINE_R4000 == 0x166
+        && COFF_MACHINE_RISCV32 == 0x5032
+        && COFF_MACHINE_RISCV64 == 0x5064
+        && COFF_MACHINE_RISCV128 == 0x5128
+        && COFF_MACHINE_SH3 == 0x1A2
+        && COFF_MACHINE_SH3DSP == 0x1A3
+        && COFF_MACHINE_SH4 == 0x1A6
+        && COFF_MACHINE_SH5 == 0x1A8
+        && COFF_MACHINE_THUMB == 0x1C2
+        && COFF_MACHINE_WCEMIPSV2 == 0x169
+);

@@ -32,6 +32,13 @@ pub const RICH_MARKER: u32 = 0x6863_6952;
 /// The size of [`RICH_MARKER`], in bytes.
 pub const RICH_MARKER_SIZE: usize = 4;
 
+const _: () = prove!(
+    DANS_MARKER == 0x536E_6144
+        && DANS_MARKER_SIZE == 4
+        && RICH_MARKER == 0x6863_6952
+        && RICH_MARKER_SIZE == 4
+);
+
 // The size of a word, in bytes.
 const WORD_SIZE: usize = 4;
 

@@ -11,6 +11,8 @@ use goblin_base::{Cause, Endian, Error, Result, pwrite_slice};
 /// The file offset at which the DOS stub begins, just past the DOS header.
 pub const DOS_STUB_OFFSET: u32 = 0x40;
 
+const _: () = prove!(DOS_STUB_OFFSET == 0x40);
+
 // The program that most linkers put there: it prints its message and ends.
 const DEFAULT_STUB: &[u8; 64] = b"\x0E\x1F\xBA\x0E\x00\xB4\x09\xCD\x21\xB8\x01\x4C\xCD\x21\
     This program cannot be run in DOS mode.\x0D\x0D\x0A\x24\0\0\0\0\0\0\0";

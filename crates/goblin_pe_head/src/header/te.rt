@@ -23,6 +23,8 @@ use std::alloc::Global;
 /// The signature of a Terse Executable, `VZ`.
 pub const TE_MAGIC: u16 = 0x5A56;
 
+const _: () = prove!(TE_MAGIC == 0x5A56);
+
 // The size of the header, in bytes.
 const SIZEOF_TE_HEADER: usize = 40;
 

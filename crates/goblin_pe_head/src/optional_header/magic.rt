@@ -10,3 +10,11 @@ pub const IMAGE_NT_OPTIONAL_HDR32_MAGIC: u16 = 0x10B;
 pub const IMAGE_NT_OPTIONAL_HDR64_MAGIC: u16 = 0x20B;
 /// The magic of a ROM image. No reader accepts it.
 pub const IMAGE_ROM_OPTIONAL_HDR_MAGIC: u16 = 0x107;
+
+const _: () = prove!(
+    MAGIC_32 == 0x10B
+        && MAGIC_64 == 0x20B
+        && IMAGE_NT_OPTIONAL_HDR32_MAGIC == 0x10B
+        && IMAGE_NT_OPTIONAL_HDR64_MAGIC == 0x20B
+        && IMAGE_ROM_OPTIONAL_HDR_MAGIC == 0x107
+);

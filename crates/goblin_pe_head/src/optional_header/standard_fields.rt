@@ -15,6 +15,8 @@ pub const SIZEOF_STANDARD_FIELDS_32: usize = 28;
 /// The size of the standard fields for 64 bits, in bytes.
 pub const SIZEOF_STANDARD_FIELDS_64: usize = 24;
 
+const _: () = prove!(SIZEOF_STANDARD_FIELDS_32 == 28 && SIZEOF_STANDARD_FIELDS_64 == 24);
+
 /// The standard fields of an optional header for 32 bits.
 ///
 /// Source: PE Format, "Optional Header Standard Fields (Image Only)". Numbers are as stored; the

@@ -21,6 +21,13 @@ pub const SIZEOF_WINDOWS_FIELDS_64: usize = 88;
 /// The offset of the checksum in the Windows fields for 64 bits, in bytes from their front.
 pub const OFFSET_WINDOWS_FIELDS_64_CHECKSUM: usize = 40;
 
+const _: () = prove!(
+    SIZEOF_WINDOWS_FIELDS_32 == 68
+        && OFFSET_WINDOWS_FIELDS_32_CHECKSUM == 36
+        && SIZEOF_WINDOWS_FIELDS_64 == 88
+        && OFFSET_WINDOWS_FIELDS_64_CHECKSUM == 40
+);
+
 /// The Windows fields of an optional header for 32 bits.
 ///
 /// Source: PE Format, "Optional Header Windows-Specific Fields (Image Only)". Numbers are as

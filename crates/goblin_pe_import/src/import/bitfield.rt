@@ -18,6 +18,13 @@ pub const IMPORT_BY_ORDINAL_64: u64 = 0x8000_0000_0000_0000;
 /// The bits of a 64-bit entry that are the address of a hint and a name.
 pub const IMPORT_RVA_MASK_64: u64 = 0x0000_0000_7FFF_FFFF;
 
+const _: () = prove!(
+    IMPORT_BY_ORDINAL_32 == 0x8000_0000
+        && IMPORT_RVA_MASK_32 == 0x7FFF_FFFF
+        && IMPORT_BY_ORDINAL_64 == 0x8000_0000_0000_0000
+        && IMPORT_RVA_MASK_64 == 0x7FFF_FFFF
+);
+
 /// The type of the entries (thunks) of lookup and address tables: `u32` in a PE32 image, `u64` in a
 /// PE32+ image. What an entry says is a function of the bytes that it was read from.
 ///

@@ -10,6 +10,8 @@ use goblin_base::{Endian, Field, Record, Result, field_u32, put_fields};
 /// The size of an import descriptor, in bytes.
 pub const SIZEOF_IMPORT_DIRECTORY_ENTRY: usize = 20;
 
+const _: () = prove!(SIZEOF_IMPORT_DIRECTORY_ENTRY == 20);
+
 /// An import descriptor: the record of a library in an import directory. It says where the imports
 /// from that library are.
 ///

@@ -26,6 +26,8 @@ use std::iter::FusedIterator;
 /// The size of the header of a base relocation block, in bytes.
 pub const RELOCATION_BLOCK_SIZE: usize = 8;
 
+const _: () = prove!(RELOCATION_BLOCK_SIZE == 8);
+
 // The size of a word, in bytes.
 const RELOCATION_WORD_SIZE: usize = 2;
 

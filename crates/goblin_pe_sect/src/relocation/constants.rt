@@ -25,6 +25,20 @@ pub const IMAGE_REL_I386_SECREL7: u16 = 0x0D;
 /// x86: the distance to the target, 32 bits.
 pub const IMAGE_REL_I386_REL32: u16 = 0x14;
 
+const _: () = prove!(
+    IMAGE_REL_I386_ABSOLUTE == 0x0
+        && IMAGE_REL_I386_DIR16 == 0x1
+        && IMAGE_REL_I386_REL16 == 0x2
+        && IMAGE_REL_I386_DIR32 == 0x6
+        && IMAGE_REL_I386_DIR32NB == 0x7
+        && IMAGE_REL_I386_SEG12 == 0x9
+        && IMAGE_REL_I386_SECTION == 0xA
+        && IMAGE_REL_I386_SECREL == 0xB
+        && IMAGE_REL_I386_TOKEN == 0xC
+        && IMAGE_REL_I386_SECREL7 == 0xD
+        && IMAGE_REL_I386_REL32 == 0x14
+);
+
 /// x86-64: nothing is changed.
 pub const IMAGE_REL_AMD64_ABSOLUTE: u16 = 0x00;
 /// x86-64: the target's address, 64 bits.
@@ -59,6 +73,26 @@ pub const IMAGE_REL_AMD64_SREL32: u16 = 0x0E;
 pub const IMAGE_REL_AMD64_PAIR: u16 = 0x0F;
 /// x86-64: a signed value that depends on a span and is applied by the linker, 32 bits.
 pub const IMAGE_REL_AMD64_SSPAN32: u16 = 0x10;
+
+const _: () = prove!(
+    IMAGE_REL_AMD64_ABSOLUTE == 0x0
+        && IMAGE_REL_AMD64_ADDR64 == 0x1
+        && IMAGE_REL_AMD64_ADDR32 == 0x2
+        && IMAGE_REL_AMD64_ADDR32NB == 0x3
+        && IMAGE_REL_AMD64_REL32 == 0x4
+        && IMAGE_REL_AMD64_REL32_1 == 0x5
+        && IMAGE_REL_AMD64_REL32_2 == 0x6
+        && IMAGE_REL_AMD64_REL32_3 == 0x7
+        && IMAGE_REL_AMD64_REL32_4 == 0x8
+        && IMAGE_REL_AMD64_REL32_5 == 0x9
+        && IMAGE_REL_AMD64_SECTION == 0xA
+        && IMAGE_REL_AMD64_SECREL == 0xB
+        && IMAGE_REL_AMD64_SECREL7 == 0xC
+        && IMAGE_REL_AMD64_TOKEN == 0xD
+        && IMAGE_REL_AMD64_SREL32 == 0xE
+        && IMAGE_REL_AMD64_PAIR == 0xF
+        && IMAGE_REL_AMD64_SSPAN32 == 0x10
+);
 
 /// ARM: nothing is changed.
 pub const IMAGE_REL_ARM_ABSOLUTE: u16 = 0x00;
@@ -99,6 +133,28 @@ pub const IMAGE_REL_ARM_BLX23T: u16 = 0x15;
 /// ARM: the second half of a pair of relocations, whose symbol index is a displacement.
 pub const IMAGE_REL_ARM_PAIR: u16 = 0x16;
 
+const _: () = prove!(
+    IMAGE_REL_ARM_ABSOLUTE == 0x0
+        && IMAGE_REL_ARM_ADDR == 0x1
+        && IMAGE_REL_ARM_ADDR32NB == 0x2
+        && IMAGE_REL_ARM_BRANCH24 == 0x3
+        && IMAGE_REL_ARM_BRANCH11 == 0x4
+        && IMAGE_REL_ARM_TOKEN == 0x5
+        && IMAGE_REL_ARM_GPREL12 == 0x6
+        && IMAGE_REL_ARM_GPREL7 == 0x7
+        && IMAGE_REL_ARM_BLX24 == 0x8
+        && IMAGE_REL_ARM_BLX11 == 0x9
+        && IMAGE_REL_ARM_REL32 == 0xA
+        && IMAGE_REL_ARM_SECTION == 0xE
+        && IMAGE_REL_ARM_SECREL == 0xF
+        && IMAGE_REL_ARM_MOV32A == 0x10
+        && IMAGE_REL_ARM_MOV32T == 0x11
+        && IMAGE_REL_ARM_BRANCH20T == 0x12
+        && IMAGE_REL_ARM_BRANCH24T == 0x14
+        && IMAGE_REL_ARM_BLX23T == 0x15
+        && IMAGE_REL_ARM_PAIR == 0x16
+);
+
 /// ARM64: nothing is changed.
 pub const IMAGE_REL_ARM64_ABSOLUTE: u16 = 0x00;
 /// ARM64: the target's address, 32 bits.
@@ -135,6 +191,27 @@ pub const IMAGE_REL_ARM64_BRANCH19: u16 = 0x0F;
 pub const IMAGE_REL_ARM64_BRANCH14: u16 = 0x10;
 /// ARM64: the distance to the target from the byte after the field, 32 bits.
 pub const IMAGE_REL_ARM64_REL32: u16 = 0x11;
+
+const _: () = prove!(
+    IMAGE_REL_ARM64_ABSOLUTE == 0x0
+        && IMAGE_REL_ARM64_ADDR32 == 0x1
+        && IMAGE_REL_ARM64_ADDR32NB == 0x2
+        && IMAGE_REL_ARM64_BRANCH26 == 0x3
+        && IMAGE_REL_ARM64_PAGEBASE_REL21 == 0x4
+        && IMAGE_REL_ARM64_REL21 == 0x5
+        && IMAGE_REL_ARM64_PAGEOFFSET_12A == 0x6
+        && IMAGE_REL_ARM64_PAGEOFFSET_12L == 0x7
+        && IMAGE_REL_ARM64_SECREL == 0x8
+        && IMAGE_REL_ARM64_SECREL_LOW12A == 0x9
+        && IMAGE_REL_ARM64_SECREL_HIGH12A == 0xA
+        && IMAGE_REL_ARM64_SECREL_LOW12L == 0xB
+        && IMAGE_REL_ARM64_TOKEN == 0xC
+        && IMAGE_REL_ARM64_SECTION == 0xD
+        && IMAGE_REL_ARM64_ADDR64 == 0xE
+        && IMAGE_REL_ARM64_BRANCH19 == 0xF
+        && IMAGE_REL_ARM64_BRANCH14 == 0x10
+        && IMAGE_REL_ARM64_REL32 == 0x11
+);
 
 /// Itanium: nothing is changed.
 pub const IMAGE_REL_IA64_ABSOLUTE: u16 = 0x00;
@@ -197,6 +274,39 @@ pub const IMAGE_REL_IA64_GPREL32: u16 = 0x1C;
 /// Itanium: a number to be added to the relocation before it.
 pub const IMAGE_REL_IA64_ADDEND: u16 = 0x1F;
 
+const _: () = prove!(
+    IMAGE_REL_IA64_ABSOLUTE == 0x0
+        && IMAGE_REL_IA64_IMM14 == 0x1
+        && IMAGE_REL_IA64_IMM22 == 0x2
+        && IMAGE_REL_IA64_IMM64 == 0x3
+        && IMAGE_REL_IA64_DIR == 0x4
+        && IMAGE_REL_IA64_DIR64 == 0x5
+        && IMAGE_REL_IA64_PCREL21B == 0x6
+        && IMAGE_REL_IA64_PCREL21M == 0x7
+        && IMAGE_REL_IA64_PCREL21F == 0x8
+        && IMAGE_REL_IA64_GPREL22 == 0x9
+        && IMAGE_REL_IA64_LTOFF22 == 0xA
+        && IMAGE_REL_IA64_SECTION == 0xB
+        && IMAGE_REL_IA64_SECREL22 == 0xC
+        && IMAGE_REL_IA64_SECREL64I == 0xD
+        && IMAGE_REL_IA64_SECREL == 0xE
+        && IMAGE_REL_IA64_LTOFF64 == 0xF
+        && IMAGE_REL_IA64_DIR32NB == 0x10
+        && IMAGE_REL_IA64_SREL14 == 0x11
+        && IMAGE_REL_IA64_SREL22 == 0x12
+        && IMAGE_REL_IA64_SREL32 == 0x13
+        && IMAGE_REL_IA64_UREL32 == 0x14
+        && IMAGE_REL_IA64_PCREL60X == 0x15
+        && IMAGE_REL_IA64_PCREL60B == 0x16
+        && IMAGE_REL_IA64_PCREL60F == 0x17
+        && IMAGE_REL_IA64_PCREL60I == 0x18
+        && IMAGE_REL_IA64_PCREL60M == 0x19
+        && IMAGE_REL_IA64_IMMGPREL64 == 0x1A
+        && IMAGE_REL_IA64_TOKEN == 0x1B
+        && IMAGE_REL_IA64_GPREL32 == 0x1C
+        && IMAGE_REL_IA64_ADDEND == 0x1F
+);
+
 /// Base relocation: nothing is changed; it fills a block up to a multiple of four bytes.
 pub const IMAGE_REL_BASED_ABSOLUTE: u16 = 0x00;
 /// Base relocation: the high half of a 32-bit address.
@@ -229,3 +339,22 @@ pub const IMAGE_REL_BASED_IA64_IMM64: u16 = 0x09;
 pub const IMAGE_REL_BASED_DIR64: u16 = 0x0A;
 /// Base relocation: the top 16 bits of a 48-bit address.
 pub const IMAGE_REL_BASED_HIGH3ADJ: u16 = 0x0B;
+
+const _: () = prove!(
+    IMAGE_REL_BASED_ABSOLUTE == 0x0
+        && IMAGE_REL_BASED_HIGH == 0x1
+        && IMAGE_REL_BASED_LOW == 0x2
+        && IMAGE_REL_BASED_HIGHLOW == 0x3
+        && IMAGE_REL_BASED_HIGHADJ == 0x4
+        && IMAGE_REL_BASED_MIPS_JMPADDR == 0x5
+        && IMAGE_REL_BASED_ARM_MOV32A == 0x5
+        && IMAGE_REL_BASED_ARM_MOV32 == 0x5
+        && IMAGE_REL_BASED_SECTION == 0x6
+        && IMAGE_REL_BASED_REL == 0x7
+        && IMAGE_REL_BASED_ARM_MOV32T == 0x7
+        && IMAGE_REL_BASED_THUMB_MOV32 == 0x7
+        && IMAGE_REL_BASED_MIPS_JMPADDR16 == 0x9
+        && IMAGE_REL_BASED_IA64_IMM64 == 0x9
+        && IMAGE_REL_BASED_DIR64 == 0xA
+        && IMAGE_REL_BASED_HIGH3ADJ == 0xB
+);

@@ -10,6 +10,8 @@ pub const IMAGE_SYM_ABSOLUTE: i16 = -1;
 /// A symbol's section: none; the symbol is for debuggers.
 pub const IMAGE_SYM_DEBUG: i16 = -2;
 
+const _: () = prove!(IMAGE_SYM_UNDEFINED == 0 && IMAGE_SYM_ABSOLUTE == -1 && IMAGE_SYM_DEBUG == -2);
+
 /// A symbol's base type: none, or unknown.
 pub const IMAGE_SYM_TYPE_NULL: u16 = 0;
 /// A symbol's base type: no valid type, as for a function that returns nothing.
@@ -43,10 +45,31 @@ pub const IMAGE_SYM_TYPE_UINT: u16 = 14;
 /// A symbol's base type: an unsigned number of 4 bytes.
 pub const IMAGE_SYM_TYPE_DWORD: u16 = 15;
 
+const _: () = prove!(
+    IMAGE_SYM_TYPE_NULL == 0
+        && IMAGE_SYM_TYPE_VOID == 1
+        && IMAGE_SYM_TYPE_CHAR == 2
+        && IMAGE_SYM_TYPE_SHORT == 3
+        && IMAGE_SYM_TYPE_INT == 4
+        && IMAGE_SYM_TYPE_LONG == 5
+        && IMAGE_SYM_TYPE_FLOAT == 6
+        && IMAGE_SYM_TYPE_DOUBLE == 7
+        && IMAGE_SYM_TYPE_STRUCT == 8
+        && IMAGE_SYM_TYPE_UNION == 9
+        && IMAGE_SYM_TYPE_ENUM == 10
+        && IMAGE_SYM_TYPE_MOE == 11
+        && IMAGE_SYM_TYPE_BYTE == 12
+        && IMAGE_SYM_TYPE_WORD == 13
+        && IMAGE_SYM_TYPE_UINT == 14
+        && IMAGE_SYM_TYPE_DWORD == 15
+);
+
 /// The bits of a symbol's type that are its base type.
 pub const IMAGE_SYM_TYPE_MASK: u16 = 15;
 /// How many bits of a symbol's type are below its derived type.
 pub const IMAGE_SYM_DTYPE_SHIFT: usize = 4;
+
+const _: () = prove!(IMAGE_SYM_TYPE_MASK == 15 && IMAGE_SYM_DTYPE_SHIFT == 4);
 
 /// A symbol's derived type: none.
 pub const IMAGE_SYM_DTYPE_NULL: u16 = 0;
@@ -56,6 +79,13 @@ pub const IMAGE_SYM_DTYPE_POINTER: u16 = 1;
 pub const IMAGE_SYM_DTYPE_FUNCTION: u16 = 2;
 /// A symbol's derived type: an array of the base type.
 pub const IMAGE_SYM_DTYPE_ARRAY: u16 = 3;
+
+const _: () = prove!(
+    IMAGE_SYM_DTYPE_NULL == 0
+        && IMAGE_SYM_DTYPE_POINTER == 1
+        && IMAGE_SYM_DTYPE_FUNCTION == 2
+        && IMAGE_SYM_DTYPE_ARRAY == 3
+);
 
 /// A symbol's class: none.
 pub const IMAGE_SYM_CLASS_NULL: u8 = 0;
@@ -112,12 +142,48 @@ pub const IMAGE_SYM_CLASS_CLR_TOKEN: u8 = 107;
 /// A symbol's class: the end of a function.
 pub const IMAGE_SYM_CLASS_END_OF_FUNCTION: u8 = 255;
 
+const _: () = prove!(
+    IMAGE_SYM_CLASS_NULL == 0
+        && IMAGE_SYM_CLASS_AUTOMATIC == 1
+        && IMAGE_SYM_CLASS_EXTERNAL == 2
+        && IMAGE_SYM_CLASS_STATIC == 3
+        && IMAGE_SYM_CLASS_REGISTER == 4
+        && IMAGE_SYM_CLASS_EXTERNAL_DEF == 5
+        && IMAGE_SYM_CLASS_LABEL == 6
+        && IMAGE_SYM_CLASS_UNDEFINED_LABEL == 7
+        && IMAGE_SYM_CLASS_MEMBER_OF_STRUCT == 8
+        && IMAGE_SYM_CLASS_ARGUMENT == 9
+        && IMAGE_SYM_CLASS_STRUCT_TAG == 10
+        && IMAGE_SYM_CLASS_MEMBER_OF_UNION == 11
+        && IMAGE_SYM_CLASS_UNION_TAG == 12
+        && IMAGE_SYM_CLASS_TYPE_DEFINITION == 13
+        && IMAGE_SYM_CLASS_UNDEFINED_STATIC == 14
+        && IMAGE_SYM_CLASS_ENUM_TAG == 15
+        && IMAGE_SYM_CLASS_MEMBER_OF_ENUM == 16
+        && IMAGE_SYM_CLASS_REGISTER_PARAM == 17
+        && IMAGE_SYM_CLASS_BIT_FIELD == 18
+        && IMAGE_SYM_CLASS_BLOCK == 100
+        && IMAGE_SYM_CLASS_FUNCTION == 101
+        && IMAGE_SYM_CLASS_END_OF_STRUCT == 102
+        && IMAGE_SYM_CLASS_FILE == 103
+        && IMAGE_SYM_CLASS_SECTION == 104
+        && IMAGE_SYM_CLASS_WEAK_EXTERNAL == 105
+        && IMAGE_SYM_CLASS_CLR_TOKEN == 107
+        && IMAGE_SYM_CLASS_END_OF_FUNCTION == 255
+);
+
 /// Where a weak symbol is looked for: not in libraries.
 pub const IMAGE_WEAK_EXTERN_SEARCH_NOLIBRARY: u32 = 1;
 /// Where a weak symbol is looked for: in libraries too.
 pub const IMAGE_WEAK_EXTERN_SEARCH_LIBRARY: u32 = 2;
 /// Where a weak symbol is looked for: nowhere; it is an alias of the other symbol.
 pub const IMAGE_WEAK_EXTERN_SEARCH_ALIAS: u32 = 3;
+
+const _: () = prove!(
+    IMAGE_WEAK_EXTERN_SEARCH_NOLIBRARY == 1
+        && IMAGE_WEAK_EXTERN_SEARCH_LIBRARY == 2
+        && IMAGE_WEAK_EXTERN_SEARCH_ALIAS == 3
+);
 
 /// Which of several COMDAT sections is kept: only one may exist.
 pub const IMAGE_COMDAT_SELECT_NODUPLICATES: u8 = 1;
@@ -132,3 +198,12 @@ pub const IMAGE_COMDAT_SELECT_EXACT_MATCH: u8 = 4;
 pub const IMAGE_COMDAT_SELECT_ASSOCIATIVE: u8 = 5;
 /// Which of several COMDAT sections is kept: the largest.
 pub const IMAGE_COMDAT_SELECT_LARGEST: u8 = 6;
+
+const _: () = prove!(
+    IMAGE_COMDAT_SELECT_NODUPLICATES == 1
+        && IMAGE_COMDAT_SELECT_ANY == 2
+        && IMAGE_COMDAT_SELECT_SAME_SIZE == 3
+        && IMAGE_COMDAT_SELECT_EXACT_MATCH == 4
+        && IMAGE_COMDAT_SELECT_ASSOCIATIVE == 5
+        && IMAGE_COMDAT_SELECT_LARGEST == 6
+);
