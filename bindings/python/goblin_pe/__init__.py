@@ -23,7 +23,7 @@ an Image with a tuple of rows for each table. `python -m goblin_pe FILE..` lists
 Rows are named tuples, and stay when the file is closed. Names are bytes, because they need not be
 UTF-8. `printable` makes a text of a name that can't harm a terminal. A field or argument `rva` is
 an address relative to the image base, and an `offset` is a place in the file. From the address 2**32
-on nothing is mapped. Sizes are in bytes.
+on nothing is mapped, and in objects and Terse Executables nothing at all. Sizes are in bytes.
 
 A small file can list very much: 256 KiB can list 850 million imports. So calls whose work depends
 on the tables have an argument `budget`, a Budget of steps, and raise OutOfSteps when it is used up.

@@ -138,7 +138,7 @@ def asked_of(words: List[str]) -> argparse.Namespace:
     parser = argparse.ArgumentParser(
         prog="python -m goblin_pe", formatter_class=argparse.RawDescriptionHelpFormatter,
         description="Lists PE images, COFF objects and Terse Executables.",
-        epilog="MAPPING is one of:\n  as-loaded          as Windows maps (the default)\n  by-file-alignment  as pefile maps: as-loaded without the "
+        epilog="MAPPING is one of:\n  as-loaded          as Windows maps (the default)\n  by-file-alignment  nearly as pefile maps: as-loaded without the "
                "headers\n  as-stored          as goblin and pe_list map: raw pointers as stored, without the headers\n"
                "  identity           an address is a file offset: for a dump of an image in memory")
     parser.add_argument("--json", action="store_true", help="write a line of JSON for each file")

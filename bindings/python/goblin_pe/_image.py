@@ -299,7 +299,7 @@ class Image:
     @property
     def optional_header(self) -> OptionalHeader | None:
         """The optional header, or None if the file has none. Then it has no data directories, and no
-        address has a file offset."""
+        address has a file offset, except by Mapping.IDENTITY."""
         if not self._record.has_optional_header:
             return None
         header: OptionalHeader = read(OptionalHeader, self._record.optional_header)
@@ -408,8 +408,8 @@ class Image:
             return export_directory(found)
 
     def find_export(self, name: bytes | str, budget: Budget | None = None) -> Export | None:
-        """The first export of this name that `exports` gives; None if there is none, or if the options
-        cut the name."""
+        """The first export of this name that `exports` gives; None if there is none, or if the name is
+        longer than `longest_name`."""
         wanted, longest = _bytes_of(name), self.options.longest_name
         if longest is not None and len(wanted) > longest:
             return None

@@ -20,8 +20,8 @@ class Mapping(Number):
 
     AS_LOADED: as Windows maps. The raw pointer is rounded down to a multiple of 512 if the file
         alignment is at least 512. The headers are mapped at address 0.
-    BY_FILE_ALIGNMENT: as pefile maps. The raw pointer is rounded as by AS_LOADED. The headers are not
-        mapped.
+    BY_FILE_ALIGNMENT: nearly as pefile maps. The raw pointer is rounded as by AS_LOADED. The headers
+        are not mapped.
     AS_STORED: as goblin maps. The raw pointer is used as stored. The headers are not mapped. A
         section may reach up to 511 bytes too far if its raw pointer is not a multiple of 512.
     IDENTITY: an address is a file offset. This is for a dump of an image in memory.
@@ -40,8 +40,8 @@ class Options:
 
     permissive: whether damaged parts are skipped. If not, they are refused.
     mapping: how addresses are mapped to file offsets.
-    longest_name: how many bytes of a name are read; None reads all. A longer name is cut after the
-        character that passes the limit, so a name was cut if it is longer than the limit.
+    longest_name: how many bytes of a name are read; None reads all. A longer name ends with the
+        character that passes the limit, and is whole only if that is its last.
     """
 
     permissive: bool = False

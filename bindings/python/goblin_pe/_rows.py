@@ -147,7 +147,8 @@ class Import(NamedTuple):
     """An import. An import by name has a `name` and a `hint`; an import by ordinal has an `ordinal`.
     The other fields are None. The loader puts the address of the function at `iat_rva`, which may
     pass 2**32. `library` is the index of the import descriptor, and `thunk_index` that of the entry in
-    its lookup table. In permissive mode `dll` is empty if it can't be read."""
+    its lookup table. In permissive mode, and in a walk over one library, `dll` is empty if it
+    can't be read."""
 
     dll: bytes
     name: bytes | None

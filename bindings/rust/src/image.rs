@@ -78,10 +78,11 @@ impl<'a> Image<'a> {
     ///
     /// # Errors
     /// The header, the section table or a section name is damaged. Permissive mode refuses less, but
-    /// it also refuses: a file without a whole header and section table, an optional header of an
-    /// unknown magic, more than sixteen data directories, a section name of a slash and no number, and
-    /// a Rich marker without `DanS`. [`read_partial`](Self::read_partial) reads such a file, and says
-    /// which part of the header is damaged.
+    /// it also refuses: a header or a section table that is cut off, an optional header of an unknown
+    /// magic, more than sixteen data directories, a section name of a slash and no number, and a
+    /// marker `Rich` with no marker `DanS` before it or with a broken word between them.
+    /// [`read_partial`](Self::read_partial) reads such a file, and says which part of the header is
+    /// damaged.
     pub fn read(bytes: &'a [u8], options: Options) -> Result<Image<'a>, Error> {
         let (of, length) = (bytes.as_ptr(), bytes.len());
         // SAFETY: the slice has this length.
@@ -271,7 +272,8 @@ impl<'a> Image<'a> {
         &self.record.coff_header
     }
 
-    /// The optional header. If it is `None`, there are no directories, and no address has an offset.
+    /// The optional header. If it is `None`, there are no directories, and no address has an offset,
+    /// except by [`Mapping::Identity`](crate::Mapping::Identity).
     #[must_use]
     pub const fn optional_header(&self) -> Option<&OptionalHeader> {
         if self.record.has_optional_header {
@@ -434,8 +436,8 @@ impl<'a> Image<'a> {
         Ok(ExportDirectory::of(&it))
     }
 
-    /// The first export of this name, as the walk gives it; `None` if there is none, or if the options
-    /// cut this name.
+    /// The first export of this name, as the walk gives it; `None` if there is none, or if the name is
+    /// longer than the limit of the options.
     ///
     /// # Errors
     /// As a walk over the exports, and [`ErrorKind::Steps`](crate::ErrorKind::Steps).
@@ -511,8 +513,9 @@ impl<'a> Image<'a> {
     }
 
     /// The file offset of an RVA, as the mapping of the options says. The offset may lie past the end
-    /// of the file. `None` if no section and no mapped header is there, if zeros after raw data are
-    /// there, or if the file alignment is no power of two.
+    /// of the file. `None` in an object or a Terse Executable. If sections map RVAs, also `None` if no
+    /// section and no mapped header is there, if zeros after raw data are there, or if the file
+    /// alignment is no power of two.
     #[must_use]
     pub fn find_offset(&self, rva: u32) -> Option<usize> {
         let mut offset = 0;

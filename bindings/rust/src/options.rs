@@ -18,9 +18,9 @@ use crate::ffi;
 pub struct Options {
     /// How addresses are mapped to file offsets, and where the data of a section begins.
     pub mapping: Mapping,
-    /// How many bytes of a name are read; 0 is no limit. A longer name is cut after the character
-    /// that reaches past the limit, so a name that is longer than the limit was cut. The limit
-    /// holds for the names of DLLs, imports, exports, symbols and sections, for forwarders and for
+    /// How many bytes of a name are read; 0 is no limit. A longer name ends with the character that
+    /// passes the limit, and is whole only if that is its last. The limit holds for the names of
+    /// DLLs, imports and exports, for names in a string table, for forwarders and for
     /// [`Image::text_at`](crate::Image::text_at).
     pub longest_name: u32,
     /// Whether damaged parts are skipped. If not, they are refused.
@@ -88,7 +88,7 @@ pub enum Mapping {
     /// 512, and the headers are mapped at address 0.
     #[default]
     AsLoaded = 0,
-    /// As pefile maps: as [`AsLoaded`](Self::AsLoaded), without the headers.
+    /// As [`AsLoaded`](Self::AsLoaded), without the headers: nearly as pefile maps.
     ByFileAlignment = 1,
     /// As goblin maps: the raw pointer is taken as stored, and the headers are not mapped. A
     /// section may reach up to 511 bytes too far if its raw pointer is not a multiple of 512.

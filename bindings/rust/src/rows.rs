@@ -274,7 +274,7 @@ pub struct RichEntry {
 #[derive(Clone, Copy, Debug, PartialEq, Eq, PartialOrd, Ord, Hash)]
 #[non_exhaustive]
 pub struct Import<'a> {
-    /// The name of the DLL; empty if permissive mode could not read it.
+    /// The name of the DLL; empty if it can't be read, in permissive mode or in a walk over one library.
     pub dll: Text<'a>,
     /// What is imported: a name or an ordinal.
     pub name: Imported<'a>,
