@@ -7,7 +7,7 @@ import itertools
 import os
 import struct
 import sys
-from typing import Callable, Dict, Iterator, List, NamedTuple, Tuple, Union
+from typing import Callable, Iterator, List, NamedTuple, Tuple, Union
 
 from goblin_pe import DirectoryType, Image, Kind, Options, PeError, Section, constants, printable
 
