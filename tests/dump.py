@@ -69,7 +69,7 @@ def shown(it, name=""):
 
 
 def row(it, **more):
-    """A row of fields, some of which have another text."""
+    """A row of fields. Some have another text."""
     kind = type(it).__name__
     return struct(kind, ((name, more.get(name) or (some if (kind, name) in OPTIONAL else shown)(value, name))
                          for name, value in zip(it._fields, it)))
