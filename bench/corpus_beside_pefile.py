@@ -1,7 +1,7 @@
 #!/usr/bin/env python3
 """Measures how many files a second the example corpus.py reads, and how many pefile reads in its place: corpus_beside_pefile.py
 FOLDER [PROCESSES..]. Both make the same rows, and the same function hands the files to processes. The files are read once before,
-so that they are in memory. If the machine is busy, compare the times of the processor. The last line says how many rows are alike, without the damage, which pefile does not report."""
+so that they are in memory. If the machine is busy, compare the times of the processor. The last line says how many rows are alike, without what is skipped, which pefile does not count."""
 import hashlib
 import os
 import pathlib

@@ -81,14 +81,17 @@ class Walk:
         self.image, self.row, self.word = image, getattr(records(), row), word
         self.cursor = cursor or getattr(records(), kind)()
         self.batch, self.rows = records().Batch(), []
+        self.counts = 0, 0
 
     def call(self, room, steps=None):
-        """Makes one call and returns its fault. `steps` is passed by reference. The rows that the call gives are kept."""
+        """Makes one call and returns its fault. `steps` is passed by reference. The rows that the call gives are kept, and the sums of
+        what it skips and what is unmapped."""
         rows = (self.row * max(room, 1))()
         counted = [steps and c.byref(steps)] if self.word in COUNTED else []
         fault = getattr(calls(), f"goblin_pe_next_{self.word}")(
             c.byref(self.image), c.byref(self.cursor), rows, room, *counted, c.byref(self.batch))
         self.rows += map(value, rows[: self.batch.count])
+        self.counts = self.counts[0] + self.batch.skipped, self.counts[1] + self.batch.unmapped
         return fault
 
     def walk(self, room, most=1 << 20):

@@ -8,7 +8,7 @@ ADDRESSES = (0, 1, 0x1000, 0x1010, 0x2004, 0x30FF, 0x4000, 0x5000)
 OFFSETS = (0, 0x1FF, 0x400, 0x600, 0x9FF)
 # The fields that Rust has as an Option, and those that it has as a list of bytes.
 OPTIONAL = {("Export", "name"), ("Export", "offset"), ("Export", "forwarder"), ("ExportDirectory", "name"), ("Symbol", "name"),
-            ("Memory", "section"), *(("Damage", it) for it in ("section_names", "imports", "exports", "relocations"))}
+            ("Memory", "section")}
 BYTES = ("stored_name", "aux_bytes", "entries", "stored", "bytes")
 # The fields of each kind of auxiliary record.
 AUXILIARY = {"FunctionDefinition": "tag_index total_size pointer_to_line_number pointer_to_next_function",
@@ -22,14 +22,17 @@ class Out(list):
     def put(self, *words):
         self.append(" ".join(map(str, words)))
 
-    def rows(self, walk):
-        """Rows, and the error at which they end."""
+    def rows(self, name, walk, most=None):
+        """The rows of a walk, the error at which they end, and what it counts."""
+        rows = []
         try:
-            for row in walk:
+            for row in itertools.islice(walk, most):
                 self.put(shown(row))
-                yield row
+                rows.append(row)
         except package().PeError as error:
             self.put(kind_of(error), shown(error))
+        self.put(f"{name} skipped={walk.skipped} unmapped={walk.unmapped}")
+        return rows
 
 
 def words_of(name):
@@ -104,12 +107,7 @@ def memory(it):
     return row(it).replace(f"data: {text(it.data)}", f"bytes: {list(it.data)}")
 
 
-def damage(it):
-    parts = {name: some(error and f"Error({error.args[0]})") for name, error in zip(it._fields[:5], it)}
-    return row(it, **{**parts, "dos_stub": "None", "is_sound": "false"})
-
-
-ROWS = {"Import": an_import, "Library": library, "Forwarder": forwarder, "Auxiliary": auxiliary, "Memory": memory, "Damage": damage}
+ROWS = {"Import": an_import, "Library": library, "Forwarder": forwarder, "Auxiliary": auxiliary, "Memory": memory}
 
 
 def result(call, *arguments, to=shown):
@@ -134,21 +132,21 @@ def tables(out, image):
     for section in image.sections:
         out.put(shown(section), list(section.to_bytes()))
         out.put(shown(section.data(image)))
-        list(out.rows(section.relocations(image, budget(100))))
+        out.rows("relocations", section.relocations(image, budget(100)))
         out.put(some(image.section_by_name(section.name)))
-    list(out.rows(itertools.islice(image.rich_entries(), 100)))
-    list(out.rows(image.imports(budget(300))))
-    for it in list(out.rows(image.libraries(budget(20)))):
-        list(out.rows(it.imports(image, budget(100))))
+    out.rows("rich_entries", image.rich_entries(), 100)
+    out.rows("imports", image.imports(budget(300)))
+    for it in out.rows("libraries", image.libraries(budget(20))):
+        out.rows("imports", it.imports(image, budget(100)))
     out.put(result(image.export_directory, to=some))
-    for export in list(out.rows(image.exports(budget(300))))[:20]:
+    for export in out.rows("exports", image.exports(budget(300)))[:20]:
         out.put(result(image.find_export_by_ordinal, export.ordinal, to=some))
         out.put(result(image.find_export, export.name or b"", budget(300), to=some))
-    for address in list(out.rows(image.export_addresses(budget(300)))):
+    for address in out.rows("export_addresses", image.export_addresses(budget(300))):
         out.put(some(result(image.forwarder_at, address.rva) if address.is_forwarder else None))
-    for block in list(out.rows(image.relocation_blocks(budget(20)))):
+    for block in out.rows("relocation_blocks", image.relocation_blocks(budget(20))):
         out.put(shown(list(block.relocations())))
-    for symbol in list(out.rows(image.symbols(budget(300)))):
+    for symbol in out.rows("symbols", image.symbols(budget(300))):
         out.put(some(symbol.auxiliary()), result(image.symbol_at, symbol.index, to=some))
         out.put(some(image.section_by_number(symbol.section_number)))
 
@@ -163,7 +161,6 @@ def facts(out, image):
         out.put(f"Ok({shown(image.patched(sections=image.sections) == image.data)})")
     except package().PeError as error:
         out.put(f"Err({kind_of(error)})")
-    out.put(result(image.damage))
 
 
 def all_names(out):

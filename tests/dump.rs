@@ -14,6 +14,15 @@ fn rows<T: Debug>(rows: impl Iterator<Item = Result<T, Error>>) -> Vec<T> {
     rows.inspect(shown).filter_map(Result::ok).collect()
 }
 
+// Prints the rows of a walk within so many steps, and what gave no row.
+fn walked<'a, T: Row<'a> + Debug>(name: &str, walk: Walk<'a, T>, steps: usize) -> Vec<T> {
+    let mut budget = Budget::steps(steps);
+    let mut walk = walk.within(&mut budget);
+    let found = rows(walk.by_ref());
+    println!("{name} skipped={} unmapped={}", walk.skipped(), walk.unmapped());
+    found
+}
+
 fn headers(image: &Image) {
     println!("{:?} {} {:#x}", image.kind(), image.entry(), image.image_base());
     println!("{:?}", [image.is_64(), image.is_dll(), image.is_lib(), image.is_driver(), image.is_exe()]);
@@ -23,31 +32,32 @@ fn headers(image: &Image) {
 }
 
 fn tables(image: &Image) {
-    let budget = Budget::steps;
     for section in image.sections() {
         println!("{section:?} {:?}", section.to_bytes());
         println!("{:?}", section.data(image));
-        rows(section.relocations(image).within(&mut budget(100)));
+        walked("relocations", section.relocations(image), 100);
         println!("{:?}", image.section_by_name(section.name));
     }
-    rows(image.rich_entries().take(100));
-    rows(image.imports().within(&mut budget(300)));
-    for library in rows(image.libraries().within(&mut budget(20))) {
-        rows(library.imports(image).within(&mut budget(100)));
+    let mut entries = image.rich_entries();
+    rows(entries.by_ref().take(100));
+    println!("rich_entries skipped={} unmapped={}", entries.skipped(), entries.unmapped());
+    walked("imports", image.imports(), 300);
+    for library in walked("libraries", image.libraries(), 20) {
+        walked("imports", library.imports(image), 100);
     }
     println!("{:?}", image.export_directory());
-    for export in rows(image.exports().within(&mut budget(300))).into_iter().take(20) {
+    for export in walked("exports", image.exports(), 300).into_iter().take(20) {
         println!("{:?}", image.find_export_by_ordinal(export.ordinal));
         let name = export.name.unwrap_or_default();
-        println!("{:?}", image.find_export(name, &mut budget(300)));
+        println!("{:?}", image.find_export(name, &mut Budget::steps(300)));
     }
-    for address in rows(image.export_addresses().within(&mut budget(300))) {
+    for address in walked("export_addresses", image.export_addresses(), 300) {
         println!("{:?}", address.is_forwarder.then(|| image.forwarder_at(address.rva)));
     }
-    for block in rows(image.relocation_blocks().within(&mut budget(20))) {
+    for block in walked("relocation_blocks", image.relocation_blocks(), 20) {
         println!("{:?}", Vec::from_iter(block.relocations()));
     }
-    for symbol in rows(image.symbols().within(&mut budget(300))) {
+    for symbol in walked("symbols", image.symbols(), 300) {
         println!("{:?} {:?}", symbol.auxiliary(), image.symbol_at(symbol.index));
         println!("{:?}", image.section_by_number(symbol.section_number));
     }
@@ -62,11 +72,6 @@ fn facts(image: &Image) {
     println!("{:?}", OFFSETS.map(|it| image.string_at(it as u32)));
     let same = image.patched(&image.header(), &Vec::from_iter(image.sections()));
     println!("{:?}", same.map(|it| it == image.bytes()).map_err(|it| it.kind()));
-    let damage = image.damage(&mut Budget::unlimited()).map(|mut it| {
-        (it.dos_stub, it.is_sound) = (None, false);
-        it
-    });
-    println!("{damage:?}");
 }
 
 // The names of all numbers, and of all pairs of flags.

@@ -152,7 +152,7 @@ int main(int argc, char **argv)
     def test_each_refused_growth_of_memory_is_reported(self):
         """A walk takes memory only above 96 sections."""
         program = self.built(BINDINGS / "c/tests/memory.c", "-std=c11")
-        walks = ("damage", "directory", "imports", "libraries", "exports", "export_addresses", "relocation_blocks")
+        walks = ("directory", "imports", "libraries", "exports", "export_addresses", "relocation_blocks")
         # (an import and an export directory of zeros, and a block of two zeros)
         tables = ((0, 0x1800, 40), (1, 0x1800, 40), (5, 0x1900, 12))
         files = {count: self.written(f"{count}.dll", images.with_parts(images.image_headers(0x2000, count, 0x2000, tables), (0x1904, b"\x0c")))
@@ -167,9 +167,9 @@ int main(int argc, char **argv)
         page, made = (BINDINGS / "c/README.md").read_text("utf-8"), self.built(self.of_the_page())
         listing = re.search(r"(?s)```console\n\$ \./program < samples/(.*?)\n(.*?)```", page)
         self.assertEqual(run([made], SAMPLES / listing[1]), (0, listing[2].encode(), b""))
-        self.assertEqual(run([made], images.library(b"some.dll", [(b"Ap\x1bple", 0x3010)])), (0, b"1 0x3010 Ap?ple\n0 imports are skipped\n", b""))
+        self.assertEqual(run([made], images.library(b"some.dll", [(b"Ap\x1bple", 0x3010)])), (0, b"1 0x3010 Ap?ple\nimports: 0, skipped: 0\n", b""))
         self.assertIn(b"\n2 0x10 keep_it\n", run([made], OTHERS[0])[1])
-        self.assertIn(b"\ndamaged: ", run([made], BY_NAME.read_bytes()[:-0x400])[1])
+        self.assertEqual(run([made], BY_NAME.read_bytes()[:0x600]), (0, b"imports: 0, skipped: 1\n", b""))
         self.assertEqual(run([made], b"MZ"), (1, b"", b"the file is too short for the DOS header\n"))
 
     def test_compilers_warn_of_nothing(self):

@@ -1,10 +1,10 @@
 """The library's calls, made by the test program pe_replay: headers that are written back, footprints, files that agree on them,
-addresses among many sections, walks, damage, and each growth of memory refused."""
+addresses among many sections, walks, and each growth of memory refused."""
 import ast
 import struct
 
 from tests import images
-from tests.programs import BY_NAME, IMAGES, PE_REPLAY, Case, beside, build_pe_replay, run, with_memory
+from tests.programs import IMAGES, PE_REPLAY, Case, beside, build_pe_replay, run, with_memory
 
 # The forms of a call: without options, or by those of a mode.
 MODES = ("strict", "permissive")
@@ -57,7 +57,6 @@ TAKE_NONE = [
     (MODES, "index_of_no_alignment", "0"),
     (MODES, "index_of_offsets", "0"),
     (MODES, "layout", "1"),
-    (MODES, "damage", "0"),
     (DEFAULT, "no_imports", "0"),
     (EACH, "exports_of_no_bytes", "0"),
 ]
@@ -204,32 +203,3 @@ class Walks(Case):
         image = images.shared_image(libraries=4, functions=3)
         struct.pack_into("<I", image, 0xC8 + 8, 0x9000)
         self.assert_shows(image, b"0\nthe address 0x9000 has no offset in the file\n", "imports")
-
-
-class Damage(Case):
-    PARTS = ("stub", "section names", "imports", "exports", "relocations")
-
-    def assert_damaged(self, stdin, libraries=0, entries=0, unmapped=0, **causes):
-        wanted = "".join(f"{part}: {causes.get(part, 'sound')}\n" for part in self.PARTS)
-        wanted += f"left out: {libraries} libraries, {entries} entries\nby both modes: {unmapped} entries\n"
-        self.assert_runs([PE_REPLAY, "damage"], (0, wanted.encode(), b""), stdin)
-
-    def test_no_sample_is_damaged(self):
-        for sample in IMAGES:
-            with self.subTest(sample=sample.name):
-                self.assert_damaged(sample)
-
-    def test_each_part_for_itself(self):
-        """The name of a library and the base relocations are at addresses that no section maps."""
-        image = images.shared_image(libraries=4, functions=3)
-        struct.pack_into("<I", image, 0x200 + 12, 0x9000)
-        struct.pack_into("<II", image, 0xC8 + 8 * 5, 0xA000, 8)
-        unmapped = "the address 0x%x has no offset in the file"
-        self.assert_damaged(image, imports=unmapped % 0x9000, relocations=unmapped % 0xA000)
-
-    def test_imports_that_are_hidden(self):
-        """Permissive mode hides the import of a directory at file offset 0; both modes hide one that leads nowhere."""
-        front, nowhere = images.directory_in_front(), images.import_from_nowhere(BY_NAME.read_bytes())
-        for image, strictly, left_out in ((front, b"1\n", (1, 1, 0)), (nowhere, b"0\n", (0, 0, 1))):
-            self.assert_runs([PE_REPLAY, "imports"], (0, strictly, b""), image)
-            self.assert_damaged(image, *left_out)

@@ -119,22 +119,24 @@ class Changes(Case):
         self.assertIn(".text 0x3 of type 0x4: keep_it\n", printed)
         self.assertRegex(printed, r"(?m)^symbol \d+ in section 1 at 0x0: .text \(\d+ bytes\)$")
 
-    def test_an_image_of_many_imports_is_not_called_damaged(self):
-        """Of more than 65,536, nor one that needs more than all steps."""
+    def test_many_imports_are_counted(self):
+        """More than 65,536, and no more than the steps allow."""
         printed = succeed([built("damage"), self.written("many.dll", images.large_image(libraries=70, functions=1024, exports=0, blocks=0))])
-        self.assertEqual(printed.splitlines()[-3:], ["sound", "imports as Windows maps: 71680", "imports as goblin maps: 71680"])
+        counts = "71680, 0 skipped, 0 lead nowhere"
+        self.assertEqual(printed, f"imports as Windows maps: {counts}\nexports: 0, 0 skipped, 0 lead nowhere\nimports as goblin maps: {counts}\n")
         printed = succeed([built("damage"), self.written("more.dll", images.large_image(libraries=256, functions=1024, exports=0, blocks=0))])
-        self.assertEqual({it.partition(": ")[2] for it in printed.splitlines()}, {"not known, because it needs more than 500000 steps"})
+        self.assertEqual(printed.count("maps: not known, because it needs more than 500000 steps\n"), 2)
 
     def test_damage_is_reported(self):
-        sound = b"skipped: 0 libraries, 0 imports and 0 exports\nimports that lead nowhere: 0\nsound\nimports as Windows maps: 1\nimports as goblin maps: 1\n"
-        self.assertEqual(run([built("damage"), BY_NAME]), (0, sound, b""))
+        sound = [f"{table}, 0 skipped, 0 lead nowhere" for table in ("imports as Windows maps: 1", "exports: 2", "imports as goblin maps: 1")]
+        self.assertEqual(succeed([built("damage"), BY_NAME]).splitlines(), sound)
         printed = run([built("damage"), self.written("cut.dll", BY_NAME.read_bytes()[:0x1E0])])[1].decode().splitlines()
         self.assertEqual(printed[0], "refused: there are not enough bytes, or not enough room")
         self.assertTrue(printed[1].startswith("section table: "), printed)
+        self.assertIn("exports: 0, 1 skipped, 0 lead nowhere", printed)
         for size in range(0, BY_NAME.stat().st_size, 16):
             status, printed, _ = run([built("damage"), self.written("cut.dll", BY_NAME.read_bytes()[:size])])
-            self.assertIn((status, b"\nsound\n" in printed), ((1, False), (0, False), (0, True)))
+            self.assertFalse(status and printed.decode().splitlines() == sound)
 
 
 class WithExamples(Case):
@@ -275,7 +277,7 @@ class Corpus(WithExamples):
     """A row for each file."""
 
     FACTS = {"kind": "image", "machine": "COFF_MACHINE_X86_64", "time_date_stamp": 0, "sections": 4, "overlay": 0, "rich_hash": None,
-             "imphash": "27abfd9cfda7519d5efb3f08a2a4f3ce", "imports": 1, "exports": 2, "is_sound": True, "state": "read"}
+             "imphash": "27abfd9cfda7519d5efb3f08a2a4f3ce", "imports": 1, "exports": 2, "skipped": 0, "state": "read"}
 
     def folder_of_files(self):
         """Paths, and the state of each."""
@@ -364,7 +366,7 @@ int main(void)
             with self.subTest(index=index):
                 self.assertEqual((status, errors), (0, b""))
                 if not index:
-                    self.assertEqual(out, b"KERNEL32.dll GetTickCount\n")
+                    self.assertEqual(out, b"KERNEL32.dll GetTickCount\nskipped: 0\n")
 
     def test_in_c(self):
         text = (self.C % self.program("c")).encode()
@@ -383,7 +385,7 @@ int main(void)
         self.written("src/main.rs", (self.RUST % self.program("rust")).encode())
         self.written("Cargo.toml", b'[package]\nname = "readme"\nedition = "2024"\n[dependencies]\ngoblin_pe.path = "%s"\n[workspace]\n' % str(BINDINGS / "rust").encode())
         printed = succeed(["cargo", "-q", "--offline", "run"], cwd=self.folder, env=environment(GOBLIN_PE_LIB=str(library()), CARGO_TARGET_DIR=str(folder() / "rust")))
-        self.assertEqual(printed, "GetTickCount from KERNEL32.dll\n")
+        self.assertEqual(printed, "GetTickCount from KERNEL32.dll\nskipped: 0\n")
 
 
 class Ends(Case):

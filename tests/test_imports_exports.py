@@ -1,4 +1,4 @@
-"""Imports and exports: what both modes list and what permissive mode skips, damage, names up to a limit, and sections that overlap.
+"""Imports and exports: what both modes list and what permissive mode skips, names up to a limit, and sections that overlap.
 
 Each table has files whose every byte is known, and what is read of them."""
 import ctypes
@@ -134,12 +134,9 @@ ADDRESSES = [(1, 0x1010, False), (2, 0x10E0, True)]
 CUT_HINT = (0x240, b"\xFF\x10")
 RECORD = struct.pack("<5I", 0x1040, 0, 0, 0x1080, 0x1060)
 THREE_RECORDS = [(0x214, RECORD), (0x224, b"\0\x90"), (0x228, RECORD)]
-# An import directory at file offset 0, also with an address table that no section maps, and with three hints: one that no section
-# maps, one that is cut, and its own.
+# An import directory at file offset 0.
 FRONT = images.directory_in_front()
-UNMAPPED_IN_FRONT = images.with_parts(FRONT, (0x10, struct.pack("<I", 0x9260)))
-THREE_IN_FRONT = images.with_parts(FRONT, (0x260, struct.pack("<4I", 0x9000, 0x12FF, 0x1290, 0)))
-# Files, how many libraries and entries permissive mode skips, and how many entries both modes skip. Both modes report the same.
+# Files, and how many libraries permissive mode skips, how many tables and imports, and how many imports lead nowhere.
 SKIPPED = [
     ("an address table that no section maps", sample((0x210, b"\0\x90")), (1, 0, 0)),
     ("a hint that is not whole", sample(CUT_HINT), (0, 1, 0)),
@@ -147,21 +144,19 @@ SKIPPED = [
     ("a hint that no section maps", sample((0x240, b"\0\x90")), (0, 0, 1)),
     ("a hint that no section maps, of a library whose address table cannot be read", sample((0x240, b"\0\x90"), (0x210, b"\0\x90")), (1, 0, 0)),
     ("the entries of two libraries, and a third library", sample(CUT_HINT, *THREE_RECORDS), (1, 2, 0)),
-    ("a directory at file offset 0", FRONT, (1, 1, 0)),
-    ("an ordinal in a directory at file offset 0", images.with_parts(FRONT, (0x260, struct.pack("<I", 1 << 31 | 7))), (1, 1, 0)),
-    ("a directory at file offset 0, of a library whose address table cannot be read", UNMAPPED_IN_FRONT, (1, 0, 0)),
-    ("three hints in a directory at file offset 0, the first without a section that maps it", THREE_IN_FRONT, (1, 2, 1)),
-    ("a directory without a record at file offset 0", images.with_parts(FRONT, (0x0C, bytes(4))), (0, 0, 0)),
-    ("an address that no section maps", sample((0xC0, struct.pack("<I", 0x9000))), (0, 0, 0)),
+    ("a directory at file offset 0", FRONT, (0, 1, 0)),
+    ("an address that no section maps", sample((0xC0, struct.pack("<I", 0x9000))), (0, 1, 0)),
 ]
-# Files with one damaged part, why strict mode refuses it, and how many libraries and entries are skipped.
+# Files with one damaged part, why strict mode refuses it, and what permissive mode skips.
 DAMAGED = [
-    ("a section's name that is no text", sample((0x138, b"/\xFF\0\0\0\0\0\0")), "section_names", ("MALFORMED", "NAME_TEXT", 0, 0), (0, 0)),
-    ("an address table that no section maps", sample((0x211, b"\x90")), "imports", ("MALFORMED", "UNMAPPED", 0x9060, 0), (1, 0)),
-    ("a hint that would pass the file", sample(CUT_HINT), "imports", ("MALFORMED", "HINT_ENTRY", 0x2FF, 0), (0, 1)),
-    ("16 of the 40 bytes of an export directory's record", sample((0xB8, b"\xF0")), "exports", ("MALFORMED", "EXPORT_TABLE", 0x2F0, 0), (0, 0)),
-    ("base relocations that pass the file", sample((0xE0, b"\xF8\x10\0\0\x09")), "relocations", ("MALFORMED", "RELOC_RANGE", 0x2F8, 9), (0, 0)),
-    ("a stub that would begin after its end", moved_headers(), "dos_stub", ("MALFORMED", "STUB_BEFORE_START", 0x10, 0), (0, 0)),
+    ("a section's name that is no text", sample((0x138, b"/\xFF\0\0\0\0\0\0")), ("MALFORMED", "NAME_TEXT", 0, 0), {}),
+    ("an address table that no section maps", sample((0x211, b"\x90")), ("MALFORMED", "UNMAPPED", 0x9060, 0), {"imports": 1}),
+    ("a hint that would pass the file", sample(CUT_HINT), ("MALFORMED", "HINT_ENTRY", 0x2FF, 0), {"imports": 1}),
+    ("16 of the 40 bytes of an export directory's record", sample((0xB8, b"\xF0")), ("MALFORMED", "EXPORT_TABLE", 0x2F0, 0),
+     {"exports": 1, "export_addresses": 1}),
+    ("base relocations that pass the file", sample((0xE0, b"\xF8\x10\0\0\x09")), ("MALFORMED", "RELOC_RANGE", 0x2F8, 9),
+     {"relocation_blocks": 1}),
+    ("a stub that would begin after its end", moved_headers(), ("MALFORMED", "STUB_BEFORE_START", 0x10, 0), {}),
 ]
 
 # Two sections that overlap, each with a library, an import and an export of its own. The import descriptor at 0x1000 and the
@@ -229,18 +224,24 @@ class Read(unittest.TestCase):
         """Strict mode refuses a file for this cause."""
         self.assertEqual(refusal(read, data), wanted)
 
-    def assert_table(self, found, table, walk, wanted, state):
-        """A walk gives these rows, also with a call for each row."""
-        self.assertEqual(found.table_state(package().Table[table]).name, state)
+    def counts(self, walk):
+        """What a walk counts to its end."""
+        list(walk)
+        return walk.skipped, walk.unmapped
+
+    def assert_table(self, make, wanted, skipped):
+        """A walk gives these rows, also with a call for each row. If a number is given, it skips as many."""
         for room in (256, 1):
             with mock.patch.multiple(inner("_walk"), _FIRST=room, _ROOM=room):
-                self.assertEqual(list(walk()), wanted)
+                walk = make()
+                self.assertEqual(list(walk), wanted)
+                self.assertIn(skipped, (None, walk.skipped))
 
-    def assert_imports(self, found, wanted, state="PRESENT"):
-        self.assert_table(found, "IMPORTS", found.imports, wanted, state)
+    def assert_imports(self, found, wanted, skipped=None):
+        self.assert_table(found.imports, wanted, skipped)
 
-    def assert_exports(self, found, wanted, state="PRESENT"):
-        self.assert_table(found, "EXPORTS", found.exports, wanted, state)
+    def assert_exports(self, found, wanted, skipped=None):
+        self.assert_table(found.exports, wanted, skipped)
 
 
 class Imports(Read):
@@ -280,8 +281,7 @@ class Exports(Read):
                 with self.assertRaisesRegex(package().PeError, f"769 {name}$"):
                     next(image(data).exports())
                 found = image(data, permissive=True)
-                self.assert_exports(found, [], "REFUSED")
-                self.assertEqual((error_of(found.damage().exports), str(found.damage().exports)[-len(name):]), (refused, name))
+                self.assert_exports(found, [], 1)
 
     def test_forwarders_name_a_dll_and_a_name_or_an_ordinal(self):
         for text, wanted in FORWARDERS:
@@ -295,7 +295,7 @@ class Exports(Read):
             with self.subTest(text):
                 pe = read(images.library(b"a.dll", [(b"f", text)]))
                 self.assertEqual((pe.exports, [it.is_forwarder for it in pe.export_addresses]), ((), [True]))
-                self.assertEqual(pe.image.damage().skipped_exports, 1)
+                self.assertEqual((pe.skipped["exports"], pe.unmapped["exports"]), (0, 1))
                 self.assertRaises(package().PeError, pe.image.forwarder_at, pe.export_addresses[0].rva)
 
 
@@ -473,43 +473,45 @@ class Forged(unittest.TestCase):
             self.assertEqual(parts, whole, (kind.table, bytes(begin).hex(), len(data), permissive))
 
 
-class Damage(Read):
-    def test_libraries_and_entries_that_are_skipped_are_counted_whatever_the_mode(self):
-        for name, data, wanted in SKIPPED:
-            for permissive in MODES:
-                with self.subTest(name, permissive=permissive):
-                    self.assertEqual(image(data, permissive=permissive).damage()[5:9], (*wanted, 0))
+class Skipped(Read):
+    def test_imports_and_libraries_that_are_skipped_are_counted(self):
+        for name, data, (libraries, others, unmapped) in SKIPPED:
+            with self.subTest(name):
+                found = image(data, permissive=True)
+                self.assertEqual(self.counts(found.imports()), (libraries + others, unmapped))
+                self.assertEqual(sum(it.is_skipped for it in found.libraries()), libraries)
 
     def test_a_walk_in_strict_mode_marks_each_library_that_is_skipped(self):
         for name, data, wanted in SKIPPED[:-1]:
             with self.subTest(name):
-                self.assertEqual(sum(it.is_skipped for it in image(data).libraries()), wanted[0])
+                walk = image(data).libraries()
+                self.assertEqual(sum(it.is_skipped for it in walk), wanted[0])
+                self.assertEqual((walk.skipped, walk.unmapped), (0, 0))
 
     def test_a_directory_at_file_offset_0_is_listed_in_strict_mode_alone(self):
         strict, permissive = (image(FRONT, permissive=it) for it in MODES)
         self.assert_imports(strict, [(b"evil.dll", b"WinExec", 0, None, 0x1260, 0x1290, 0, 0)])
-        self.assert_imports(permissive, [])
-        self.assertEqual((strict.damage(), permissive.damage()), ((*[None] * 5, 1, 1, 0, 0, False),) * 2)
+        self.assert_imports(permissive, [], 1)
 
     def test_an_import_that_leads_nowhere_is_counted_in_both_modes(self):
         for permissive in MODES:
             with self.subTest(permissive=permissive):
                 found = image(images.import_from_nowhere(BY_NAME.read_bytes()), permissive=permissive)
                 self.assert_imports(found, [])
-                self.assertEqual(found.damage(), (*[None] * 5, 0, 0, 1, 0, True))
+                self.assertEqual(self.counts(found.imports()), (0, 1))
 
-    def test_a_sound_file_has_no_damage_in_either_mode(self):
+    def test_nothing_of_a_whole_file_is_skipped(self):
         for permissive in MODES:
-            with self.subTest(permissive=permissive):
-                self.assertEqual(image(sample(), permissive=permissive).damage(), (*[None] * 5, 0, 0, 0, 0, True))
+            pe = read(sample(), permissive=permissive)
+            self.assertEqual({*pe.skipped.values(), *pe.unmapped.values()}, {0})
 
-    def test_damage_is_found_part_by_part(self):
-        for name, data, part, refused, skipped in DAMAGED:
+    def test_what_strict_mode_refuses_is_counted(self):
+        for name, data, refused, skipped in DAMAGED:
             with self.subTest(name):
                 self.assert_refused(data, refused)
-                damage = image(data, permissive=True).damage()
-                self.assertEqual({it: error_of(why) for it, why in damage.errors().items()}, {part: refused})
-                self.assertEqual(damage[5:], (*skipped, 0, 0, False))
+                pe = read(data, permissive=True)
+                self.assertEqual({it: count for it, count in pe.skipped.items() if count}, skipped)
+                self.assertEqual({*pe.unmapped.values()}, {0})
 
 
 class WholeFiles(Read):
@@ -534,7 +536,6 @@ class WholeFiles(Read):
                 pe = read(sample(), permissive=permissive)
                 self.assertEqual({i: it for i, it in enumerate(pe.image.directories) if any(it)}, {0: (0x10A0, 0x60), 1: (0x1000, 0x28)})
                 self.assertEqual(list(pe.sections), [(b".rdata", b".rdata\0\0", 0, 0x100, 0x1000, 0x100, 0x200, 0, 0, 0, 0, 0)])
-                self.assertEqual(pe.image.table_state(package().Table.RELOCATIONS), package().TableState.ABSENT)
                 self.assertEqual(pe.relocation_blocks, ())
 
     def test_what_the_export_directory_leads_to(self):
@@ -552,10 +553,9 @@ class WholeFiles(Read):
                 self.assertEqual(list(found.export_addresses()), ADDRESSES)
                 self.assertEqual((found.export_directory().name, found.export_directory().number_of_name_pointers), (b"a.dll", 769))
                 self.assertEqual(found.find_export_by_ordinal(1), ADDRESSES[0])
-                self.assertEqual(found.damage().exports and found.damage().exports.numbers[0], 769)
         self.assert_refused(data, ("TOO_SHORT", None, 769, 0))
         pe = read(data, permissive=True)
-        self.assert_exports(pe.image, [], "REFUSED")
+        self.assert_exports(pe.image, [], 1)
         self.assertEqual((pe.exports, list(pe.export_addresses)), ((), ADDRESSES))
         more = image(sample((0x2B4, b"\x01\x03"), (0x2B8, b"\x01\x03")))
         with self.assertRaisesRegex(package().PeError, "769 address table entries$"):
@@ -593,7 +593,7 @@ class WholeFiles(Read):
                 self.assert_exports(found, [UNFORWARDED, FORWARDED])
         found = image(data, permissive=True)
         self.assert_imports(found, [])
-        self.assert_exports(found, [], "REFUSED")
+        self.assert_exports(found, [], 1)
 
 
 class InTheHeaders(Read):
@@ -610,7 +610,7 @@ class InTheHeaders(Read):
         hidden = (b"a.dll", b"VirtualAlloc", 0, None, 0x1060, 0x1A0, 0, 0)
         self.assert_imports(goblin, [SEVEN])
         self.assert_imports(loader, [hidden, SEVEN])
-        self.assertEqual((goblin.damage().unmapped_entries, loader.damage().unmapped_entries), (1, 0))
+        self.assertEqual([self.counts(it.imports()) for it in (goblin, loader)], [(0, 1), (0, 0)])
         self.assert_imports(image(data, mapping="AS_LOADED"), [hidden, SEVEN])
         self.assertEqual((loader.find_offset(0x1A0), loader.find_rva(0x1A0), goblin.find_offset(0x1A0)), (0x1A0, 0x1A0, None))
         memory = loader.memory_at(0x1A2, 12)
@@ -619,11 +619,9 @@ class InTheHeaders(Read):
 
     def test_an_import_directory(self):
         data, goblin, loader = self.views((0xC0, struct.pack("<2I", 0x170, 40)), (0x170, RECORD))
-        self.assert_imports(goblin, [], "REFUSED")
+        self.assert_imports(goblin, [], 1)
         self.assert_imports(loader, [GO, SEVEN])
         self.assertEqual(refusal(read, data), ("MALFORMED", "UNMAPPED", 0x170, 0))
-        self.assertEqual(error_of(goblin.damage().imports), ("MALFORMED", "UNMAPPED", 0x170, 0))
-        self.assertIsNone(loader.damage().imports)
         self.assert_imports(image(data, mapping="AS_LOADED"), [GO, SEVEN])
 
     def test_a_library_without_a_lookup_table(self):

@@ -47,7 +47,7 @@ class Changed(Case):
         return top / "bindings"
 
     def with_a_field(self):
-        return self.changed(r"(pub struct PeDamage \{\n(?s:.*?)\n)\}\n", r"\1    /// One more.\n    pub added: u64,\n}\n")
+        return self.changed(r"(pub struct PeBatch \{\n(?s:.*?)\n)\}\n", r"\1    /// One more.\n    pub added: u64,\n}\n")
 
     def program(self, bindings, *linked):
         """Compiles a program over a header. Returns the status and the messages of the compiler."""
@@ -68,7 +68,7 @@ class Changed(Case):
 
     def test_a_layout_that_the_headers_do_not_have_is_not_built(self):
         """Two fields are exchanged in the crate, and the number of the interface stays."""
-        bindings = self.changed(r"(pub struct PeDamage \{\n)((?:    ///.*\n)+    pub .*\n)((?:    ///.*\n)+    pub .*\n)", r"\1\3\2", False)
+        bindings = self.changed(r"(pub struct PeBatch \{\n)((?:    ///.*\n)+    pub .*\n)((?:    ///.*\n)+    pub .*\n)", r"\1\3\2", False)
         shutil.copy(BINDINGS / "build", bindings)
         (self.folder / "bin").mkdir()
         self.written("bin/rt", b"#!/bin/sh\necho /\n").chmod(0o755)
@@ -77,7 +77,7 @@ class Changed(Case):
         self.assertIn(b"run bindings/generate.py", errors)
 
     def test_a_comment_on_a_field_is_no_part_of_the_interface(self):
-        bindings = self.changed(r"(pub struct PeDamage \{\n)    /// ", r"\1    /// Otherwise: ")
+        bindings = self.changed(r"(pub struct PeBatch \{\n)    /// ", r"\1    /// Otherwise: ")
         self.assertEqual(sum_in(bindings), sum_in(BINDINGS))
         self.assertNotEqual((bindings / HEADER).read_bytes(), (BINDINGS / HEADER).read_bytes())
 

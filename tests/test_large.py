@@ -46,4 +46,4 @@ class Large(Case):
             self.assertEqual(pe.image.find_offset(TABLE), POINTER + TABLE - ADDRESS)
             self.assertEqual(pe.image.find_rva(POINTER + TABLE - ADDRESS), TABLE)
             self.assertEqual(pe.image.text_at(TABLE + 0x80), b"fruits.dll")
-            self.assertEqual(pe.image.damage().errors(), {})
+            self.assertEqual(({*pe.skipped.values()}, {*pe.unmapped.values()}), ({0}, {0}))

@@ -71,11 +71,11 @@ def in_one_section(directories, make, size):
     return images.sample((0xB8, struct.pack("<4I", *directories)), (0x140, section), (begin, data))
 
 
-def imports_in_one_text(base, size, addresses=None):
+def imports_in_one_text(base, size):
     """A library whose imports have names that begin two bytes apart in one text of two-byte characters."""
     count = (size - 72) // 6
     table, text = base + 56, base + 56 + 4 * (count + 1)
-    record = struct.pack("<5I", table, 0, 0, base + 40, addresses or table).ljust(40, b"\0") + b"a.dll".ljust(16, b"\0")
+    record = struct.pack("<5I", table, 0, 0, base + 40, table).ljust(40, b"\0") + b"a.dll".ljust(16, b"\0")
     entries = struct.pack("<%dI" % (count + 1), *range(text, text + 2 * count, 2), 0)
     return record + entries + "\u00E9".encode() * (count + 2) + b"\0"
 
@@ -141,12 +141,6 @@ def walked(word, most=1 << 20, longest=0, read="read_image", permissive=False, s
     return walk
 
 
-def damage(data):
-    image, _ = image_of(data, options(longest=200))
-    found, steps = records().Damage(), c.c_size_t(STEPS)
-    return calls().goblin_pe_read_damage(c.byref(image), c.byref(found), c.byref(steps)).status, 0
-
-
 # The status of a walk without steps.
 OUT = 7
 # A call, its file, how many milliseconds of processor time it may take (ten times as many as measured), its status, and the number
@@ -163,9 +157,6 @@ ROWS = {
     "symbols of one long name that is cut": (
         walked("symbols", read="read_object", longest=200), lambda: symbols_of_one_name(MIB), 100, 0, 29127),
     "many symbols": (walked("symbols", read="read_object"), lambda: object_with_symbols(320000), 500, 0, 320000),
-    "damage of imports in one text": (damage, lambda: in_one_section(IMPORTS, imports_in_one_text, MIB // 2), 500, OUT, 0),
-    "damage of imports without an address table": (
-        damage, lambda: in_one_section(IMPORTS, lambda *of: imports_in_one_text(*of, addresses=0x70000000), MIB), 500, OUT, 0),
     "imports that are all left out": (
         walked("imports", permissive=True, steps=STEPS), lambda: in_one_section(IMPORTS, libraries_of_left_out_entries, MIB), 50, OUT, 0),
     "libraries that are all left out": (

@@ -20,11 +20,11 @@ from tests.programs import (BY_NAME, CC, IMAGES, OBJECTS, SAMPLES, TERSE, Case, 
 
 # A program in Python without a wrong type.
 TYPED = b"""from typing import List, Optional
-from goblin_pe import Budget, ErrorKind, Image, Options, Pe, PeError, Table, TableState
+from goblin_pe import Budget, ErrorKind, Image, Options, Pe, PeError
 
 def names(data: bytes) -> Optional[List[bytes]]:
     pe = Pe(data, Options(permissive=True), Budget(1000))
-    if pe.image.table_state(Table.EXPORTS) == TableState.REFUSED or pe.image.optional_header is None:
+    if pe.skipped["exports"] or pe.image.optional_header is None:
         return None
     return [x.dll + b"." + (x.name or b"%d" % (x.ordinal or 0)) for x in pe.imports]
 
@@ -100,7 +100,8 @@ class Python(Case):
             self.assertEqual((found["kind"], found["refusal"], found["ended_early"]), ("IMAGE", None, {}))
             for name in names:
                 self.assertEqual(found[name], package_.jsonable([*getattr(image, name)()]), name)
-            self.assertEqual((found["sections"], found["damage"]), (package_.jsonable(image.sections), [package_.jsonable(image.damage())]))
+            self.assertEqual(found["sections"], package_.jsonable(image.sections))
+            self.assertEqual((found["skipped"], found["unmapped"]), (dict.fromkeys((*found["skipped"],), 0), found["skipped"]))
             self.assertEqual(found["export_directory"], package_.jsonable([*filter(None, [image.export_directory()])]))
         for samples, read in (OBJECTS, package_.Image.object), (TERSE, package_.Image.te):
             for sample in samples:

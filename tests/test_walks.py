@@ -1,4 +1,4 @@
-"""Walks over one image give the same rows and take the same steps, whatever room and steps their calls have."""
+"""Walks over one image give the same rows, count the same, and take the same steps, whatever room and steps their calls have."""
 import ctypes as c
 import itertools
 import os
@@ -10,7 +10,7 @@ from tests import hostile, images
 from tests.bindings import COUNTED, OF_ROWS, WALKS, Walk, calls, image_of, library, options, records
 from tests.programs import BY_NAME, CC, IMAGES, OBJECTS, TERSE, need
 
-STEPS, KIND = 7, 8  # The status of a walk without steps, and of a call for another kind of file.
+STEPS = 7  # The status of a walk without steps.
 READS = ("read_image", "read_partial_image", "read_object", "read_te")
 
 
@@ -75,7 +75,7 @@ class Walks(unittest.TestCase):
                             self.assertEqual(self.walked(image, word, room), wanted)
 
     def walked(self, image, word, room):
-        """A walk without a limit: its rows, why it ends, and how many steps it took. Those for sections above 96 are not counted,
+        """A walk without a limit: its rows, what it counts, why it ends, and how many steps it took. Those for sections above 96 are not counted,
         because each call takes them."""
         walk, steps, taken = Walk(image, word), c.c_size_t(1 << 40), 0
         for _ in range(1 << 20):
@@ -84,7 +84,7 @@ class Walks(unittest.TestCase):
             if word in COUNTED and not fault.status:
                 taken += before - steps.value - max(image.section_count - 96, 0)
             if walk.batch.is_done:
-                return walk.rows, (fault.status, fault.cause), taken
+                return walk.rows, walk.counts, (fault.status, fault.cause), taken
         raise AssertionError(f"{word} have no end")
 
     def test_relocations_by_any_room_are_those_of_one_call(self):
@@ -103,13 +103,13 @@ class Walks(unittest.TestCase):
             for permissive, image in opened(data):
                 for word, each in itertools.product(COUNTED, (1, 2, 3, 10, 1000)):
                     with self.subTest(file=index, permissive=permissive, word=word, steps=each):
-                        rows, why, taken = self.cut(image, word, 1 << 40)
-                        cut_rows, cut_why, cut_taken = self.cut(image, word, each)
-                        self.assertEqual((cut_rows, cut_why), (rows, why))
+                        *wanted, taken = self.cut(image, word, 1 << 40)
+                        *found, cut_taken = self.cut(image, word, each)
+                        self.assertEqual(found, wanted)
                         self.assertTrue(cut_taken == taken or word == "imports" and cut_taken < taken)
 
     def cut(self, image, word, each):
-        """A walk by calls with a limit of steps: its rows, why it ends, and how many steps it took."""
+        """A walk by calls with a limit of steps: its rows, what it counts, why it ends, and how many steps it took."""
         walk, steps, taken = Walk(image, word), c.c_size_t(0), 0
         for _ in range(1 << 20):
             before = bytes(walk.cursor), len(walk.rows)
@@ -121,7 +121,7 @@ class Walks(unittest.TestCase):
                 self.assertEqual((bytes(walk.cursor), len(walk.rows)), before)
                 each += slots(image)  # (A call looks at an address table in one go.)
             elif walk.batch.is_done:
-                return walk.rows, (fault.status, fault.cause), taken
+                return walk.rows, walk.counts, (fault.status, fault.cause), taken
         raise AssertionError(f"{word} have no end")
 
     def test_a_limit_is_passed_by_no_more_than_an_address_table(self):
@@ -167,27 +167,20 @@ class Walks(unittest.TestCase):
                     break
 
     def test_libraries_and_their_imports_give_each_import_once(self):
-        """Both walks share their steps. Real files are walked, too, if the machine has any."""
+        """And count what it passes over once. Real files are walked, too, if the machine has any."""
+        at = [name for name, _ in records().Library._fields_].index("imports")
         for index, data in enumerate((*files(), *real_files())):
             for permissive, image in opened(data):
-                wanted, why = Walk(image, "imports").walk(1 << 12)
+                whole, libraries = Walk(image, "imports"), Walk(image, "libraries")
+                rows, why = whole.walk(1 << 12)
                 with self.subTest(file=index, permissive=permissive):
-                    found, steps = [], c.c_size_t(1 << 40)
-                    libraries = Walk(image, "libraries")
-                    while True:
-                        rows = (records().Library * 4)()
-                        fault = calls().goblin_pe_next_libraries(
-                            c.byref(image), c.byref(libraries.cursor), rows, 4, c.byref(libraries.batch))
-                        for row in rows[: libraries.batch.count]:
-                            walk = Walk(image, "imports", records().ImportCursor.from_buffer_copy(row.imports))
-                            walk.call(3, steps)
-                            while not walk.batch.is_done:
-                                walk.call(3, steps)
-                            found += walk.rows
-                        if libraries.batch.is_done:
-                            break
+                    found = []
+                    walks = [Walk(image, "imports", records().ImportCursor(*row[at])) for row in libraries.walk(4)[0]]
+                    for walk in walks:
+                        found += walk.walk(3)[0]
                     if not why[0]:
-                        self.assertEqual(found, wanted)
+                        self.assertEqual(found, rows)
+                        self.assertEqual(tuple(map(sum, zip(*(it.counts for it in (libraries, *walks))))), whole.counts)
 
     def test_a_cursor_of_zeros_is_the_beginning_and_others_harm_nothing(self):
         digits, image = random.Random(1), image_of(BY_NAME.read_bytes())[0]
@@ -261,9 +254,6 @@ class Walks(unittest.TestCase):
     def call_others(self, image):
         """Makes the other calls: those that neither walk nor look up."""
         r, lib, at = records(), calls(), c.byref(image)
-        damage, steps = r.Damage(), c.c_size_t(1000)
-        is_image = image.kind == 1
-        self.assertEqual(lib.goblin_pe_read_damage(at, c.byref(damage), c.byref(steps)).status == KIND, not is_image)
         out, written, section, number = (c.c_uint8 * (1 << 12))(), c.c_size_t(), r.Section(), c.c_uint32()
         lib.goblin_pe_write_header(at, out, len(out), c.byref(written))
         lib.goblin_pe_checksum(at, c.byref(number))

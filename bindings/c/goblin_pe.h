@@ -14,19 +14,18 @@
        int main(void) {
            struct goblin_pe_options options = { .is_permissive = true, .longest_name = 512 };
            struct goblin_pe_import_cursor cursor = { 0 };
-           struct goblin_pe_image image; struct goblin_pe_damage damage;
-           struct goblin_pe_batch batch; char text[GOBLIN_PE_FAULT_ROOM];
-           size_t steps = 10000, damage_steps = 100000;
-           size_t length = fread(file, 1, sizeof file, stdin);
+           struct goblin_pe_image image; struct goblin_pe_batch batch;
+           char text[GOBLIN_PE_FAULT_ROOM];
+           size_t steps = 10000, skipped = 0, length = fread(file, 1, sizeof file, stdin);
            if (length == sizeof file || ferror(stdin)) return puts("it can't be read whole"), 2;
            struct goblin_pe_fault fault = goblin_pe_read_image(file, length, &options, &image);
            if (!fault.status) do {
                fault = goblin_pe_next_imports(&image, &cursor, rows, 4096, &steps, &batch);
                for (size_t i = 0; i < batch.count; i++, putchar('\n'))
                    put(rows[i].dll), printf(" %u ", rows[i].hint_or_ordinal), put(rows[i].name);
+               skipped += batch.skipped + batch.unmapped;
            } while (!batch.is_done);
-           if (!fault.status) fault = goblin_pe_read_damage(&image, &damage, &damage_steps);
-           if (!fault.status) fault = damage.first_fault;
+           if (skipped) printf("%zu entries give no import\n", skipped);
            if (fault.status) puts(goblin_pe_fault_string(&fault, text));
            return fault.status != GOBLIN_PE_STATUS_OK;
        }
@@ -44,7 +43,8 @@
    fault    What a call returns: its status is 0 (GOBLIN_PE_STATUS_OK) when the call succeeds.
    row      One record that a walk gives: a section, an import, an export, ..
    strict and permissive
-            Strict mode refuses a damaged table. Permissive mode skips the damaged parts.
+            Strict mode refuses a damaged table. Permissive mode skips the damaged parts, and
+            counts them.
 
    Names such as IMAGE_SCN_CNT_CODE are those of the PE/COFF specification. They are in
    goblin_pe_constants.h, with the prefix GOBLIN_PE_. Machines have goblin's names there:
@@ -90,7 +90,11 @@
    The batch says what the call did:
 
        count     how many rows the call gave
+       skipped   how many entries it skipped in permissive mode: strict mode returns a fault there
+       unmapped  how many entries led nowhere: in both modes they give no row and no fault
        is_done   whether to stop: there are no more rows, or the call returned a fault
+
+   Their sums over a walk do not depend on the room and the steps of its calls.
 
    next_imports and next_exports also have an argument `steps`: see below. Every walk is this loop:
 
@@ -106,18 +110,19 @@
      is_done. (With room 0 it does not end: is_done is false unless the call returns a fault.)
    - Before the end, a call may give fewer rows than there is room for. A call of next_imports or
      next_exports may even give none. Only is_done says that the walk is over.
-   - After a fault, count is 0 and is_done is true. The cursor, the rows and the steps are
-     unchanged, so you can call again, with more steps or more memory.
+   - After a fault, is_done is true, and the numbers of the batch are 0. The cursor, the rows and the
+     steps are unchanged, so you can call again, with more steps or more memory.
    - If a row is damaged, a call first gives the rows before it. The next call returns the fault.
    - A call with room 0 gives no row, needs no steps and does not move the cursor. It returns a
      fault if strict mode refuses the table as a whole.
    - A table that the image does not have has no rows. In permissive mode neither has a table that
-     strict mode refuses as a whole. To tell the two apart, walk the strict copy with room 0.
+     strict mode refuses as a whole: the call that begins the walk counts it as one skipped entry. A
+     call with the strict copy and room 0 returns the fault.
 
    Steps
    -----
    Entries of import and export tables may give no row: a damaged image can hold millions of them.
-   So next_imports, next_exports and read_damage count steps. A step is one look at an import
+   So next_imports and next_exports count steps. A step is one look at an import
    directory entry, at an entry of a lookup or address table, or at an export name pointer. The
    calls subtract the steps that they used from *steps. If no steps are left, a call with room
    returns GOBLIN_PE_STATUS_STEPS. To see the end of a table may need a step, too. Pass a null
@@ -133,10 +138,7 @@
    There is one exception: next_libraries may look at a whole address table for each row. See
    "Hostile files".
 
-   One number of steps can serve next_imports, next_exports and read_damage, and so limit their sum.
-   read_damage uses as many steps as a permissive walk over all imports and a walk over all exports
-   together. If a strict walk over all imports needs more, as many have to be left, but read_damage
-   does not use them.
+   One number of steps can serve several walks, and so limit their sum.
 
    What the caller must do
    -----------------------
@@ -160,10 +162,9 @@
 
    Memory
    ------
-   Calls need memory only for an image with more than 96 sections. Then read_damage,
-   read_export_directory, and next_imports, _libraries, _exports, _export_addresses and
-   _relocation_blocks make an index of the sections, and free it before they return. Only these
-   return GOBLIN_PE_STATUS_MEMORY. The index has 300 bytes for each section. With 65,535 sections
+   Calls need memory only for an image with more than 96 sections. Then read_export_directory, and
+   next_imports, _libraries, _exports, _export_addresses and _relocation_blocks make an index of the
+   sections, and free it before they return. Only these return GOBLIN_PE_STATUS_MEMORY. The index has 300 bytes for each section. With 65,535 sections
    it costs 25 milliseconds a call, so walk such an image in batches of thousands of rows.
 
    Time
@@ -194,7 +195,6 @@
    find_rva                   sections, twice
    memory_at, section_data    sections
    text_at, forwarder_at      sections, and a name
-   read_damage                four times as next_imports and next_exports with these steps
    checksum                   n
    write_*, set_name_offset   the bytes written
 
@@ -210,10 +210,7 @@
      a file of 1 MB cost a second, and 100,000 rows of a file of 16 MB three minutes. Stop after
      some hundreds.
    - Each call costs up to 25 milliseconds more if the image has many sections: a million imports
-     cost 7 minutes in batches of 64, but 6 seconds in batches of 4,096.
-   - The damage of a partial image is that of the parts that could be read. Zeros in place of a DOS
-     header count as a damaged stub, and is_sound says nothing of a header that was refused: look at
-     the faults of read_partial_image first. */
+     cost 7 minutes in batches of 64, but 6 seconds in batches of 4,096. */
 #ifndef GOBLIN_PE_H
 #define GOBLIN_PE_H
 
@@ -237,17 +234,17 @@ extern "C" {
    have different numbers. A program linked in C gets the matching library, or does not link.
    One that loads the library at run time defines GOBLIN_PE_LOADED_AT_RUN_TIME before it includes
    this header, and compares the two numbers first. */
-#define GOBLIN_PE_INTERFACE 0x022b15e8u
+#define GOBLIN_PE_INTERFACE 0xd674d3c0u
 uint32_t goblin_pe_interface(void);
 
 /* What follows .so. in the name of the shared library. */
-#define GOBLIN_PE_SONAME "5.022b15e8"
+#define GOBLIN_PE_SONAME "5.d674d3c0"
 
 /* Only a library of this interface has this call. */
-uint32_t goblin_pe_interface_022b15e8(void);
+uint32_t goblin_pe_interface_d674d3c0(void);
 #if defined(__GNUC__) && !defined(GOBLIN_PE_LOADED_AT_RUN_TIME)
 __attribute__((used)) static uint32_t (*const goblin_pe_needs_interface)(void) =
-    goblin_pe_interface_022b15e8;
+    goblin_pe_interface_d674d3c0;
 #endif
 
 /* Calls that return a fault are marked, so that a compiler warns if you drop it. */
@@ -268,13 +265,21 @@ struct goblin_pe_slice {
     size_t length;
 };
 
-/* What a call that goes on with a walk did. */
+/* What a call of a walk did. The numbers are of this call alone: add them up. After a fault, and
+   with room 0, they are 0. */
 struct goblin_pe_batch {
     /* How many records the call gave. */
     size_t count;
+    /* How many entries permissive mode skipped: at the first of them strict mode returns a fault. A
+       record whose name can't be read does not count. If the table is skipped as a whole, the call
+       that begins the walk counts 1. */
+    size_t skipped;
+    /* How many entries lead nowhere. Neither mode gives a record for them, nor a fault. */
+    size_t unmapped;
     /* Whether to stop: nothing is left, or the call returned a fault. If it is false, there is no
        more room, or no steps are left, or what comes next is refused. */
     bool is_done;
+    uint8_t reserved[7];
 };
 
 /* ---- Options ------------------------------------------------------------------------------- */
@@ -308,11 +313,11 @@ struct goblin_pe_options {
        string table, for forwarders and for texts at an RVA. A forwarder is cut as one text; its
        export name may then be empty. */
     uint32_t longest_name;
-    /* Whether damaged parts are skipped, and not refused. The damage of an image says what was
-       skipped. Neither mode reads a file that has one of these; a partial read does: a header or a
-       section table that is cut off, an optional header of an unknown magic, more than sixteen data
-       directories, a section name of a slash and no number, or a marker Rich with no marker DanS
-       before it or with a broken word between them. */
+    /* Whether damaged parts are skipped, and not refused. Walks count what they skip. Neither mode
+       reads a file that has one of these; a partial read does: a header or a section table that is
+       cut off, an optional header of an unknown magic, more than sixteen data directories, a
+       section name of a slash and no number, or a marker Rich with no marker DanS before it or with
+       a broken word between them. */
     bool is_permissive;
     /* Zeros, because later versions may have options here. Other bytes count as an unknown
        mapping. */
@@ -1134,9 +1139,8 @@ struct goblin_pe_import {
 
 /* Gives the next imports, in the order of the import directory. Counts steps.
 
-   Entries that lead nowhere give no import, in either mode. Permissive mode also skips libraries
-   without an address table and entries whose hint is cut. `goblin_pe_read_damage` counts all of
-   these.
+   `skipped` counts libraries without an address table, imports whose hint can't be read, and tables
+   that the file cuts short, each once. `unmapped` counts imports whose name has no offset.
 
    Faults: STEPS; in strict mode damage, after the imports that come before it; READ if the file has
    no room for the section headers; OPTIONS; MEMORY if there are more than 96 sections. */
@@ -1189,7 +1193,10 @@ struct goblin_pe_library {
     uint8_t reserved[3];
 };
 
-/* Gives the next libraries: one for each entry of the import directory, also the skipped ones.
+/* Gives the next libraries: one for each entry of the import directory, also the skipped ones,
+   which `skipped` counts. A walk over the imports of such a library does not count it again. So
+   this walk and those over the imports of its rows count together what one walk over all imports
+   counts.
 
    Faults: as `goblin_pe_next_imports`, but no STEPS. In strict mode the walk ends with a fault
    where the file ends before the import directory does. */
@@ -1254,9 +1261,10 @@ struct goblin_pe_export {
 };
 
 /* Gives the next exports that have a name pointer, in the order of these. Counts steps: one for
-   each name pointer. A name pointer without an ordinal, with an ordinal past the address table, or
-   with a forwarder that can't be read gives no export, in either mode; `goblin_pe_read_damage`
-   counts them.
+   each name pointer.
+
+   `unmapped` counts name pointers without an ordinal, with an ordinal past the address table, and
+   with a forwarder that can't be read.
 
    Faults: STEPS; in strict mode a damaged export directory; else as `goblin_pe_next_imports`. */
 GOBLIN_PE_MUST_USE struct goblin_pe_fault goblin_pe_next_exports(
@@ -1311,8 +1319,8 @@ struct goblin_pe_export_directory {
 /* Reads the export directory table. It is not present if the image has none, or if permissive mode
    skips a damaged one.
 
-   Faults: in strict mode a damaged export directory, whatever its number of name pointers is; else
-   as `goblin_pe_next_imports`, but no STEPS. */
+   Faults: in strict mode a damaged export directory (too many name pointers are no damage here);
+   else as `goblin_pe_next_imports`, but no STEPS. */
 GOBLIN_PE_MUST_USE struct goblin_pe_fault goblin_pe_read_export_directory(
     const struct goblin_pe_image *image, struct goblin_pe_export_directory *directory);
 
@@ -1555,46 +1563,7 @@ GOBLIN_PE_MUST_USE struct goblin_pe_fault goblin_pe_next_coff_relocations(
     const struct goblin_pe_image *image, struct goblin_pe_coff_relocation_cursor *cursor,
     struct goblin_pe_coff_relocation *relocations, size_t room, struct goblin_pe_batch *batch);
 
-/* ---- Damage, checksum ---------------------------------------------------------------------- */
-
-/* What strict mode refuses of an image, part by part, and what the walks skip. A part that strict
-   mode reads, or that the image does not have, has the status 0. */
-struct goblin_pe_damage {
-    /* The first of these faults, in this order; the status 0 if there is none. */
-    struct goblin_pe_fault first_fault;
-    /* The DOS stub. */
-    struct goblin_pe_fault dos_stub;
-    /* The names of the sections; of more than 65,535, the first 65,535. */
-    struct goblin_pe_fault section_names;
-    /* The imports. */
-    struct goblin_pe_fault imports;
-    /* The exports. */
-    struct goblin_pe_fault exports;
-    /* The base relocations: the directory, and not its blocks. */
-    struct goblin_pe_fault relocations;
-    /* How many libraries permissive mode skips: those without an address table. */
-    size_t skipped_libraries;
-    /* How many entries it skips: those whose hint is cut. */
-    size_t skipped_entries;
-    /* How many entries both modes skip, because they lead nowhere. */
-    size_t unmapped_entries;
-    /* How many name pointers both modes skip, because they give no export. */
-    size_t skipped_exports;
-    /* Whether strict mode and permissive mode both read the image, and read it alike: no fault, and
-       no skipped library. It says nothing of names that `options.longest_name` cuts. */
-    bool is_sound;
-    /* Zeros. */
-    uint8_t reserved[7];
-};
-
-/* Finds the damage of an image, whatever its own mode. Looks at all imports and exports, and counts
-   steps. It sees names as far as `options.longest_name` lets the walks see them.
-
-   Faults: STEPS if there are too few for the whole image: then nothing is known of its damage; READ
-   if the file has no room for the section headers; KIND; OPTIONS; MEMORY if there are more than 96
-   sections. */
-GOBLIN_PE_MUST_USE struct goblin_pe_fault goblin_pe_read_damage(
-    const struct goblin_pe_image *image, struct goblin_pe_damage *damage, size_t *steps);
+/* ---- Checksum ------------------------------------------------------------------------------ */
 
 /* Computes the checksum of `image.bytes`, for `optional_header.windows_fields.check_sum`. Windows
    tests it in drivers. Compute it after all other changes to the bytes.

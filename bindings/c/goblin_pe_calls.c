@@ -114,26 +114,6 @@ IS_AT(image, dos_stub_size, 408);
 IS_AT(image, rich_header, 416);
 IS_AT(image, reserved, 436);
 
-HAS_SIZE(fault, 24, 8);
-IS_AT(fault, status, 0);
-IS_AT(fault, cause, 4);
-IS_AT(fault, first, 8);
-IS_AT(fault, second, 16);
-
-HAS_SIZE(damage, 184, 8);
-IS_AT(damage, first_fault, 0);
-IS_AT(damage, dos_stub, 24);
-IS_AT(damage, section_names, 48);
-IS_AT(damage, imports, 72);
-IS_AT(damage, exports, 96);
-IS_AT(damage, relocations, 120);
-IS_AT(damage, skipped_libraries, 144);
-IS_AT(damage, skipped_entries, 152);
-IS_AT(damage, unmapped_entries, 160);
-IS_AT(damage, skipped_exports, 168);
-IS_AT(damage, is_sound, 176);
-IS_AT(damage, reserved, 177);
-
 HAS_SIZE(export_cursor, 8, 8);
 IS_AT(export_cursor, index, 0);
 
@@ -156,9 +136,18 @@ IS_AT(export, has_name, 104);
 IS_AT(export, has_offset, 105);
 IS_AT(export, reserved, 106);
 
-HAS_SIZE(batch, 16, 8);
+HAS_SIZE(batch, 32, 8);
 IS_AT(batch, count, 0);
-IS_AT(batch, is_done, 8);
+IS_AT(batch, skipped, 8);
+IS_AT(batch, unmapped, 16);
+IS_AT(batch, is_done, 24);
+IS_AT(batch, reserved, 25);
+
+HAS_SIZE(fault, 24, 8);
+IS_AT(fault, status, 0);
+IS_AT(fault, cause, 4);
+IS_AT(fault, first, 8);
+IS_AT(fault, second, 16);
 
 HAS_SIZE(export_directory_table, 40, 4);
 IS_AT(export_directory_table, export_flags, 0);
@@ -401,17 +390,6 @@ bool goblin_pe_checksum(const struct goblin_pe_image *image, uint32_t *sum)
 {
     struct goblin_pe_image its_image;
     return goblin_pe_raw_checksum(sound_image(image, &its_image), sum);
-}
-
-struct goblin_pe_fault goblin_pe_raw_read_damage(
-    const struct goblin_pe_image *image, struct goblin_pe_damage *damage, size_t *steps);
-struct goblin_pe_fault goblin_pe_read_damage(
-    const struct goblin_pe_image *image, struct goblin_pe_damage *damage, size_t *steps)
-{
-    struct goblin_pe_image its_image;
-    size_t no_limit = SIZE_MAX;
-    return goblin_pe_raw_read_damage(
-        sound_image(image, &its_image), damage, steps ? steps : &no_limit);
 }
 
 struct goblin_pe_fault goblin_pe_raw_next_exports(

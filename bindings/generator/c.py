@@ -23,7 +23,7 @@ PARTS = (
      " next_base_relocations"),
     ("Symbols and relocations of COFF", "SymbolCursor SymbolRecord Symbol next_symbols string_at AuxiliaryKind Auxiliary read_auxiliary"
      " CoffRelocation next_coff_relocations"),
-    ("Damage, checksum", "Damage read_damage checksum"),
+    ("Checksum", "checksum"),
     ("Writing a header", "write_header"),
 )
 # The files of calls that say something of all calls of a part.

@@ -27,7 +27,7 @@ import zlib
 
 import goblin_pe
 from goblin_pe import (AuxiliaryKind, Budget, Cause, CoffRelocation, DataDirectory, DirectoryType, ErrorKind, Image, Import, Kind, Mapping,
-                       Options, OutOfSteps, Pe, PeError, Region, RichHeader, Section, Table, TableState, names_of, printable)
+                       Options, OutOfSteps, Pe, PeError, Region, RichHeader, Section, Table, names_of, printable)
 from goblin_pe import _library, _records, _rows
 
 HERE = pathlib.Path(__file__).resolve().parent
@@ -202,7 +202,7 @@ class Errors(unittest.TestCase):
             Pe(both)
         self.assertEqual((caught.exception.table, caught.exception.cause, caught.exception.numbers[0]), (Table.IMPORTS, Cause.UNMAPPED, 0xA000))
         pe = Pe(both, PERMISSIVE)
-        self.assertEqual((pe.imports, pe.exports, [*pe.image.damage().errors()]), ((), (), ["imports", "exports"]))
+        self.assertEqual((pe.imports, pe.exports, pe.skipped["imports"], pe.skipped["exports"]), ((), (), 1, 1))
 
     def test_what_is_no_file_no_options_and_no_budget_is_refused(self):
         for read in Image, Pe, Image.object, Image.te, Image.partial, Kind.of:
@@ -234,7 +234,7 @@ class Kept(unittest.TestCase):
         """Calls that are refused, of these bytes and of an image whose imports are damaged."""
         damaged = with_directory(DATA, DirectoryType.IMPORT_TABLE, 0x9000)
         return (lambda: Image(data), lambda: Pe(data), lambda: next(Image.object(data).symbols()), lambda: Pe(damaged), lambda: next(Image(damaged).imports()),
-                lambda: Image(damaged).text_at(0x9000), lambda: Image(damaged).damage(Budget(0)), lambda: next(Image(DATA).imports(Budget(0))),
+                lambda: Image(damaged).text_at(0x9000), lambda: next(Image(DATA).imports(Budget(0))),
                 lambda: Pe(with_directory(DATA, DirectoryType.BASE_RELOCATION_TABLE, 0x9000)))
 
     def assert_refused(self, call):
@@ -342,7 +342,7 @@ class Buffers(unittest.TestCase):
         with Pe(with_rich_header(1, 2)[0]) as pe:
             image = pe.image
         image.close()  # (again)
-        for closed in (lambda: image.data, lambda: next(image.exports()), image.patched, image.damage, image.checksum,
+        for closed in (lambda: image.data, lambda: next(image.exports()), image.patched, image.checksum,
                        image.overlay, lambda: image.find_offset(0x1020), lambda: image.sections[0].data(image), image.export_directory,
                        lambda: pickle.dumps(image), lambda: image.dos_stub, lambda: image.rich_header, lambda: whole.sections):
             self.assertRaisesRegex(ValueError, "the image is closed", closed)
@@ -407,7 +407,7 @@ class Buffers(unittest.TestCase):
             stored = pickle.dumps(image)
         self.assertRaisesRegex(ValueError, "another interface", pickle.loads, stored)
         pe = Pe(DATA)
-        rows = [pe.imports, pe.image.damage(), pe.image.optional_header, pe.relocation_blocks, [*pe.image.libraries()]]
+        rows = [pe.imports, pe.image.optional_header, pe.relocation_blocks, [*pe.image.libraries()]]
         self.assertEqual(pickle.loads(pickle.dumps(rows)), rows)
 
 
@@ -422,7 +422,7 @@ class Memory(unittest.TestCase):
         self.assertLess(most_memory(lambda: [None for _ in itertools.islice(image.exports(), 2000)]), 256 * 150000 + (1 << 20))
         short = image.with_options(dataclasses.replace(image.options, longest_name=512))
         self.assertLess(most_memory(lambda: [None for _ in itertools.islice(short.exports(), 2000)]), 1 << 19)
-        self.assertLess(most_memory(lambda: (repr(image), image.find_offset(0), image.imphash(), image.damage(Budget(1000000)))), 1 << 20)
+        self.assertLess(most_memory(lambda: (repr(image), image.find_offset(0), image.imphash())), 1 << 20)
 
     def test_names_of_sections_are_made_when_they_are_asked_for(self):
         """Of an image of 320 KB whose names have 400 MB."""
@@ -532,7 +532,7 @@ class Walks(unittest.TestCase):
         budget = Budget(1500)
         self.assertEqual(sum(1 for _ in image.imports(budget)), 1000)
         self.assertLess(budget.left, 500)
-        for call in image.imphash, image.damage, lambda it: [*image.imports(it)]:
+        for call in image.imphash, lambda it: [*image.imports(it)]:
             self.assertRaises(OutOfSteps, call, budget)
         self.assertRaises(OutOfSteps, Pe, image.data, IDENTITY, Budget(900))
         with unittest.mock.patch("goblin_pe._pe._STEPS", 900):
@@ -578,20 +578,36 @@ class Walks(unittest.TestCase):
             next(walk)
         self.assertEqual((caught.exception.cause, caught.exception.numbers[0]), (Cause.UNMAPPED, 0x9000))
         self.assertRaises(StopIteration, next, walk)
-        damage = Image(data, PERMISSIVE).damage()
-        self.assertEqual((str(damage.imports), damage.errors().keys(), damage[5:]), (str(caught.exception), {"imports"}, (0, 0, 0, 0, False)))
-        self.assertEqual(next(Image(data, PERMISSIVE).imports()).dll, b"")
+        walk = Image(data, PERMISSIVE).imports()
+        self.assertEqual(([it.dll for it in walk], walk.skipped, walk.unmapped), ([b""], 0, 0))
 
     def test_what_permissive_mode_reads(self):
         """Imports as far as they can be read; of other tables that are refused nothing."""
-        for which, table, walk in ((DirectoryType.EXPORT_TABLE, Table.EXPORTS, "exports"), (DirectoryType.IMPORT_TABLE, Table.IMPORTS, "imports"),
-                                   (DirectoryType.BASE_RELOCATION_TABLE, Table.RELOCATIONS, "relocation_blocks")):
+        for which, walk in ((DirectoryType.EXPORT_TABLE, "exports"), (DirectoryType.IMPORT_TABLE, "imports"),
+                            (DirectoryType.BASE_RELOCATION_TABLE, "relocation_blocks")):
             damaged = with_directory(DATA, which, 0x9000)
             self.assertRaises(PeError, Pe, damaged)
             pe = Pe(damaged, PERMISSIVE)
-            self.assertEqual((pe.image.table_state(table), getattr(pe, walk), len(pe.image.damage().errors())), (TableState.REFUSED, (), 1))
-            self.assertEqual(Image(DATA).table_state(table), TableState.PRESENT)
-            self.assertEqual(Image(with_directory(DATA, which, 0, 0)).table_state(table), TableState.ABSENT)
+            self.assertEqual((getattr(pe, walk), pe.skipped[walk], pe.errors), ((), 1, ()))
+            for data in DATA, with_directory(DATA, which, 0, 0):
+                self.assertEqual(Pe(data, PERMISSIVE).skipped[walk], 0)
+
+    def test_what_is_counted_adds_up(self):
+        """Whatever the steps. Of 1,300 imports, the hint of every other one lies past the end of the file."""
+        one = struct.pack("<Q", 1 << 63 | 7)
+        data = with_libraries(FORWARDERS, [b"a.dll"], [1300]).replace(one * 2, one + struct.pack("<Q", 0x70000000))
+        image = Image(data, Options(permissive=True, mapping=Mapping.IDENTITY))
+        for steps in None, 1400:
+            budget = Budget(steps)
+            walk, count = image.imports(budget), 0
+            self.assertEqual((walk.skipped, walk.unmapped), (0, 0))
+            for _ in range(20):
+                with contextlib.suppress(OutOfSteps):
+                    count += sum(1 for _ in itertools.islice(walk, 50))
+                budget.left = steps
+            self.assertEqual((count, walk.skipped, walk.unmapped), (650, 650, 0))
+        pe = Pe.of(image)
+        self.assertEqual((pe.skipped["imports"], {*pe.unmapped.values()}, json.loads(pe.to_json())["skipped"]), (650, {0}, pe.skipped))
 
     def test_a_pe_has_what_the_walks_give(self):
         for name in IMAGES:
@@ -690,7 +706,7 @@ class Headers(unittest.TestCase):
 
     def test_a_rest_of_the_rich_header_is_an_error_after_the_entries(self):
         data = sample("program_x64.exe")
-        self.assertEqual((Image(data).rich_header, Pe(data).rich_entries, Image(data).table_state(Table.RICH_HEADER)), (None, (), TableState.ABSENT))
+        self.assertEqual((Image(data).rich_header, Pe(data).rich_entries), (None, ()))
         for rest, wanted in (([], []), ([5], [(ErrorKind.TOO_BIG, Table.RICH_HEADER)])):
             data, key = with_rich_header(261 << 16 | 30159, 7, *rest)
             pe = Pe(data)
@@ -749,9 +765,7 @@ class Headers(unittest.TestCase):
         with self.assertRaises(PeError) as caught:
             Image(data)
         image = Image(data, PERMISSIVE)
-        damage = image.damage()
-        self.assertEqual((str(damage.dos_stub), damage[1:]), (str(caught.exception), (None,) * 4 + (0,) * 4 + (False,)))
-        self.assertEqual((caught.exception.cause, str(damage)), (Cause.STUB_BEFORE_START, "dos_stub: %s\n" % damage.dos_stub.args))
+        self.assertEqual(caught.exception.cause, Cause.STUB_BEFORE_START)
         with self.assertRaises(PeError) as caught:
             image.patched()
         self.assertEqual(caught.exception.kind, ErrorKind.PLACE)
@@ -768,9 +782,6 @@ class Headers(unittest.TestCase):
         self.assertEqual([Kind.of(sample(it)) for it in names], [Kind.IMAGE, Kind.OBJECT, Kind.TE])
         self.assertEqual([Kind.of(b""), Kind.of(bytearray(b"\0\0"))], [Kind.UNKNOWN] * 2)
         self.assertEqual([it.kind for it in (Image(DATA), Image.object(OBJECT), Image.te(sample(names[2])))], [Kind.IMAGE, Kind.OBJECT, Kind.TE])
-        with self.assertRaises(PeError) as caught:
-            Image.object(OBJECT).damage()
-        self.assertEqual(caught.exception.kind, ErrorKind.KIND)
 
     def test_programs_libraries_and_drivers(self):
         """By the characteristics and the subsystem, as the specification names them."""
@@ -1262,13 +1273,13 @@ class Names(unittest.TestCase):
 
     def test_help_names_what_is_for_users(self):
         text = pydoc.plain(pydoc.render_doc(goblin_pe))
-        for name in ("class Image", "class Pe", "class Budget", "class PeError", "class Options", "damage(", "imports(", "symbols(", "patched("):
+        for name in ("class Image", "class Pe", "class Budget", "class PeError", "class Options", "imports(", "symbols(", "patched("):
             self.assertIn(name, text)
         self.assertNotIn("ctypes", text)
         self.assertNotIn("ForwardRef", text)
-        self.assertIn("dos_stub: 'PeError | None'", pydoc.plain(pydoc.render_doc(goblin_pe.Damage)))
+        self.assertIn("name_error: 'PeError | None'", pydoc.plain(pydoc.render_doc(goblin_pe.Library)))
         self.assertRegex(Budget.__doc__, r"\bleft\b")
-        for it in ErrorKind, Mapping, Region, Table, TableState, Options, PeError, Pe, goblin_pe.Damage:
+        for it in ErrorKind, Mapping, Region, Table, Options, PeError, Pe, goblin_pe.Walk:
             for name in getattr(it, "__members__", None) or it.__annotations__:
                 self.assertRegex(it.__doc__, r"\b%s\b" % name)
 

@@ -1,13 +1,13 @@
-/* damage FILE: says what is wrong with an image. First it lists the parts of the header that can't be read. Then it says what
-   strict mode refuses, and what the walks skip. At last it counts the imports, also those that goblin would find. An image that
-   needs too many steps is not called damaged for that. */
+/* damage FILE: says what is wrong with an image. First it lists the parts of the header that can't be read, and the tables that
+   strict mode refuses as a whole. Then it counts imports and exports, and what the walks over them skip. At last it counts the
+   imports that goblin would find. */
 #include "goblin_pe.h"
 
 #include <stdio.h>
 
 static uint8_t file[1 << 26];
 
-/* The limit of steps for the damage, and for each count of imports. */
+/* The limit of steps for each walk. */
 static const size_t most = 500000;
 
 static bool tell(const char *part, struct goblin_pe_fault fault)
@@ -33,19 +33,22 @@ static void tell_header(const struct goblin_pe_header_faults *faults)
     tell("section names", faults->section_names);
 }
 
-static void tell_damage(const struct goblin_pe_image *image, bool is_refused)
+/* What strict mode refuses as a whole. */
+static void tell_tables(struct goblin_pe_image strict)
 {
-    struct goblin_pe_damage damage;
-    size_t steps = most;
-    if (tell("damage", goblin_pe_read_damage(image, &damage, &steps)))
-        return;
-    tell("imports", damage.imports);
-    tell("exports", damage.exports);
-    tell("base relocations", damage.relocations);
-    printf("skipped: %zu libraries, %zu imports and %zu exports\n", damage.skipped_libraries, damage.skipped_entries,
-           damage.skipped_exports);
-    printf("imports that lead nowhere: %zu\n", damage.unmapped_entries);
-    puts(damage.is_sound && !is_refused ? "sound" : "not sound");
+    struct goblin_pe_import_cursor imports = { 0 };
+    struct goblin_pe_export_cursor exports = { 0 };
+    struct goblin_pe_relocation_block_cursor blocks = { 0 };
+    struct goblin_pe_batch batch;
+    strict.options.is_permissive = false;
+    tell("imports", goblin_pe_next_imports(&strict, &imports, NULL, 0, NULL, &batch));
+    tell("exports", goblin_pe_next_exports(&strict, &exports, NULL, 0, NULL, &batch));
+    tell("base relocations", goblin_pe_next_relocation_blocks(&strict, &blocks, NULL, 0, &batch));
+}
+
+static void tell_counts(const char *what, size_t count, size_t skipped, size_t unmapped)
+{
+    printf("%s: %zu, %zu skipped, %zu lead nowhere\n", what, count, skipped, unmapped);
 }
 
 static void count_imports(const char *what, const struct goblin_pe_image *image)
@@ -53,13 +56,31 @@ static void count_imports(const char *what, const struct goblin_pe_image *image)
     static struct goblin_pe_import rows[1 << 14];
     struct goblin_pe_import_cursor cursor = { 0 };
     struct goblin_pe_batch batch;
-    size_t count = 0, steps = most;
+    size_t count = 0, skipped = 0, unmapped = 0, steps = most;
     do {
         if (tell(what, goblin_pe_next_imports(image, &cursor, rows, 1 << 14, &steps, &batch)))
             return;
         count += batch.count;
+        skipped += batch.skipped;
+        unmapped += batch.unmapped;
     } while (!batch.is_done);
-    printf("%s: %zu\n", what, count);
+    tell_counts(what, count, skipped, unmapped);
+}
+
+static void count_exports(const struct goblin_pe_image *image)
+{
+    static struct goblin_pe_export rows[1 << 14];
+    struct goblin_pe_export_cursor cursor = { 0 };
+    struct goblin_pe_batch batch;
+    size_t count = 0, skipped = 0, unmapped = 0, steps = most;
+    do {
+        if (tell("exports", goblin_pe_next_exports(image, &cursor, rows, 1 << 14, &steps, &batch)))
+            return;
+        count += batch.count;
+        skipped += batch.skipped;
+        unmapped += batch.unmapped;
+    } while (!batch.is_done);
+    tell_counts("exports", count, skipped, unmapped);
 }
 
 int main(int argc, char **argv)
@@ -74,10 +95,11 @@ int main(int argc, char **argv)
         return fprintf(stderr, "usage: damage FILE (below 64 MiB)\n"), 2;
     bool is_refused = tell("refused", goblin_pe_read_partial_image(file, length, &options, &image, &faults));
     tell_header(&faults);
-    tell_damage(&image, is_refused);
+    tell_tables(image);
+    count_imports("imports as Windows maps", &image);
+    count_exports(&image);
     as_stored = image;
     as_stored.options.mapping = GOBLIN_PE_MAPPING_AS_STORED;
-    count_imports("imports as Windows maps", &image);
     count_imports("imports as goblin maps", &as_stored);
     return is_refused;
 }

@@ -193,7 +193,6 @@ static void check_image(void)
     struct goblin_pe_image read;
     const struct goblin_pe_image *image = &read;
     struct goblin_pe_options permissive = { .is_permissive = true };
-    struct goblin_pe_damage damage;
     EXPECT_OK(goblin_pe_read_image(bytes, length, NULL, &read));
     check_header(image);
     read.options = permissive;
@@ -203,7 +202,6 @@ static void check_image(void)
     check_relocations(image);
     check_rich_entries(image);
     check_symbols(image);
-    EXPECT_OK(goblin_pe_read_damage(image, &damage, NULL));
 }
 
 static void check_object(void)

@@ -48,7 +48,6 @@ void free(void *block)
 
 /* What the calls fill. */
 struct records {
-    struct goblin_pe_damage damage;
     struct goblin_pe_export_directory directory;
     struct goblin_pe_section_cursor section;
     struct goblin_pe_import_cursor import;
@@ -68,8 +67,6 @@ struct records {
 
 static struct goblin_pe_fault called(const char *name, struct records *r)
 {
-    if (!strcmp(name, "damage"))
-        return goblin_pe_read_damage(&image, &r->damage, &r->steps);
     if (!strcmp(name, "directory"))
         return goblin_pe_read_export_directory(&image, &r->directory);
     if (!strcmp(name, "imports"))
@@ -94,7 +91,7 @@ int main(int argc, char **argv)
     size_t length = from ? fread(bytes, 1, sizeof bytes, from) : 0;
     if (!from || fclose(from) || goblin_pe_read_image(bytes, length, NULL, &image).status)
         return 3;
-    old.damage.skipped_entries = old.directory.record.ordinal_base = 7;
+    old.directory.record.ordinal_base = 7;
     old.imports[3].iat_rva = old.exports[3].rva = old.addresses[3].rva = old.blocks[3].rva = 7;
     old.steps = 100000;
     for (long growth = 1;; growth++) {

@@ -26,9 +26,9 @@ def facts(image: Image, budget: Budget) -> Iterator[Row]:
     yield {"machine": names_of(image.coff_header.machine, "machine")[0], "time_date_stamp": image.coff_header.time_date_stamp,
            "sections": len(image.sections), "overlay": len(overlay), "rich_hash": rich and rich.hash()}
     yield {"imphash": image.imphash(budget)}
-    yield {"imports": sum(1 for _ in image.imports(budget))}
-    yield {"exports": sum(1 for _ in image.exports(budget))}
-    yield {"is_sound": image.damage(budget).is_sound}
+    imports, exports = image.imports(budget), image.exports(budget)
+    yield {"imports": sum(1 for _ in imports)}
+    yield {"exports": sum(1 for _ in exports), "skipped": imports.skipped + exports.skipped}
 
 
 def row(path: str) -> Row:

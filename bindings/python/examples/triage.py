@@ -52,12 +52,12 @@ def first(found: Set[Key]) -> List[str]:
 def limited(image: Image, budget: Budget) -> Iterator[Tuple[str, Any]]:
     """What takes steps, as pairs (what, value), the most interesting first."""
     yield "imphash", image.imphash(budget)
-    libraries = Counter(it.dll.lower() for it in image.imports(budget))
+    imports, exports = image.imports(budget), image.exports(budget)
+    libraries = Counter(it.dll.lower() for it in imports)
     yield "libraries", {printable(dll): count for dll, count in sorted(libraries.most_common(100))}
-    yield "exports", sum(1 for _ in image.exports(budget))
-    damage = image.damage(budget)
-    yield "damage", {part: str(error) for part, error in damage.errors().items()}
-    yield "skipped", {what: count for what, count in zip(damage._fields[5:9], damage[5:9]) if count}
+    yield "exports", sum(1 for _ in exports)
+    yield "skipped", {"imports": imports.skipped, "exports": exports.skipped}
+    yield "unmapped", {"imports": imports.unmapped, "exports": exports.unmapped}
     loaded = keys(image, Mapping.AS_LOADED, budget)
     yield "never_loaded", first(keys(image, Mapping.AS_STORED, budget) - loaded)
     yield "in_headers", first(loaded - keys(image, Mapping.BY_FILE_ALIGNMENT, budget))

@@ -8,12 +8,14 @@ of each name, and it says what it could not read:
     budget = Budget(1_000_000)
     try:
         with Image.open("some.dll", Options(permissive=True, longest_name=512)) as image:
-            for it in image.imports(budget):
+            imports = image.imports(budget)
+            for it in imports:
                 print(printable(it.dll), printable(it.name) if it.name else "#%d" % it.ordinal)
             for export in image.exports(budget):
                 print("exports", printable(export.name or b""))
             print("begins with", image.memory_at(image.entry, 16).data.hex())
-            print(image.damage(budget), end="")
+            if imports.skipped:
+                print("skipped:", imports.skipped)
     except PeError as error:
         print("not read to its end:", error)
 
@@ -30,8 +32,8 @@ on the tables have an argument `budget`, a Budget of steps, and raise OutOfSteps
 Several calls can share one budget, which then limits their sum. Options(longest_name=..) limits how
 much of a name is read.
 
-Strict mode, the default, refuses a damaged table. Permissive mode skips the damaged parts, and
-Image.damage reports what it skipped. By default addresses are mapped as Windows maps them. Mapping
+Strict mode, the default, refuses a damaged table. Permissive mode skips the damaged parts, and each
+Walk counts what it has skipped. By default addresses are mapped as Windows maps them. Mapping
 has the rules of goblin and pefile, too.
 
 An argument `data` is bytes, a memoryview, an mmap or another buffer. If the buffer can be written,
@@ -43,24 +45,24 @@ from ._causes import Cause
 from ._errors import ErrorKind, OutOfSteps, PeError, Table
 from ._headers import (
     CoffHeader, DataDirectory, DirectoryType, DosHeader, OptionalHeader, StandardFields, TeHeader, WindowsFields)
-from ._image import Image, Kind, TableState
+from ._image import Image, Kind
 from ._imphash import ordinal_name
 from ._library import Data
 from ._names import names_of, printable, relocation_name
 from ._options import Budget, Mapping, Options
 from ._pe import Pe, jsonable
 from ._rows import (
-    Auxiliary, AuxiliaryKind, BaseRelocation, CoffRelocation, Damage, Export, ExportAddress, ExportDirectory, Forwarder, Import,
+    Auxiliary, AuxiliaryKind, BaseRelocation, CoffRelocation, Export, ExportAddress, ExportDirectory, Forwarder, Import,
     Library, Memory, Region, RelocationBlock, RichEntry, RichHeader, Section, Symbol)
 from ._walk import Walk
 
 __all__ = [
     "Auxiliary", "AuxiliaryKind", "BaseRelocation", "Budget", "Cause", "CoffHeader",
-    "CoffRelocation", "Damage", "Data", "DataDirectory", "DirectoryType", "DosHeader",
+    "CoffRelocation", "Data", "DataDirectory", "DirectoryType", "DosHeader",
     "ErrorKind", "Export", "ExportAddress", "ExportDirectory", "Forwarder", "Image", "Import",
     "Kind", "Library", "Mapping", "Memory", "OptionalHeader", "Options", "OutOfSteps", "Pe",
     "PeError", "Region", "RelocationBlock", "RichEntry", "RichHeader", "Section",
-    "StandardFields", "Symbol", "Table", "TableState", "TeHeader", "Walk", "WindowsFields",
+    "StandardFields", "Symbol", "Table", "TeHeader", "Walk", "WindowsFields",
     "constants", "jsonable", "names_of", "ordinal_name", "printable", "relocation_name",
 ]
 __version__ = "0.5.0"

@@ -7,7 +7,7 @@ import sys
 from collections.abc import Iterable, Iterator
 from typing import Any, Dict, List, Tuple
 
-from . import Budget, Image, Kind, Mapping, Options, Pe, PeError, Table, TableState, jsonable, printable
+from . import Budget, DirectoryType, Image, Kind, Mapping, Options, Pe, PeError, Table, Walk, jsonable, printable
 
 # What is written about each file before its tables.
 HEADERS = ("refusal", "header_faults", "dos_header", "coff_header", "optional_header", "directories", "te_header", "rich_header")
@@ -16,12 +16,12 @@ LIBRARIES = 500
 MAPPINGS = {it.name.lower().replace("_", "-"): it for it in Mapping}
 
 
-def heading(image: Image, table: Table, count: int) -> str:
+def heading(pe: Pe, table: Table, directory: DirectoryType, rows: str) -> str:
     """The line above the rows of a table: whether the image has it, and how many rows. Of refused imports, pe_list says that there are 0."""
-    state = image.table_state(table)
-    if state is TableState.REFUSED and table is Table.IMPORTS:
-        state = TableState.PRESENT
-    return "%s %s" % (table.value, count if state is TableState.PRESENT else state.value)
+    if not any(pe.image.directories[directory]):
+        return table.value + " absent"
+    is_refused = pe.skipped[rows] and table is not Table.IMPORTS
+    return "%s %s" % (table.value, "refused" if is_refused else len(getattr(pe, rows)))
 
 
 def image_lines(pe: Pe) -> Iterator[str]:
@@ -33,20 +33,20 @@ def image_lines(pe: Pe) -> Iterator[str]:
     for s in pe.sections:
         yield "section va=%#x vsize=%#x raw=%#x ptr=%#x name=%s" % (
             s.virtual_address, s.virtual_size, s.size_of_raw_data, s.pointer_to_raw_data, printable(s.name))
-    yield heading(image, Table.IMPORTS, len(pe.imports))
+    yield heading(pe, Table.IMPORTS, DirectoryType.IMPORT_TABLE, "imports")
     for it in pe.imports:
         number = it.hint if it.ordinal is None else it.ordinal
         yield "import offset=%#x ordinal=%d rva=%#x size=%d slot=%d dll=%s name=%s" % (
             it.iat_rva, number or 0, it.hint_name_rva, 8 if image.is_64 else 4, it.thunk_index, printable(it.dll),
             "ORDINAL %s" % it.ordinal if it.name is None else printable(it.name))
-    yield heading(image, Table.EXPORTS, len(pe.exports))
+    yield heading(pe, Table.EXPORTS, DirectoryType.EXPORT_TABLE, "exports")
     for export in pe.exports:
         to = export.forwarder
         yield "".join((
             "export rva=%#x" % export.rva, "" if export.offset is None else " offset=%#x" % export.offset,
             " forward=%s.%s" % (printable(to.dll), "#%s" % to.ordinal if to.name is None else printable(to.name)) if to else "",
             "" if export.name is None else " name=" + printable(export.name)))
-    yield heading(image, Table.RELOCATIONS, len(pe.relocation_blocks))
+    yield heading(pe, Table.RELOCATIONS, DirectoryType.BASE_RELOCATION_TABLE, "relocation_blocks")
     for block in pe.relocation_blocks:
         yield "block rva=%#x size=%#x words=%d" % (block.rva, block.size, len(block.entries) // 2)
     if any(it.table is Table.RELOCATIONS for it in pe.errors):
@@ -94,7 +94,6 @@ def tables(image: Image, budget: Budget) -> Iterator[Tuple[str, Iterable[Any]]]:
         yield "export_directory", filter(None, map(Image.export_directory, [image]))
         for name in ("rich_entries", "imports", "exports", "export_addresses", "relocation_blocks"):
             yield name, getattr(image, name)(budget)
-        yield "damage", map(image.damage, [budget])
     yield "symbols", image.symbols(budget)
     yield "relocations", ({"section": s.index, **it._asdict()} for s in image.section_headers(budget) for it in s.relocations(image, budget))
 
@@ -107,11 +106,13 @@ def opened(path: str, options: Options) -> Image:
 
 
 def write_json(path: str, asked: argparse.Namespace) -> int:
-    """Writes a line of JSON with everything in a file. `ended_early` says which tables are not whole, and why. Each row is written as
+    """Writes a line of JSON with everything in a file. `ended_early` says which tables are not whole, and why; `skipped` and
+    `unmapped` have the numbers of each walk. Each row is written as
     soon as it is read. Returns 1 if the file or a table can't be read to its end."""
     write, budget = sys.stdout.write, Budget(asked.steps)
     found: Dict[str, Any] = {"file": path}
     early: Dict[str, str] = {}
+    numbers: Dict[str, Dict[str, int]] = {"skipped": {}, "unmapped": {}}
     try:
         image = opened(path, asked.options)
         found.update(kind=Kind.of(image.data), **{name: getattr(image, name) for name in HEADERS})
@@ -129,7 +130,10 @@ def write_json(path: str, asked: argparse.Namespace) -> int:
         except (PeError, MemoryError) as error:
             early[name] = str(error) or "out of memory"
         write("]")
-    write(', "ended_early": %s}\n' % json.dumps(early))
+        if isinstance(rows, Walk):
+            for number, of in numbers.items():
+                of[name] = getattr(rows, number)
+    write(", " + json.dumps({**numbers, "ended_early": early})[1:] + "\n")
     return int(bool(early or image.refusal))
 
 

@@ -65,7 +65,7 @@ class PeError(ValueError):
     cause: how the file is malformed; None for other kinds.
     numbers: the two numbers of the error, such as an offset and a size; 0 for each that the kind
         lacks.
-    table: the part of the file that could not be read; None if a look-up or damage() raises the error.
+    table: the part of the file that could not be read; None if a look-up raises the error.
     """
 
     kind: ErrorKind

@@ -4,7 +4,6 @@ from __future__ import annotations
 import contextlib
 import ctypes as c
 import dataclasses
-import enum
 import hashlib
 import os
 import types
@@ -17,12 +16,12 @@ from ._headers import CoffHeader, DataDirectory, DirectoryType, DosHeader, Optio
 from ._imphash import line as imphash_line
 from ._library import LIB, Data, held, kept
 from ._number import Number
-from ._options import Budget, Options, lent
+from ._options import Budget, Options
 from ._patch import STUB as _STUB, Headers, patched, written as _written
 from ._rows import (
-    BLOCKS, EXPORT_ADDRESSES, EXPORTS, IMPORTS, LIBRARIES, RICH_ENTRIES, SECTIONS, SYMBOLS, BaseRelocation, Damage, Export,
-    ExportAddress, ExportDirectory, Forwarder, Import, Library, Memory, Region, RelocationBlock, RichEntry, RichHeader, Section, Symbol,
-    damage, export_directory, forwarder, in_range, text)
+    BLOCKS, EXPORT_ADDRESSES, EXPORTS, IMPORTS, LIBRARIES, RICH_ENTRIES, SECTIONS, SYMBOLS, BaseRelocation, Export, ExportAddress,
+    ExportDirectory, Forwarder, Import, Library, Memory, Region, RelocationBlock, RichEntry, RichHeader, Section, Symbol,
+    export_directory, forwarder, in_range, text)
 from ._walk import Kind as WalkKind, Walk
 from .constants import IMAGE_FILE_DLL, IMAGE_FILE_EXECUTABLE_IMAGE, IMAGE_SUBSYSTEM_NATIVE, MAGIC_64
 
@@ -46,19 +45,6 @@ class Kind(Number):
         """The kind of a file. It does not say whether the file can be read."""
         with held(data) as (address, length):
             return cls(LIB.goblin_pe_kind_of(address, length))
-
-
-class TableState(enum.Enum):
-    """Whether an image has a table, and whether it can be walked over.
-
-    ABSENT: the image has no such table.
-    PRESENT: a walk gives its rows as far as they can be read.
-    REFUSED: strict mode refuses it as a whole. In permissive mode, a walk gives no row.
-    """
-
-    ABSENT = "absent"
-    PRESENT = "present"
-    REFUSED = "refused"
 
 
 class Image:
@@ -334,8 +320,7 @@ class Image:
         return Walk(self, RICH_ENTRIES, None, budget)
 
     def imports(self, budget: Budget | None = None) -> Walk[Import]:
-        """The imports, in the order of the import directory. `damage` counts the entries that lead to
-        no import."""
+        """The imports, in the order of the import directory."""
         return Walk(self, IMPORTS, None, budget)
 
     def libraries(self, budget: Budget | None = None) -> Walk[Library]:
@@ -361,26 +346,10 @@ class Image:
         """The symbols of an image or an object."""
         return Walk(self, SYMBOLS, None, budget)
 
-    def table_state(self, table: Table) -> TableState:
-        """Whether the image has a table, and whether strict mode refuses it."""
-        kind, is_there = _TABLES[table]
-        if not is_there(self._record):
-            return TableState.ABSENT
-        if kind is None:
-            return TableState.PRESENT
-        try:
-            self._test_table(kind)
-        except PeError:
-            return TableState.REFUSED
-        return TableState.PRESENT
-
-    def _test_table(self, kind: WalkKind) -> None:
-        # raises why strict mode refuses a table as a whole
-        strict = self.with_options(dataclasses.replace(self.options, permissive=False))
-        steps = [None] if kind.counts_steps else []
-        with strict._held() as image:
-            cursor, batch = kind.cursor(), _records.Batch()
-            test(kind.call(image, c.byref(cursor), None, 0, *steps, c.byref(batch)), kind.table)
+    def _test_blocks(self) -> None:
+        # raises why strict mode refuses the base relocations as a whole
+        with self._held() as image:
+            test(BLOCKS.call(image, c.byref(BLOCKS.cursor()), None, 0, c.byref(_records.Batch())), BLOCKS.table)
 
     # Look-ups.
     def section_by_name(self, name: bytes | str) -> Section | None:
@@ -471,15 +440,6 @@ class Image:
             return forwarder(found) or Forwarder(b"", None, None)
 
     # Facts about the whole file.
-    def damage(self, budget: Budget | None = None) -> Damage:
-        """What strict mode refuses, and what the walks skip. The answer is the same in both modes.
-        OutOfSteps is raised if the budget is too small for the whole image, and then nothing is
-        known about its damage."""
-        found = _records.Damage()
-        with lent(budget) as steps, self._held() as image:
-            test(LIB.goblin_pe_read_damage(image, c.byref(found), steps), None)
-        return damage(found)
-
     def imphash(self, budget: Budget | None = None) -> str | None:
         """The hash of the imports that analysts compare, in hexadecimal, as pefile's get_imphash. It
         is "" if no import counts. It is None if `longest_name` cuts the name of a DLL or of an import,
@@ -546,17 +506,3 @@ def _restored(cls: type[Image], state: dict[str, Any], interface: int) -> Image:
     image._faults = types.MappingProxyType(state["_faults"])
     return image
 
-
-def _directory(which: DirectoryType) -> Any:
-    return lambda record: record.directories[which].virtual_address or record.directories[which].size
-
-
-# For each table, the kind of its walk, and a test whether an image has it.
-_TABLES: dict[Table, tuple[Any, Any]] = {
-    Table.HEADER: (None, lambda record: True),
-    Table.RICH_HEADER: (None, lambda record: record.rich_header.is_present),
-    Table.IMPORTS: (IMPORTS, _directory(DirectoryType.IMPORT_TABLE)),
-    Table.EXPORTS: (EXPORTS, _directory(DirectoryType.EXPORT_TABLE)),
-    Table.RELOCATIONS: (BLOCKS, _directory(DirectoryType.BASE_RELOCATION_TABLE)),
-    Table.SYMBOLS: (SYMBOLS, lambda record: record.coff_header.pointer_to_symbol_table),
-}

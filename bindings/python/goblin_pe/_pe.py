@@ -13,8 +13,7 @@ from ._image import Image
 from ._library import Data
 from ._names import printable
 from ._options import Budget, Options
-from ._rows import (
-    BLOCKS, Export, ExportAddress, ExportDirectory, Import, RelocationBlock, RichEntry, Section)
+from ._rows import Export, ExportAddress, ExportDirectory, Import, RelocationBlock, RichEntry, Section
 
 _Path = Union[str, "os.PathLike[str]"]
 # How many steps the tables of an image may take, if a caller names no budget.
@@ -50,6 +49,7 @@ class Pe:
     errors: why tuples end early. Each error has its `table`. In permissive mode, these are all errors
         at which a walk ended. In strict mode, they are only bytes that are no entry of the Rich
         header, and bytes that are no block of base relocations; other errors are raised.
+    skipped, unmapped: the numbers of each Walk, by the name of its tuple.
     """
 
     image: Image
@@ -61,6 +61,8 @@ class Pe:
     export_addresses: tuple[ExportAddress, ...]
     relocation_blocks: tuple[RelocationBlock, ...]
     errors: tuple[PeError, ...]
+    skipped: dict[str, int]
+    unmapped: dict[str, int]
 
     def __init__(self, data: Data, options: Options = Options(), budget: Budget | None = None) -> None:
         """Reads an image and all its tables. PeError is raised as by Image, and in strict mode for the
@@ -101,15 +103,17 @@ class Pe:
         if image._sections is None:
             image._sections = tuple(image.section_headers(budget))
         self.image, self.sections = image, image.sections
-        self.rich_entries = listed(image.rich_entries(budget), True)
-        self.imports = listed(image.imports(budget))
+        walks = {it: getattr(image, it)(budget) for it in ("rich_entries", "imports", "exports", "export_addresses", "relocation_blocks")}
+        self.rich_entries = listed(walks["rich_entries"], True)
+        self.imports = listed(walks["imports"])
         self.export_directory = next(iter(listed(image.export_directory() for _ in range(1))), None)
-        self.exports = listed(image.exports(budget))
-        self.export_addresses = listed(image.export_addresses(budget))
+        self.exports = listed(walks["exports"])
+        self.export_addresses = listed(walks["export_addresses"])
         if not image.options.permissive:
-            image._test_table(BLOCKS)
-        self.relocation_blocks = listed(image.relocation_blocks(budget), True)
+            image._test_blocks()
+        self.relocation_blocks = listed(walks["relocation_blocks"], True)
         self.errors = tuple(errors)
+        self.skipped, self.unmapped = ({name: getattr(it, number) for name, it in walks.items()} for number in ("skipped", "unmapped"))
 
     @property
     def name(self) -> bytes | None:
@@ -125,7 +129,8 @@ class Pe:
         """All headers and rows as JSON. `jsonable` says how each value is written."""
         image = self.image
         headers = ("dos_header", "coff_header", "optional_header", "rich_header", "directories")
-        lists = ("sections", "rich_entries", "imports", "export_directory", "exports", "export_addresses", "relocation_blocks", "errors")
+        lists = ("sections", "rich_entries", "imports", "export_directory", "exports", "export_addresses", "relocation_blocks", "errors",
+                 "skipped", "unmapped")
         values = {**{it: getattr(image, it) for it in headers}, **{it: getattr(self, it) for it in lists}}
         return json.dumps(jsonable(values))
 

@@ -3,7 +3,7 @@ import ctypes as c
 from typing import Any, Dict, List, Tuple
 
 # The number of this interface.
-INTERFACE = 0x022b15e8
+INTERFACE = 0xd674d3c0
 
 
 class Slice(c.Structure):
@@ -143,32 +143,6 @@ class Image(c.Structure):
     ]
 
 
-class Fault(c.Structure):
-    _fields_ = [
-        ("status", c.c_uint32),
-        ("cause", c.c_uint32),
-        ("first", c.c_uint64),
-        ("second", c.c_uint64),
-    ]
-
-
-class Damage(c.Structure):
-    _fields_ = [
-        ("first_fault", Fault),
-        ("dos_stub", Fault),
-        ("section_names", Fault),
-        ("imports", Fault),
-        ("exports", Fault),
-        ("relocations", Fault),
-        ("skipped_libraries", c.c_size_t),
-        ("skipped_entries", c.c_size_t),
-        ("unmapped_entries", c.c_size_t),
-        ("skipped_exports", c.c_size_t),
-        ("is_sound", c.c_bool),
-        ("reserved", c.c_uint8 * 7),
-    ]
-
-
 class ExportCursor(c.Structure):
     _fields_ = [
         ("index", c.c_size_t),
@@ -203,7 +177,19 @@ class Export(c.Structure):
 class Batch(c.Structure):
     _fields_ = [
         ("count", c.c_size_t),
+        ("skipped", c.c_size_t),
+        ("unmapped", c.c_size_t),
         ("is_done", c.c_bool),
+        ("reserved", c.c_uint8 * 7),
+    ]
+
+
+class Fault(c.Structure):
+    _fields_ = [
+        ("status", c.c_uint32),
+        ("cause", c.c_uint32),
+        ("first", c.c_uint64),
+        ("second", c.c_uint64),
     ]
 
 
@@ -486,7 +472,6 @@ class Auxiliary(c.Structure):
 CALLS: Dict[str, Tuple[Any, List[Any]]] = {
     "goblin_pe_fault_string": (c.c_char_p, [c.POINTER(Fault), c.c_char_p]),
     "goblin_pe_checksum": (c.c_bool, [c.POINTER(Image), c.POINTER(c.c_uint32)]),
-    "goblin_pe_read_damage": (Fault, [c.POINTER(Image), c.POINTER(Damage), c.POINTER(c.c_size_t)]),
     "goblin_pe_next_exports": (Fault, [c.POINTER(Image), c.POINTER(ExportCursor), c.c_void_p, c.c_size_t, c.POINTER(c.c_size_t), c.POINTER(Batch)]),
     "goblin_pe_read_export_directory": (Fault, [c.POINTER(Image), c.POINTER(ExportDirectory)]),
     "goblin_pe_next_export_addresses": (Fault, [c.POINTER(Image), c.POINTER(ExportAddressCursor), c.c_void_p, c.c_size_t, c.POINTER(Batch)]),

@@ -333,41 +333,6 @@ class CoffRelocation(NamedTuple):
     typ: int
 
 
-class Damage(NamedTuple):
-    """The parts of an image that strict mode refuses, and what the walks skip. `str(damage)` has a
-    line for each damaged part and for each count that is not 0.
-
-    dos_stub, section_names, imports, exports, relocations: why strict mode refuses this part; None if
-        it does not.
-    skipped_libraries: how many libraries permissive mode skips, because they have no address table.
-    skipped_entries: how many imports permissive mode skips, because their hint is cut.
-    unmapped_entries: how many import entries both modes skip, because they lead nowhere.
-    skipped_exports: how many name pointers both modes skip, because they lead to no export.
-    is_sound: whether both modes read the image, and read it alike.
-    """
-
-    dos_stub: PeError | None
-    section_names: PeError | None
-    imports: PeError | None
-    exports: PeError | None
-    relocations: PeError | None
-    skipped_libraries: int
-    skipped_entries: int
-    unmapped_entries: int
-    skipped_exports: int
-    is_sound: bool
-
-    def errors(self) -> dict[str, PeError]:
-        """The damaged parts, by the names of the fields."""
-        return {name: error for name, error in zip(self._fields[:5], self[:5]) if error}
-
-    def __str__(self) -> str:
-        lines = ["%s: %s" % (name, error.args[0]) for name, error in self.errors().items()]
-        texts = ("libraries are skipped", "imports are skipped", "import entries lead nowhere", "name pointers give no export")
-        lines += ["%d %s" % it for it in zip(self[5:9], texts) if it[0]]
-        return "".join(line + "\n" for line in lines)
-
-
 # ---- the rows of records ----
 
 
@@ -462,13 +427,6 @@ def _auxiliary(kind: AuxiliaryKind, it: Any) -> Auxiliary:
 
 def _coff_relocation(it: Any, text: Texts) -> CoffRelocation:
     return CoffRelocation(it.virtual_address, it.symbol_table_index, it.typ)
-
-
-def damage(it: Any) -> Damage:
-    """The damage of a record."""
-    tables = (Table.HEADER, Table.HEADER, Table.IMPORTS, Table.EXPORTS, Table.RELOCATIONS)
-    errors: Any = (error_of(getattr(it, name), table) for name, table in zip(Damage._fields, tables))
-    return Damage(*errors, *(getattr(it, name) for name in Damage._fields[5:]))
 
 
 # The kind of the walk over each table.

@@ -46,7 +46,15 @@ class Kind(NamedTuple):
 class Walk(Generic[_Row]):
     """An iterator over the rows of a table. It reads the file as it goes on, and keeps no row. If a
     row can't be read, it gives the rows before, raises PeError, and ends. After OutOfSteps it is not
-    over: it goes on as soon as its budget has more steps. Images, sections and libraries make walks."""
+    over: it goes on as soon as its budget has more steps. Images, sections and libraries make walks.
+
+    skipped: how many entries permissive mode skipped in what the walk has read so far, where strict
+        mode has an error; a table that is skipped as a whole counts one.
+    unmapped: how many entries led nowhere in what it has read so far; neither mode gives a row.
+    """
+
+    skipped: int
+    unmapped: int
 
     def __init__(self, image: Image, kind: Kind, cursor: Any = None, budget: Budget | None = None) -> None:
         if not (budget is None or isinstance(budget, Budget)):
@@ -55,6 +63,7 @@ class Walk(Generic[_Row]):
         self._cursor = kind.cursor() if cursor is None else cursor
         self._rows: Iterator[Any] = iter(())
         self._room, self._is_over = _FIRST, False
+        self.skipped = self.unmapped = 0
 
     def __iter__(self) -> Walk[_Row]:
         return self
@@ -85,4 +94,5 @@ class Walk(Generic[_Row]):
             if steps is not None and not kind.counts_steps:
                 steps.value -= batch.count
         self._cursor, self._room, self._is_over = cursor, _ROOM, batch.is_done
+        self.skipped, self.unmapped = self.skipped + batch.skipped, self.unmapped + batch.unmapped
         return rows

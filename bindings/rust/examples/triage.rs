@@ -30,12 +30,13 @@ fn report(image: &Image, budget: &mut Budget) -> Result<(), Error> {
     println!("text of the imphash: {imports} bytes");
     // what only goblin, or only Windows finds
     let stored = image.with_options(image.options().with_mapping(Mapping::AsStored));
-    let loaded: HashSet<_> = image.imports().within(budget).collect::<Result<_, _>>()?;
+    let mut walk = image.imports().within(budget);
+    let loaded: HashSet<_> = walk.by_ref().collect::<Result<_, _>>()?;
+    println!("imports: {} skipped, {} lead nowhere", walk.skipped(), walk.unmapped());
     let stored: HashSet<_> = stored.imports().within(budget).collect::<Result<_, _>>()?;
     for import in loaded.symmetric_difference(&stored).take(100) {
         println!("hidden {:.200} {:.200}", import.dll, import.name);
     }
-    print!("{}", image.damage(budget)?);
     Ok(())
 }
 

@@ -14,7 +14,6 @@ const TOO_SHORT: u32 = 3;
 const READ: u32 = 4;
 const MEMORY: u32 = 5;
 const STEPS: u32 = 7;
-const KIND: u32 = 8;
 const PLACE: u32 = 0xFFFF_FFFF;
 
 /// Why a file, a table or a part of one can't be read.
@@ -97,7 +96,6 @@ impl Error {
             (READ, 3) => ErrorKind::NotUtf8,
             (MEMORY, _) => ErrorKind::Memory,
             (STEPS, _) => ErrorKind::Steps,
-            (KIND, _) => ErrorKind::Kind,
             (PLACE, _) => ErrorKind::Place,
             _ => ErrorKind::Unknown,
         }
@@ -110,8 +108,8 @@ impl Error {
     }
 
     /// The part of the file that could not be read, if a read or a walk returned the error. `None`
-    /// for an error of a look-up, and for one of [`Damage`](crate::Damage) and
-    /// [`HeaderFaults`](crate::HeaderFaults), where the field names the part.
+    /// for an error of a look-up, and for one of [`HeaderFaults`](crate::HeaderFaults), where the
+    /// field names the part.
     #[must_use]
     pub const fn table(&self) -> Option<Table> {
         self.table
@@ -192,8 +190,6 @@ pub enum ErrorKind {
     Memory,
     /// The budget is used up, and the walk is not over.
     Steps,
-    /// The call is for images, and this is an object or a Terse Executable.
-    Kind,
     /// The file has no place for a changed header or section.
     Place,
     /// A kind that only a later version of this crate has a name for.

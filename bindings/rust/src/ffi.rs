@@ -10,11 +10,11 @@ use crate::headers::{
 };
 
 /// The number of this interface.
-pub const INTERFACE: u32 = 0x022b_15e8;
+pub const INTERFACE: u32 = 0xd674_d3c0;
 
 // Programs link only with a library of this interface, as no other one has this call.
 #[used]
-static NEEDS_INTERFACE: extern "C" fn() -> u32 = goblin_pe_interface_022b15e8;
+static NEEDS_INTERFACE: extern "C" fn() -> u32 = goblin_pe_interface_d674d3c0;
 
 /// Bytes of the file.
 #[repr(C)]
@@ -93,32 +93,6 @@ pub struct Image<'a> {
 
 #[repr(C)]
 #[derive(Clone, Copy, Default, Debug, PartialEq, Eq, Hash)]
-pub struct Fault {
-    pub status: u32,
-    pub cause: u32,
-    pub first: u64,
-    pub second: u64,
-}
-
-#[repr(C)]
-#[derive(Clone, Copy, Default, Debug, PartialEq, Eq, Hash)]
-pub struct Damage {
-    pub first_fault: Fault,
-    pub dos_stub: Fault,
-    pub section_names: Fault,
-    pub imports: Fault,
-    pub exports: Fault,
-    pub relocations: Fault,
-    pub skipped_libraries: usize,
-    pub skipped_entries: usize,
-    pub unmapped_entries: usize,
-    pub skipped_exports: usize,
-    pub is_sound: bool,
-    pub reserved: [u8; 7],
-}
-
-#[repr(C)]
-#[derive(Clone, Copy, Default, Debug, PartialEq, Eq, Hash)]
 pub struct ExportCursor {
     pub index: usize,
 }
@@ -152,7 +126,19 @@ pub struct Export<'a> {
 #[derive(Clone, Copy, Default, Debug, PartialEq, Eq, Hash)]
 pub struct Batch {
     pub count: usize,
+    pub skipped: usize,
+    pub unmapped: usize,
     pub is_done: bool,
+    pub reserved: [u8; 7],
+}
+
+#[repr(C)]
+#[derive(Clone, Copy, Default, Debug, PartialEq, Eq, Hash)]
+pub struct Fault {
+    pub status: u32,
+    pub cause: u32,
+    pub first: u64,
+    pub second: u64,
 }
 
 #[repr(C)]
@@ -514,24 +500,6 @@ const _: () = {
     assert!(offset_of!(Image, dos_stub_size) == 408);
     assert!(offset_of!(Image, rich_header) == 416);
     assert!(offset_of!(Image, reserved) == 436);
-    assert!(size_of::<Fault>() == 24 && align_of::<Fault>() == 8);
-    assert!(offset_of!(Fault, status) == 0);
-    assert!(offset_of!(Fault, cause) == 4);
-    assert!(offset_of!(Fault, first) == 8);
-    assert!(offset_of!(Fault, second) == 16);
-    assert!(size_of::<Damage>() == 184 && align_of::<Damage>() == 8);
-    assert!(offset_of!(Damage, first_fault) == 0);
-    assert!(offset_of!(Damage, dos_stub) == 24);
-    assert!(offset_of!(Damage, section_names) == 48);
-    assert!(offset_of!(Damage, imports) == 72);
-    assert!(offset_of!(Damage, exports) == 96);
-    assert!(offset_of!(Damage, relocations) == 120);
-    assert!(offset_of!(Damage, skipped_libraries) == 144);
-    assert!(offset_of!(Damage, skipped_entries) == 152);
-    assert!(offset_of!(Damage, unmapped_entries) == 160);
-    assert!(offset_of!(Damage, skipped_exports) == 168);
-    assert!(offset_of!(Damage, is_sound) == 176);
-    assert!(offset_of!(Damage, reserved) == 177);
     assert!(size_of::<ExportCursor>() == 8 && align_of::<ExportCursor>() == 8);
     assert!(offset_of!(ExportCursor, index) == 0);
     assert!(size_of::<Forwarder>() == 48 && align_of::<Forwarder>() == 8);
@@ -551,9 +519,17 @@ const _: () = {
     assert!(offset_of!(Export, has_name) == 104);
     assert!(offset_of!(Export, has_offset) == 105);
     assert!(offset_of!(Export, reserved) == 106);
-    assert!(size_of::<Batch>() == 16 && align_of::<Batch>() == 8);
+    assert!(size_of::<Batch>() == 32 && align_of::<Batch>() == 8);
     assert!(offset_of!(Batch, count) == 0);
-    assert!(offset_of!(Batch, is_done) == 8);
+    assert!(offset_of!(Batch, skipped) == 8);
+    assert!(offset_of!(Batch, unmapped) == 16);
+    assert!(offset_of!(Batch, is_done) == 24);
+    assert!(offset_of!(Batch, reserved) == 25);
+    assert!(size_of::<Fault>() == 24 && align_of::<Fault>() == 8);
+    assert!(offset_of!(Fault, status) == 0);
+    assert!(offset_of!(Fault, cause) == 4);
+    assert!(offset_of!(Fault, first) == 8);
+    assert!(offset_of!(Fault, second) == 16);
     assert!(size_of::<ExportDirectoryTable>() == 40 && align_of::<ExportDirectoryTable>() == 4);
     assert!(offset_of!(ExportDirectoryTable, export_flags) == 0);
     assert!(offset_of!(ExportDirectoryTable, time_date_stamp) == 4);
@@ -734,10 +710,9 @@ const _: () = {
 #[rustfmt::skip]
 unsafe extern "C" {
     pub safe fn goblin_pe_interface() -> u32;
-    safe fn goblin_pe_interface_022b15e8() -> u32;
+    safe fn goblin_pe_interface_d674d3c0() -> u32;
     pub safe fn goblin_pe_fault_string(fault: &Fault, text: &mut [u8; 256]) -> *const u8;
     pub safe fn goblin_pe_checksum<'a>(image: &Image<'a>, sum: &mut u32) -> bool;
-    pub safe fn goblin_pe_read_damage<'a>(image: &Image<'a>, damage: &mut Damage, steps: &mut usize) -> Fault;
     pub fn goblin_pe_next_exports<'a>(image: &Image<'a>, cursor: &mut ExportCursor, exports: *mut Export<'a>, room: usize, steps: &mut usize, batch: &mut Batch) -> Fault;
     pub safe fn goblin_pe_read_export_directory<'a>(image: &Image<'a>, directory: &mut ExportDirectory<'a>) -> Fault;
     pub fn goblin_pe_next_export_addresses<'a>(image: &Image<'a>, cursor: &mut ExportAddressCursor, addresses: *mut ExportAddress, room: usize, batch: &mut Batch) -> Fault;

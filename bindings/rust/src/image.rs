@@ -324,9 +324,8 @@ impl<'a> Image<'a> {
 
     /// A walk over the imports, in the order of the import directory.
     ///
-    /// Entries that lead nowhere give no import, in either mode. Permissive mode also skips
-    /// libraries without an address table, and entries whose hint is cut. [`damage`](Self::damage)
-    /// counts all of these.
+    /// It skips libraries without an address table, imports whose hint can't be read, and tables that
+    /// the file cuts short. Each counts once. Imports whose name has no offset are unmapped.
     pub fn imports(&self) -> Walk<'a, Import<'a>> {
         Walk::of(self)
     }
@@ -342,8 +341,8 @@ impl<'a> Image<'a> {
 
     /// A walk over the exports that have a name pointer, in the order of the name pointers.
     ///
-    /// A name pointer without an ordinal, with an ordinal past the address table, or with a forwarder
-    /// that can't be read gives no export, in either mode. [`damage`](Self::damage) counts these.
+    /// Name pointers without an ordinal, with an ordinal past the address table, or with a forwarder
+    /// that can't be read are unmapped.
     pub fn exports(&self) -> Walk<'a, Export<'a>> {
         Walk::of(self)
     }
@@ -364,40 +363,13 @@ impl<'a> Image<'a> {
         Walk::of(self)
     }
 
-    /// Whether the image has a table, and whether it can be walked over. The header is always there.
-    #[must_use]
-    pub fn table_state(&self, table: Table) -> TableState {
-        let it = &self.record;
-        let has = |which| self.directory(which).is_some();
-        let (is_there, fault) = match table {
-            Table::Header => (true, ffi::Fault::default()),
-            Table::RichHeader => (it.rich_header.is_present, ffi::Fault::default()),
-            Table::Imports => (has(DirectoryType::ImportTable), self.refusal::<Import>()),
-            Table::Exports => (has(DirectoryType::ExportTable), self.refusal::<Export>()),
-            Table::Relocations => (
-                has(DirectoryType::BaseRelocationTable),
-                self.refusal::<RelocationBlock>(),
-            ),
-            Table::Symbols => (
-                it.coff_header.pointer_to_symbol_table != 0,
-                self.refusal::<Symbol>(),
-            ),
-        };
-        match Error::some(fault, Some(table)) {
-            _ if !is_there => TableState::Absent,
-            None => TableState::Present,
-            Some(error) => TableState::Refused(error),
-        }
-    }
-
-    // Why strict mode refuses a table as a whole.
-    pub(crate) fn refusal<T: Walked<'a>>(&self) -> ffi::Fault {
-        let mut strict = self.record;
-        strict.options.is_permissive = false;
+    // Tests that a table is not refused as a whole.
+    pub(crate) fn test<T: Walked<'a>>(&self) -> Result<(), Error> {
         let (mut cursor, mut steps) = (T::Cursor::default(), usize::MAX);
         let (rows, mut batch) = (NonNull::dangling().as_ptr(), ffi::Batch::default());
         // SAFETY: there is room for no row.
-        unsafe { T::next(&strict, &mut cursor, rows, 0, &mut steps, &mut batch) }
+        let fault = unsafe { T::next(&self.record, &mut cursor, rows, 0, &mut steps, &mut batch) };
+        Error::test(fault, Some(T::TABLE))
     }
 }
 
@@ -580,26 +552,6 @@ impl<'a> Image<'a> {
 
 /// # Facts about the whole file
 impl<'a> Image<'a> {
-    /// Reports what strict mode refuses of the image, part by part, and what the walks skip. The mode
-    /// of the image makes no difference. For a [partial](Self::read_partial) image it reports the parts
-    /// that could be read; [`HeaderFaults`] reports the others.
-    ///
-    /// # Errors
-    /// [`ErrorKind::Steps`](crate::ErrorKind::Steps), if the budget is too small for the whole
-    /// image: then nothing is known of its damage. [`ErrorKind::Memory`](crate::ErrorKind::Memory).
-    pub fn damage(&self, budget: &mut Budget) -> Result<Damage, Error> {
-        let it = budget.take(|steps| {
-            filled(None, |it| ffi::goblin_pe_read_damage(&self.record, it, steps))
-        })?;
-        let mut damage = Damage::of(&it);
-        if Image::read(self.bytes(), self.options()).is_err() {
-            damage.is_sound = false;
-            // (zeros in place of a DOS header place no stub)
-            damage.dos_stub = damage.dos_stub.filter(|_| self.record.dos_header.signature != 0);
-        }
-        Ok(damage)
-    }
-
     /// The text whose MD5 is the imphash that analysts compare, as pefile's `get_imphash` hashes it.
     /// `None` if there are no imports, or if the options cut a name: then the hash would differ.
     ///
@@ -776,17 +728,6 @@ impl fmt::Display for Table {
     }
 }
 
-/// Whether an image has a table, and whether it can be walked over.
-#[derive(Clone, Copy, Debug, PartialEq, Eq, Hash)]
-pub enum TableState {
-    /// The image has no such table: its data directory is zeros.
-    Absent,
-    /// A walk gives its rows, as far as they can be read.
-    Present,
-    /// Strict mode refuses the table as a whole. In permissive mode a walk over it has no rows.
-    Refused(Error),
-}
-
 /// Where memory of an image comes from.
 #[derive(Clone, Copy, Debug, Default, PartialEq, Eq, PartialOrd, Ord, Hash)]
 #[non_exhaustive]
@@ -918,83 +859,5 @@ impl HeaderFaults {
             section_table: part(it.section_table),
             section_names: part(it.section_names),
         }
-    }
-}
-
-/// The damage of an image: what strict mode refuses, part by part, and what the walks skip. A part
-/// that strict mode reads, or that the image does not have, is `None`.
-///
-/// `{}` prints a line for each part that is damaged, and for each count that is not 0. It prints
-/// nothing for an image without damage.
-#[derive(Clone, Copy, Debug, Default, PartialEq, Eq, Hash)]
-#[non_exhaustive]
-pub struct Damage {
-    /// Why strict mode refuses the DOS stub.
-    pub dos_stub: Option<Error>,
-    /// Why strict mode refuses a section name.
-    pub section_names: Option<Error>,
-    /// Why strict mode refuses the imports.
-    pub imports: Option<Error>,
-    /// Why strict mode refuses the exports.
-    pub exports: Option<Error>,
-    /// Why strict mode refuses the base relocation directory. Its blocks are not looked at.
-    pub relocations: Option<Error>,
-    /// How many libraries permissive mode skips, because they have no address table.
-    pub skipped_libraries: usize,
-    /// How many imports permissive mode skips, because their hint is cut.
-    pub skipped_entries: usize,
-    /// How many entries give no import in either mode, because they lead nowhere.
-    pub unmapped_entries: usize,
-    /// How many name pointers give no export, in either mode.
-    pub skipped_exports: usize,
-    /// Whether both modes read the image, and read it alike.
-    pub is_sound: bool,
-}
-
-impl Damage {
-    /// The damaged parts, as pairs (name of the field, why).
-    pub fn errors(&self) -> impl Iterator<Item = (&'static str, Error)> + use<> {
-        let parts = [
-            ("dos_stub", self.dos_stub),
-            ("section_names", self.section_names),
-            ("imports", self.imports),
-            ("exports", self.exports),
-            ("relocations", self.relocations),
-        ];
-        parts.into_iter().filter_map(|(name, why)| Some((name, why?)))
-    }
-
-    fn of(it: &ffi::Damage) -> Damage {
-        let part = |fault| Error::some(fault, None);
-        Damage {
-            dos_stub: part(it.dos_stub),
-            section_names: part(it.section_names),
-            imports: part(it.imports),
-            exports: part(it.exports),
-            relocations: part(it.relocations),
-            skipped_libraries: it.skipped_libraries,
-            skipped_entries: it.skipped_entries,
-            unmapped_entries: it.unmapped_entries,
-            skipped_exports: it.skipped_exports,
-            is_sound: it.is_sound,
-        }
-    }
-}
-
-impl fmt::Display for Damage {
-    fn fmt(&self, f: &mut fmt::Formatter<'_>) -> fmt::Result {
-        for (part, why) in self.errors() {
-            writeln!(f, "{part}: {why}")?;
-        }
-        let counts = [
-            (self.skipped_libraries, "libraries are skipped"),
-            (self.skipped_entries, "imports are skipped"),
-            (self.unmapped_entries, "import entries lead nowhere"),
-            (self.skipped_exports, "name pointers give no export"),
-        ];
-        for (count, what) in counts.into_iter().filter(|(count, _)| *count > 0) {
-            writeln!(f, "{count} {what}")?;
-        }
-        Ok(())
     }
 }

@@ -9,16 +9,17 @@
 //! fn list(bytes: &[u8]) -> Result<(), Error> {
 //!     let image = Image::read(bytes, Options::permissive().with_longest_name(512))?;
 //!     let mut budget = Budget::steps(1_000_000);
-//!     for import in image.imports().within(&mut budget) {
+//!     let mut imports = image.imports().within(&mut budget);
+//!     for import in imports.by_ref() {
 //!         let import = import?;
 //!         println!("{} {}", import.dll, import.name);
 //!     }
+//!     println!("{} skipped, {} lead nowhere", imports.skipped(), imports.unmapped());
 //!     for export in image.exports().within(&mut budget) {
 //!         println!("exports {}", export?.name.unwrap_or_default());
 //!     }
 //!     let entry = image.memory_at(image.entry(), 16);
 //!     println!("begins with {:02x?}, in {:?}", entry.bytes, entry.region);
-//!     print!("{}", image.damage(&mut budget)?);
 //!     Ok(())
 //! }
 //!
@@ -60,7 +61,8 @@
 //! # Strict and permissive
 //!
 //! Strict mode, the default, refuses a damaged table. Permissive mode skips the damaged parts, and
-//! [`Image::damage`] reports what it skipped.
+//! [`Walk::skipped`] counts them. To see why strict mode refuses a table, walk over it in strict mode:
+//! [`Image::with_options`].
 //!
 //! By default addresses are mapped as Windows maps them, because packers hide imports from readers
 //! that map otherwise. [`Mapping`] also has the rules of goblin and pefile.
@@ -105,9 +107,7 @@ pub use headers::{
     CoffHeader, DataDirectory, DirectoryType, DosHeader, Header, OptionalHeader, StandardFields,
     TeHeader, WindowsFields,
 };
-pub use image::{
-    Damage, HeaderFaults, Image, Kind, Memory, Region, Table, TableState, update_checksum,
-};
+pub use image::{HeaderFaults, Image, Kind, Memory, Region, Table, update_checksum};
 pub use options::{Budget, Mapping, Options};
 pub use pe::Pe;
 pub use rows::{

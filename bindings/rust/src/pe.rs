@@ -1,13 +1,13 @@
 //! An image with a list of the rows of each table.
 
 use crate::error::Error;
-use crate::image::{Image, Table};
+use crate::image::Image;
 use crate::options::{Budget, Options};
 use crate::rows::{
     Export, ExportAddress, ExportDirectory, Import, RelocationBlock, RichEntry, Section,
 };
 use crate::text::Text;
-use crate::walk::append;
+use crate::walk::{Sums, append};
 
 /// An image and the rows of its tables, as the walks of an [`Image`] give them.
 ///
@@ -48,6 +48,11 @@ pub struct Pe<'a> {
     /// for bytes that are no entry of the Rich header, and for bytes that are no block of base
     /// relocations. In permissive mode these are all errors at which a walk ended.
     pub errors: Vec<Error>,
+    /// How many entries of all tables permissive mode skipped. Each [`Walk`](crate::Walk) says how
+    /// many it did.
+    pub skipped: usize,
+    /// How many entries of all tables lead nowhere, in both modes.
+    pub unmapped: usize,
 }
 
 impl<'a> Pe<'a> {
@@ -85,24 +90,28 @@ impl<'a> Pe<'a> {
             export_addresses: Vec::new(),
             relocation_blocks: Vec::new(),
             errors: Vec::new(),
+            skipped: 0,
+            unmapped: 0,
         };
-        let sections = append(&image, &mut pe.sections, budget);
+        let mut sums = Sums::ZEROS;
+        let sections = append(&image, &mut pe.sections, &mut sums, budget);
         pe.keep(sections, Ends::Refused)?;
-        let entries = append(&image, &mut pe.rich_entries, budget);
+        let entries = append(&image, &mut pe.rich_entries, &mut sums, budget);
         pe.keep(entries, Ends::Early)?;
-        let imports = append(&image, &mut pe.imports, budget);
+        let imports = append(&image, &mut pe.imports, &mut sums, budget);
         pe.keep(imports, Ends::Refused)?;
         let directory = image.export_directory().map(|it| pe.export_directory = it);
         pe.keep(directory, Ends::Refused)?;
-        let exports = append(&image, &mut pe.exports, budget);
+        let exports = append(&image, &mut pe.exports, &mut sums, budget);
         pe.keep(exports, Ends::Refused)?;
-        let addresses = append(&image, &mut pe.export_addresses, budget);
+        let addresses = append(&image, &mut pe.export_addresses, &mut sums, budget);
         pe.keep(addresses, Ends::Refused)?;
         if !image.options().is_permissive {
-            Error::test(image.refusal::<RelocationBlock>(), Some(Table::Relocations))?;
+            image.test::<RelocationBlock>()?;
         }
-        let blocks = append(&image, &mut pe.relocation_blocks, budget);
+        let blocks = append(&image, &mut pe.relocation_blocks, &mut sums, budget);
         pe.keep(blocks, Ends::Early)?;
+        (pe.skipped, pe.unmapped) = (sums.skipped, sums.unmapped);
         Ok(pe)
     }
 

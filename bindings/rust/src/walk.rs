@@ -34,7 +34,22 @@ pub struct Walk<'a, T: Row<'a>> {
     // What the last call gave, and how many of these were handed out.
     records: Vec<T::Record>,
     given: usize,
+    sums: Sums,
     pub(crate) is_over: bool,
+}
+
+// How many entries gave no row.
+#[derive(Clone, Copy)]
+pub(crate) struct Sums {
+    pub(crate) skipped: usize,
+    pub(crate) unmapped: usize,
+}
+
+impl Sums {
+    pub(crate) const ZEROS: Sums = Sums {
+        skipped: 0,
+        unmapped: 0,
+    };
 }
 
 // How many records a call is asked for: the first one, and each one after it.
@@ -51,6 +66,7 @@ impl<'a, T: Row<'a>> Walk<'a, T> {
             cursor,
             records: Vec::new(),
             given: 0,
+            sums: Sums::ZEROS,
             is_over: false,
         }
     }
@@ -69,6 +85,20 @@ impl<'a, T: Row<'a>> Walk<'a, T> {
         }
     }
 
+    /// How many entries permissive mode skipped in what the walk has read so far, where strict mode
+    /// gives an error; a table that is skipped as a whole counts one.
+    #[must_use]
+    pub const fn skipped(&self) -> usize {
+        self.sums.skipped
+    }
+
+    /// How many entries led nowhere in what the walk has read so far: in both modes they give no row
+    /// and no error.
+    #[must_use]
+    pub const fn unmapped(&self) -> usize {
+        self.sums.unmapped
+    }
+
     // Reads the next records, at most `most`. Returns `false` if there are none.
     #[inline(never)]
     fn refill(&mut self, most: usize, steps: &mut usize) -> Result<bool, Error> {
@@ -85,7 +115,8 @@ impl<'a, T: Row<'a>> Walk<'a, T> {
             let rows = self.records.as_mut_ptr();
             // SAFETY: there is room for the records, and the library has filled `count` of them.
             unsafe {
-                let batch = fill::<T>(&self.image, &mut self.cursor, rows, room, steps);
+                let (cursor, sums) = (&mut self.cursor, &mut self.sums);
+                let batch = fill::<T>(&self.image, cursor, rows, room, steps, sums);
                 self.is_over = match &batch {
                     Ok(batch) => batch.is_done,
                     // (with more steps or memory it goes on)
@@ -129,12 +160,15 @@ unsafe fn fill<'a, T: Row<'a>>(
     rows: *mut T::Record,
     room: usize,
     steps: &mut usize,
+    sums: &mut Sums,
 ) -> Result<ffi::Batch, Error> {
     let mut batch = ffi::Batch::default();
     // SAFETY: as above.
     let fault = unsafe { T::next(&image.record, cursor, rows, room, steps, &mut batch) };
     Error::test(fault, Some(T::TABLE))?;
     batch.count = batch.count.min(room);
+    sums.skipped += batch.skipped;
+    sums.unmapped += batch.unmapped;
     if !T::COUNTS_STEPS {
         *steps -= batch.count.min(*steps);
     }
@@ -146,6 +180,7 @@ unsafe fn fill<'a, T: Row<'a>>(
 pub(crate) fn append<'a, T: Row<'a>>(
     image: &Image<'a>,
     rows: &mut Vec<T>,
+    sums: &mut Sums,
     budget: &mut Budget,
 ) -> Result<(), Error> {
     let mut cursor = T::Cursor::default();
@@ -156,7 +191,7 @@ pub(crate) fn append<'a, T: Row<'a>>(
             let room = room_within::<T>(STACK, *steps)?;
             // SAFETY: there is room for the records, and the library has filled `count` of them.
             let (records, is_done) = unsafe {
-                let batch = fill::<T>(image, &mut cursor, first, room, steps)?;
+                let batch = fill::<T>(image, &mut cursor, first, room, steps, sums)?;
                 (slice::from_raw_parts(first, batch.count), batch.is_done)
             };
             if rows.try_reserve(records.len()).is_err() {
@@ -201,6 +236,18 @@ pub struct Within<'a, 'b, T: Row<'a>> {
 }
 
 impl<'a, T: Row<'a>> Within<'a, '_, T> {
+    /// As [`Walk::skipped`].
+    #[must_use]
+    pub const fn skipped(&self) -> usize {
+        self.walk.skipped()
+    }
+
+    /// As [`Walk::unmapped`].
+    #[must_use]
+    pub const fn unmapped(&self) -> usize {
+        self.walk.unmapped()
+    }
+
     /// The walk itself, which goes on after the last row that it gave. So you can go on with another
     /// budget, also after an error of the kind [`ErrorKind::Steps`](crate::ErrorKind::Steps).
     ///

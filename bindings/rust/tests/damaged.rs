@@ -1,7 +1,7 @@
-//! What is read of damaged files: walks, damage, partial images and forwarders.
+//! What is read of damaged files: walks, partial images and forwarders.
 use goblin_pe::{
-    Budget, Cause, DirectoryType, Error, ErrorKind, Forwarder, Image, Imported, Mapping, Options, Pe,
-    Region, Row, Table, Text, Walk,
+    Budget, Cause, DirectoryType, Error, ErrorKind, Forwarder, Image, Import, Imported, Mapping,
+    Options, Pe, Region, Row, Table, Text, Walk,
 };
 use std::fmt::Debug;
 
@@ -30,9 +30,10 @@ fn entry(image: &Image, which: DirectoryType) -> usize {
     image.dos_header().pe_pointer as usize + 24 + 112 + 8 * which as usize
 }
 
-fn damage_of(bytes: &[u8]) -> goblin_pe::Damage {
-    let image = Image::read(bytes, Options::permissive()).expect("an image");
-    image.damage(&mut Budget::unlimited()).expect("its damage")
+// What a walk skips, and what leads nowhere.
+fn sums<'a, T: Row<'a>>(mut walk: Walk<'a, T>) -> [usize; 2] {
+    walk.by_ref().for_each(drop);
+    [walk.skipped(), walk.unmapped()]
 }
 
 #[test]
@@ -58,16 +59,23 @@ fn errors_have_kinds_numbers_and_texts() {
 }
 
 #[test]
-fn the_damage_of_a_partial_image_is_that_of_what_was_read() -> Result<(), Error> {
+fn strict_walks_have_an_error_where_permissive_ones_skip() -> Result<(), Error> {
+    fn has_error<'a, T: Row<'a>>(mut walk: Walk<'a, T>) -> bool {
+        walk.any(|it| it.is_err())
+    }
     let whole = sample("imports_by_name_x64.dll");
-    for length in (0..whole.len()).step_by(5) {
-        let bytes = &whole[..length];
-        let (image, faults) = Image::read_partial(bytes, Options::permissive());
-        let damage = image.damage(&mut Budget::unlimited())?;
-        assert_eq!(damage.dos_stub, None, "{length}");
-        assert!(!(damage.is_sound && faults.refusal.is_some()), "{length}");
-        let printed = format!("{damage}{:?}", Vec::from_iter(faults.errors()));
-        assert!(!printed.contains(": header: "), "{printed}");
+    for length in 0..whole.len() {
+        let (image, _) = Image::read_partial(&whole[..length], Options::permissive());
+        let strict = image.with_options(Options::default());
+        // (a row whose name can't be read is not skipped)
+        let imports = image.imports().collect::<Result<Vec<_>, _>>()?;
+        let is_named = |it: &Import| !it.dll.is_empty() && !it.name.to_string().is_empty();
+        let is_read = sums(image.imports())[0] == 0 && imports.iter().all(is_named);
+        assert_eq!(has_error(strict.imports()), !is_read, "{length}");
+        let is_skipped = sums(image.exports())[0] > 0;
+        assert_eq!(has_error(strict.exports()), is_skipped, "{length}");
+        let is_skipped = sums(image.export_addresses())[0] > 0;
+        assert_eq!(has_error(strict.export_addresses()), is_skipped, "{length}");
     }
     Ok(())
 }
@@ -87,9 +95,8 @@ fn a_walk_ends_with_the_error_of_a_read() -> Result<(), Error> {
     assert_eq!(library.name, Err(error));
     let import = library.imports(&image).next().expect("an import")?;
     assert_eq!((import.dll, import.name.to_string().as_str()), (Text(b""), "GetTickCount"));
-    let damage = damage_of(&bytes);
-    assert_eq!(Vec::from_iter(damage.errors()), [("imports", error)]);
-    assert!(!damage.is_sound && damage.to_string().starts_with("imports: "));
+    let image = Image::read(&bytes, Options::permissive())?;
+    assert_eq!((image.imports().count(), sums(image.imports())), (1, [0, 0]));
     Ok(())
 }
 
@@ -123,9 +130,11 @@ fn exports_with_too_many_counted() -> Result<(), Error> {
         put(&mut changed, record + field, u32::MAX); // (addresses, then name pointers)
         let error = Pe::parse(&changed).expect_err("too many exports");
         assert_eq!(error.table(), Some(Table::Exports));
-        assert_eq!(damage_of(&changed).exports, Some(error));
         let image = Image::read(&changed, Options::permissive())?;
-        assert_eq!(Pe::of(image, &mut Budget::unlimited())?.exports, []);
+        assert_eq!(sums(image.exports()), [1, 0]);
+        let pe = Pe::of(image, &mut Budget::unlimited())?;
+        assert_eq!((pe.exports, pe.unmapped), (vec![], 0));
+        assert_eq!(pe.skipped, if are_addresses_read { 1 } else { 2 });
         if are_addresses_read {
             let ordinal = first.expect("an address").ordinal;
             assert_eq!(Image::parse(&changed)?.find_export_by_ordinal(ordinal)?, first);
@@ -137,7 +146,7 @@ fn exports_with_too_many_counted() -> Result<(), Error> {
 
 // The address table is empty. The last name pointer is known as the last, so the end needs no step.
 #[test]
-fn name_pointers_without_exports_are_steps_and_damage() -> Result<(), Error> {
+fn name_pointers_without_exports_are_steps_and_unmapped() -> Result<(), Error> {
     let mut bytes = sample("forwarders_x64.dll");
     let record = place(&Image::parse(&bytes)?, DirectoryType::ExportTable);
     put(&mut bytes, record + 0x14, 0);
@@ -148,8 +157,8 @@ fn name_pointers_without_exports_are_steps_and_damage() -> Result<(), Error> {
         let wanted = (steps < pointers).then_some(ErrorKind::Steps);
         assert_eq!(last.and_then(Result::err).map(|it| it.kind()), wanted, "{steps}");
     }
-    let damage = image.damage(&mut Budget::unlimited())?;
-    assert_eq!((damage.skipped_exports, damage.is_sound), (pointers, true));
+    assert_eq!(sums(image.exports()), [0, pointers]);
+    assert_eq!(Pe::parse(&bytes)?.unmapped, pointers);
     Ok(())
 }
 
@@ -210,8 +219,7 @@ fn names_in_the_headers_are_read_as_windows_maps_them() -> Result<(), Error> {
         let first = image.imports().next().transpose()?;
         let wanted = is_seen.then(|| String::from("VirtualAlloc"));
         assert_eq!(first.map(|it| it.name.to_string()), wanted);
-        let damage = image.damage(&mut Budget::unlimited())?;
-        assert_eq!(damage.unmapped_entries, usize::from(!is_seen));
+        assert_eq!(sums(image.imports()), [0, usize::from(!is_seen)]);
         assert_eq!(image.find_offset(hint).is_some(), is_seen);
         let region = if is_seen { Region::Headers } else { Region::Unmapped };
         assert_eq!(image.memory_at(hint, 2).region, region);
@@ -262,6 +270,7 @@ fn count<'a, T: Row<'a> + Clone + PartialEq + Debug>(walk: &Walk<'a, T>) -> usiz
             assert!(calls < 1000, "a walk has no end");
         }
         assert_eq!(found, all, "{steps} steps at a time");
+        assert_eq!([rest.skipped(), rest.unmapped()], sums(walk.clone()));
     }
     all.len()
 }
@@ -281,10 +290,12 @@ fn walks_go_on_after_their_steps_ran_out() -> Result<(), Error> {
     }
     // (strict mode refuses the last library after its imports)
     assert_eq!(counts, [13 + 9, 8, 10, 14, 4]);
-    let damage = damage_of(&libraries_of_shared_imports());
-    let imports = damage.imports.expect("a library without an address table");
-    assert_eq!(imports.kind(), ErrorKind::Malformed(Cause::Unmapped));
-    assert_eq!((damage.skipped_libraries, damage.unmapped_entries), (1, 12));
+    let bytes = libraries_of_shared_imports();
+    let image = Image::read(&bytes, Options::permissive())?;
+    assert_eq!((sums(image.imports()), sums(image.libraries())), ([1, 12], [1, 0]));
+    let last = image.with_options(Options::default()).imports().last();
+    let error = last.expect("a row").expect_err("a library without an address table");
+    assert_eq!(error.kind(), ErrorKind::Malformed(Cause::Unmapped));
     Ok(())
 }
 

@@ -111,7 +111,6 @@ becomes_same r bytes strict asked made h is =
 -- A table was read: it is asked for, and a directory leads to it.
 pub record IsReadFrom {A : Type 0} (asked : Bool) (reader : DataDirectory → Reading A)
     (directory : Option DataDirectory) (bytes : List ℕ) (table : A) : Type 0 where
-  pub is_asked : asked ≡ true
   pub at : DataDirectory
   pub is : directory ≡ Some at
   pub read : (reader at).value bytes ≡ Some table
@@ -130,7 +129,6 @@ pub read_from : {A : Type 0} (asked strict : Bool) (reader : DataDirectory → R
 read_from false strict reader directory bytes table is = absurd cc
 read_from true strict reader None bytes table is = absurd cc
 read_from true strict reader (Some d) bytes table is = record {
-  is_asked = refl;
   at = d;
   is = refl;
   read = part-read strict ((reader d).value bytes) table is;

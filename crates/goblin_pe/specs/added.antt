@@ -1,3 +1,2 @@
 pub mod Checksums
-pub mod Damages
 pub mod Layouts

@@ -1,19 +1,17 @@
 //! What goblin does not have, from this crate and from those below: layouts, through which tables
-//! are read as walks; damage; checksums.
+//! are read as walks; checksums.
 
-mod damage;
 mod file_imports;
 mod file_libraries;
 mod image_checksum;
 mod layout;
 
-pub use damage::Damage;
 pub use file_imports::FileImports;
 pub use goblin_pe_export::added::{Exports, WalkedExport};
 pub use goblin_pe_head::added::{HeaderParts, section_records_at, unnamed_records};
 pub use goblin_pe_import::added::{
-    AsciiImports, ImportCursor, Imports, LeftOut, Libraries, WalkedImport, WalkedLibrary,
+    AsciiImports, ImportCursor, Imports, Libraries, Passed, WalkedImport, WalkedLibrary,
 };
 pub use goblin_pe_sect::added::{MOST_WITHOUT_INDEX, find_rva, offset_by_records, rva_in};
-pub use image_checksum::{checksum, checksum_field, file_checksum};
+pub use image_checksum::checksum;
 pub use layout::{Layout, section_records_of};

@@ -5,7 +5,7 @@ use Rattle.std.proofs.Math.Seq.{drop-append_seam, take-append_seam}
 use Rattle.std.proofs.lemmas.List.{append_assoc, drop-set-lt, length-append, length-map, length-set, map-append, take_all, take_more_set}
 use Rattle.goblin_base.specs.{declared.error.ErrorOf.ErrorOf, Reading.Reading}
 use Rattle.goblin_pe_c_headers.specs.Filled.{Filled}
-use Rattle.goblin_pe_c_headers.specs.Onward.{AtBatch, Batch, FillsFrom, FillsNext, IsNextFault, IsRefusedNext, Table, TellsEnd, unrefused, values_before}
+use Rattle.goblin_pe_c_headers.specs.Onward.{AtBatch, Batch, FillsFrom, FillsNext, IsNextFault, IsRefusedNext, Table, TellsEnd, rows_given, unrefused, values_before}
 
 -- ---- the values before a refusal
 
@@ -243,7 +243,7 @@ module _ {P R A B S : Type 0} {table : Table P R A B} {left : S → List (Option
 
 -- where nothing comes
 pub none-given : {P R A B : Type 0} (table : Table P R A B) (IsCut : Type 0) (Holds : List (Option A) → Type 0) (at : P) (old : List R) → table.from at ≡ Some [] → Holds []
-    → FillsNext table IsCut Holds (record { position = at; records = old }) (record { position = at; records = old }) (record { count = 0; is_done = not (length old == 0) })
+    → FillsNext table IsCut Holds (record { position = at; records = old }) (record { position = at; records = old }) (rows_given 0 (not (length old == 0)))
 none-given {P} {R} {A} table IsCut Holds at old none holds =
     let start = items-start table (λ (items : List (Option A)). items) [] at old none in
     items-gives start (λ left. TellsEnd IsCut (drop 0 left) (length old) 0 (not (length old == 0)) × Holds left) at (items-end start at refl none (λ _. refl)) (done-none start refl, holds)

@@ -5,6 +5,7 @@ use Rattle.goblin_base.specs.declared.error.ErrorOf.TheVariants.{Read}
 use Rattle.goblin_base.specs.declared.error.ReadFault.TheVariants.{TooBig}
 use Rattle.goblin_pe_head.specs.declared.header.rich.RichMetadata.{RichMetadata}
 use Rattle.goblin_pe_c_headers.specs.RichHeaders.{GivesEntriesOf, IsRefusedEntry, entries_from, is_rest, rich_table}
+use Rattle.goblin_pe_c_headers.specs.Onward.{rows_given}
 use Rattle.goblin_pe_c_headers.proofs.Batches.{items-fault, items-refused, done-refused}
 use Rattle.goblin_pe_c_headers.proofs.GivenOnward.{AtIndex, index-end, index-more}
 use Rattle.goblin_pe_c_headers.proofs.RichEntries.{entries, entries_count, entries_more, entries_none, entries_rest}
@@ -25,17 +26,17 @@ module _ (key : ℕ) (stretch : List ℕ) {from : ℕ} {old : List RichMetadata}
 
   -- nothing is left
   pub entry-end : slice_get (entries key stretch) index ≡ None → is_rest stretch index ≡ false → count < length records
-      → GivesEntriesOf key stretch (record { position = from; records = old }) (record { position = index; records = records }) (record { count = count; is_done = true })
+      → GivesEntriesOf key stretch (record { position = from; records = old }) (record { position = index; records = records }) (rows_given count true)
   entry-end none ended within =
       let left = entries_none key stretch index none ended in
       index-end h left (ap (λ (items : List (Option RichMetadata)). Some items) left) within
 
   -- bytes are left that are no entry, after some
   pub entry-rest : is_rest stretch index ≡ true → count ≢ 0
-      → GivesEntriesOf key stretch (record { position = from; records = old }) (record { position = index; records = records }) (record { count = count; is_done = false })
+      → GivesEntriesOf key stretch (record { position = from; records = old }) (record { position = index; records = records }) (rows_given count false)
   entry-rest is some =
       let left = entries_rest key stretch index is in
-      (items-refused h.at left some, (done-refused h.at left, h.moved))
+      (items-refused h.at left some, (done-refused h.at left, (h.moved, (refl, refl))))
 
   -- or at once
   pub entry-fault : is_rest stretch index ≡ true → count ≡ 0 → count < length records

@@ -6,7 +6,7 @@ use Rattle.std.proofs.lemmas.List.FromFn.{get_or-map-range_with_len, length-map-
 use Rattle.std.proofs.lemmas.Option.{get_or_from_slice_get, slice_get_cases, slice_get-get_or, slice_get_past, slice_get_within}
 use Rattle.goblin_base.specs.Tables.{records_in}
 use Rattle.goblin_base.proofs.RecordItems.{length-records_in}
-use Rattle.goblin_pe_c_headers.specs.Onward.{FillsNext, GivesRows, Table, TellsEnd, row_table, unrefused}
+use Rattle.goblin_pe_c_headers.specs.Onward.{CountsRows, FillsRows, GivesRows, Table, TellsEnd, row_table, rows_given, unrefused}
 use Rattle.goblin_pe_c_headers.proofs.Batches.{AtItems, items-end, items-full, items-gives, items-more, items-start, items-stay, done-end, done-full}
 
 -- ---- the items of a list from an index on
@@ -41,19 +41,19 @@ module _ {W A B : Type 0} {table : Table ℕ W A B} {left : ℕ → List (Option
   -- what the batch has given
   abbrev pub Gives : ℕ → Bool → Type 0
   Gives n is_done =
-      FillsNext table ⊥ (λ all. index ≡ place n) (record { position = from; records = old }) (record { position = index; records = records }) (record { count = n; is_done = is_done })
+      FillsRows table (index ≡ place n) (record { position = from; records = old }) (record { position = index; records = records }) (rows_given n is_done)
 
   -- where no item is left
   pub index-end : left index ≡ [] → table.from index ≡ Some [] → count < length records → Gives count true
   index-end none goes within =
-      items-gives h.at (λ all. TellsEnd ⊥ (drop count all) (length old) count true × (index ≡ place count)) index
-      (items-end h.at index none goes (items-stay h.at)) (done-end h.at none within, h.moved)
+      items-gives h.at (λ all. TellsEnd ⊥ (drop count all) (length old) count true × ((index ≡ place count) × CountsRows (rows_given count true))) index
+      (items-end h.at index none goes (items-stay h.at)) (done-end h.at none within, (h.moved, (refl, refl)))
 
   -- and where no room is
   pub index-full : (n : ℕ) → n ≡ count → length records ≤ count → Gives n false
   index-full n all full =
-      rw all (items-gives h.at (λ all. TellsEnd ⊥ (drop count all) (length old) count false × (index ≡ place count)) index
-      (items-full h.at full) (done-full h.at full, h.moved))
+      rw all (items-gives h.at (λ all. TellsEnd ⊥ (drop count all) (length old) count false × ((index ≡ place count) × CountsRows (rows_given count false))) index
+      (items-full h.at full) (done-full h.at full, (h.moved, (refl, refl))))
 
 -- ---- the items of a list
 
@@ -78,7 +78,7 @@ module _ {W B : Type 0} {view : W → B} {items : List B} {from : ℕ} {old : Li
       rw after (row-more r there room)
 
   pub row-end : slice_get items index ≡ None → count < length records
-      → GivesRows view items (record { position = from; records = old }) (record { position = index; records = records }) (record { count = count; is_done = true })
+      → GivesRows view items (record { position = from; records = old }) (record { position = index; records = records }) (rows_given count true)
   row-end none within =
       let no = drop_of_length-le items (past-end items index none) in
       index-end h (ap unrefused no) (ap (λ (xs : List B). Some (unrefused xs)) no) within

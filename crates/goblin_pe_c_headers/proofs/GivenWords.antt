@@ -36,7 +36,7 @@ given-few {W} items old new n batch onward =
     let all = ap (λ (xs : List (Option W)). length (values_before xs)) (sym (append-nil (unrefused items))) ∙ ap (λ (xs : List W). length xs) (before-all items [] ∙ append-nil items) in
     let counted = onward.0.counted in
     let front = length-take batch.count (values_before (unrefused items)) in
-    omega (arith, all, counted, front, onward.1.1)
+    omega (arith, all, counted, front, onward.1.1.0)
 
 -- what is given of the words from a cursor on is given of the block
 pub words_given : (bytes : List ℕ) (c : PeBaseRelocationCursor) (old new : List PeBaseRelocation) (n : ℕ) (batch : PeBatch) (words : List ℕ) → words ≡ block_words bytes c
@@ -44,7 +44,7 @@ pub words_given : (bytes : List ℕ) (c : PeBaseRelocationCursor) (old new : Lis
     → GivesWords bytes (record { position = c; records = old }) (record { position = record c { offset = c.offset + 2 * n }; records = new }) batch
 words_given bytes c old new n batch words is onward =
     let items = words_for_c c.page_rva (block_words bytes c) in
-    let moved : n ≡ batch.count = onward.1.1 ∙ omega arith in
+    let moved : n ≡ batch.count = onward.1.1.0 ∙ omega arith in
     let given = subst (λ (w : List ℕ). GivesOnward (words_for_c c.page_rva w) (record { position = 0; records = old }) (record { position = n; records = new }) batch) is onward in
     let next : PeBaseRelocationCursor = record c { offset = c.offset + 2 * n } in
     let left = records-dropped (λ (word : List ℕ). word_for_c c.page_rva (word_record Little word)) n (block_words bytes c) in
@@ -53,5 +53,5 @@ words_given bytes c old new n batch words is onward =
     ∙ ap (λ (xs : List PeBaseRelocation). Some (unrefused xs)) left in (
       fills-by (λ w. w) (λ w. w) (λ (i : ℕ). Some (unrefused (drop i items))) (word_table bytes).from _ _ (unrefused items) (unrefused items) 0 n c next old new batch.count given.0 refl there (λ cut. cut)
           (λ none. ap (λ (o : ℕ). record c { offset = o }) (omega (arith, none))),
-      (given.1.0, ap (λ (k : ℕ). record c { offset = c.offset + 2 * k }) moved),
+      (given.1.0, (ap (λ (k : ℕ). record c { offset = c.offset + 2 * k }) moved, given.1.1.1)),
     )

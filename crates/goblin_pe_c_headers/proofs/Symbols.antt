@@ -2,7 +2,7 @@
 use Rattle.std.proofs.Common.{◌≡◌, ◌<◌, ◌≤◌, ℕ, suc, ◌+◌, ◌/◌, List, length, take, set, true, arith, ap, refl, Option, Some, take_all}
 use Rattle.goblin_pe_symbol.specs.Symbols.{SymbolItem, aux, symbol_of}
 use Rattle.goblin_pe_symbol.proofs.SymbolHeads.{symbols_next, symbols_past}
-use Rattle.goblin_pe_c_headers.specs.{declared.symbol.PeSymbol.PeSymbol, Onward.unrefused}
+use Rattle.goblin_pe_c_headers.specs.{declared.symbol.PeSymbol.PeSymbol, Onward.rows_given, Onward.unrefused}
 use Rattle.goblin_pe_c_headers.specs.Symbols.{GivesSymbols, index_after, named_symbol, named_symbol_table, named_symbol_model, next_index, symbols_onward}
 use Rattle.goblin_pe_c_headers.proofs.GivenOnward.{AtIndex, index-end, index-more, index-start}
 
@@ -35,7 +35,7 @@ module _ (table : List ℕ) (names : ℕ → Option (List ℕ)) {from : ℕ} {ol
 
   -- where no more symbols come
   pub giving_all : length table / 18 ≤ position → count < length records
-      → GivesSymbols table names (record { position = from; records = old }) (record { position = position; records = records }) (record { count = count; is_done = true })
+      → GivesSymbols table names (record { position = from; records = old }) (record { position = position; records = records }) (rows_given count true)
   giving_all past within =
       let none = symbols_past (length table / 18) table position past in
       index-end h (ap unrefused none) (ap (λ (xs : List SymbolItem). Some (unrefused xs)) none) within

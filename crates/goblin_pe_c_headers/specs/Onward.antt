@@ -11,6 +11,22 @@ pub record Batch (P R : Type 0) : Type 0 where
   pub position : P
   pub records : List R
 
+-- what a call says with these numbers; and one that counts its records alone
+abbrev pub batch_of : ℕ → ℕ → ℕ → Bool → PeBatch
+batch_of count skipped unmapped is_done = record {
+  count = count;
+  skipped = skipped;
+  unmapped = unmapped;
+  is_done = is_done;
+  reserved = 0 ∷ 0 ∷ 0 ∷ 0 ∷ 0 ∷ 0 ∷ 0 ∷ [];
+}
+
+abbrev pub rows_given : ℕ → Bool → PeBatch
+rows_given count is_done = batch_of count 0 0 is_done
+
+abbrev pub CountsRows : PeBatch → Type 0
+CountsRows batch = (batch.skipped ≡ 0) × (batch.unmapped ≡ 0)
+
 -- records that are filled from a position on
 abbrev pub batch_at : {P R : Type 0} → P → List R → Batch P R
 batch_at position records = record { position = position; records = records }
@@ -78,9 +94,15 @@ FillsNext table IsCut Holds old new batch =
     × (TellsEnd IsCut (drop batch.count left) (length old.records) batch.count batch.is_done
     × Holds left))
 
+-- A table of which no entry is skipped, nor leads nowhere: its batches count records alone.
+abbrev pub FillsRows : {P R A B : Type 0} → Table P R A B → Type 0
+    → Batch P R → Batch P R → PeBatch → Type 0
+FillsRows table Holds old new batch =
+    FillsNext table ⊥ (λ left. Holds × CountsRows batch) old new batch
+
 -- What a refused call says: no record, and to stop.
 abbrev pub no_batch : PeBatch
-no_batch = record { count = 0; is_done = true }
+no_batch = rows_given 0 true
 
 -- Why a batch is refused if items may be refused: because what leads to them is, or because the
 -- very next item is and there is room for it.
@@ -100,8 +122,7 @@ row_table view items =
 -- its items from an index on, and the index of those that come next
 abbrev pub GivesRows : {W B : Type 0} → (W → B) → List B → Batch ℕ W → Batch ℕ W → PeBatch → Type 0
 GivesRows view items old new batch =
-    FillsNext (row_table view items) ⊥ (λ left. new.position ≡ old.position + batch.count)
-    old new batch
+    FillsRows (row_table view items) (new.position ≡ old.position + batch.count) old new batch
 
 abbrev pub GivesOnward : {W : Type 0} → List W → Batch ℕ W → Batch ℕ W → PeBatch → Type 0
 GivesOnward items old new batch = GivesRows (λ w. w) items old new batch

@@ -13,7 +13,7 @@ use Rattle.goblin_pe_head.specs.HeaderReadings.{pe_header, rich_header}
 use Rattle.goblin_pe_c_headers.specs.Onward.{PeBatch}
 use Rattle.goblin_pe_c_headers.specs.{Images.PeImage, declared.image.PeRichHeader.PeRichHeader}
 use Rattle.goblin_pe_c_headers.specs.{ImageRecords.no_rich_header, Items.without_causes}
-use Rattle.goblin_pe_c_headers.specs.Onward.{Batch, FillsNext, IsRefusedNext, Table, no_batch}
+use Rattle.goblin_pe_c_headers.specs.Onward.{Batch, FillsRows, IsRefusedNext, Table, no_batch}
 
 -- the entries, as stored: what lies between the padding and the marker Rich
 abbrev pub rich_stretch : PeRichHeader → Reading (List ℕ)
@@ -37,8 +37,7 @@ rich_table key stretch =
 abbrev pub GivesEntriesOf : ℕ → List ℕ → Batch ℕ RichMetadata → Batch ℕ RichMetadata → PeBatch
     → Type 0
 GivesEntriesOf key stretch old new batch =
-    FillsNext (rich_table key stretch) ⊥ (λ left. new.position ≡ old.position + batch.count) old new
-    batch
+    FillsRows (rich_table key stretch) (new.position ≡ old.position + batch.count) old new batch
 
 -- the next bytes are no whole entry, and there is room for one
 abbrev pub IsRefusedEntry : ℕ → List ℕ → Batch ℕ RichMetadata → ErrorOf → Type 0

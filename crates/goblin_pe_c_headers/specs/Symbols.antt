@@ -17,7 +17,7 @@ use Rattle.goblin_pe_head.specs.CoffHeader.{string_table_offset, symbols_end}
 use Rattle.goblin_pe_head.specs.CoffReadings.{strings_of, symbols_of}
 use Rattle.goblin_pe_c_headers.specs.{declared.symbol.PeSymbol.PeSymbol, Images.PeImage}
 use Rattle.goblin_pe_c_headers.specs.Options.{longest_of}
-use Rattle.goblin_pe_c_headers.specs.Onward.{Batch, FillsNext, Table, unrefused, PeBatch}
+use Rattle.goblin_pe_c_headers.specs.Onward.{Batch, FillsRows, Table, unrefused, PeBatch}
 
 -- The name at an offset of the bytes of a string table: what is left of the piece there, where that
 -- is UTF-8, whatever the other bytes are, whole or, where there is a limit, cut there. At the end
@@ -105,8 +105,8 @@ named_symbol_table table names = record {
 abbrev pub GivesSymbols : List ℕ → (ℕ → Option (List ℕ)) → Batch ℕ PeSymbol → Batch ℕ PeSymbol
     → PeBatch → Type 0
 GivesSymbols table names old new batch =
-    FillsNext (named_symbol_table table names) ⊥
-    (λ left. new.position ≡ index_after table batch.count old.position) old new batch
+    FillsRows (named_symbol_table table names)
+    (new.position ≡ index_after table batch.count old.position) old new batch
 
 -- ---- where the tables lie
 

@@ -3,7 +3,7 @@ use Rattle.std.specs.Prelude.{◌≡◌, ℕ, ◌+◌, ◌*◌, ◌/◌, ◌%◌
 use Rattle.goblin_base.specs.{declared.endian.Endian.TheVariants.Little, Tables.records_in}
 use Rattle.goblin_pe_sect.specs.BaseRelocations.{word_record}
 use Rattle.goblin_pe_sect.specs.declared.relocation.base.RelocationWord.{RelocationWord}
-use Rattle.goblin_pe_c_headers.specs.Onward.{PeBatch, Batch, FillsNext, Table, unrefused}
+use Rattle.goblin_pe_c_headers.specs.Onward.{PeBatch, Batch, FillsRows, Table, unrefused}
 use Rattle.goblin_pe_c_headers.specs.declared.cursor.PeBaseRelocationCursor.{PeBaseRelocationCursor}
 use Rattle.goblin_pe_c_headers.specs.declared.word.PeBaseRelocation.{PeBaseRelocation}
 
@@ -36,6 +36,6 @@ word_table bytes = record {
 abbrev pub GivesWords : List ℕ → Batch PeBaseRelocationCursor PeBaseRelocation
     → Batch PeBaseRelocationCursor PeBaseRelocation → PeBatch → Type 0
 GivesWords bytes old new batch =
-    FillsNext (word_table bytes) ⊥
-    (λ left. new.position
-    ≡ record (old.position) { offset = old.position.offset + 2 * batch.count }) old new batch
+    FillsRows (word_table bytes)
+    (new.position ≡ record (old.position) { offset = old.position.offset + 2 * batch.count })
+    old new batch

@@ -37,11 +37,11 @@ pub struct PeOptions {
     /// string table, for forwarders and for texts at an RVA. A forwarder is cut as one text; its
     /// export name may then be empty.
     pub longest_name: u32,
-    /// Whether damaged parts are skipped, and not refused. The damage of an image says what was
-    /// skipped. Neither mode reads a file that has one of these; a partial read does: a header or a
-    /// section table that is cut off, an optional header of an unknown magic, more than sixteen
-    /// data directories, a section name of a slash and no number, or a marker Rich with no marker
-    /// DanS before it or with a broken word between them.
+    /// Whether damaged parts are skipped, and not refused. Walks count what they skip. Neither
+    /// mode reads a file that has one of these; a partial read does: a header or a section table
+    /// that is cut off, an optional header of an unknown magic, more than sixteen data directories,
+    /// a section name of a slash and no number, or a marker Rich with no marker DanS before it or
+    /// with a broken word between them.
     pub is_permissive: bool,
     /// Zeros, because later versions may have options here. Other bytes count as an unknown
     /// mapping.

@@ -8,7 +8,7 @@ ghost use Rattle.goblin_pe_c_headers.specs.RichHeaders.{GivesEntries, GivesEntri
 ghost use Rattle.goblin_pe_c_headers.specs.RichHeaders.{HeaderIsWalked, IsRefusedEntry};
 ghost use Rattle.goblin_pe_c_headers.specs.RichHeaders.{RichIsWalked, is_rest, rich_stretch};
 
-use crate::batch::{PeBatch, ended, goes_on};
+use crate::batch::{PeBatch, batch_of, ended, goes_on};
 use crate::image::{PeImage, PeRichHeader};
 use goblin_base::read::pread_slice;
 use goblin_base::{Endian, Error, ReadFault, Result, field_u32};
@@ -87,10 +87,7 @@ fn fill_entries(
                 return Err(Error::Read(ReadFault::TooBig));
             }
             *position = index;
-            return Ok(PeBatch {
-                count,
-                is_done: !has_rest,
-            });
+            return Ok(batch_of(count, 0, 0, !has_rest));
         };
         records[count] = entry;
         index = index.wrapping_add(1); // (an entry is there, so the index is not the greatest)

@@ -1,5 +1,5 @@
 -- The entries of the export address table of a file, from an index on.
-use Rattle.std.proofs.Common.{◌≡◌, ◌∙◌, ◌+◌, ◌≤◌, ◌⊎◌, ℕ, List, [], Option, Some, None, ap, arith, drop_of_length-le, inl, inr, length, slice_get, subst, sym, true, IsSomeAnd, option_map}
+use Rattle.std.proofs.Common.{◌≡◌, ◌∙◌, ◌+◌, ◌≤◌, ℕ, List, [], Option, Some, None, ap, arith, drop_of_length-le, inl, inr, refl, length, slice_get, subst, sym, true, IsSomeAnd, option_map}
 use Rattle.std.specs.List.{enumerate_from}
 use Rattle.std.proofs.lemmas.List.{length-map}
 use Rattle.std.proofs.lemmas.List.FromFn.{get_or-enumerate_from, length-enumerate_from}
@@ -13,10 +13,10 @@ use Rattle.goblin_pe_export.specs.added.ExportWalks.{walked_tables}
 use Rattle.goblin_pe.specs.{added.Layouts.address_part, declared.whole.Part.Part}
 use Rattle.goblin_pe.specs.Whole.{TablePlaces, part_map}
 use Rattle.goblin_pe.specs.declared.whole.Part.TheVariants.{Absent, Refused}
-use Rattle.goblin_pe_c_headers.specs.Onward.{GivesOnward, row_table, unrefused, Batch}
+use Rattle.goblin_pe_c_headers.specs.Onward.{CountsRows, GivesOnward, row_table, unrefused, Batch}
 use Rattle.goblin_pe_c_headers.specs.declared.batch.PeBatch.{PeBatch}
 use Rattle.goblin_pe_c_headers.proofs.Batches.{none-given}
-use Rattle.goblin_pe_c_tables.specs.Batches.{GivesAddresses, at_room}
+use Rattle.goblin_pe_c_tables.specs.Batches.{GivesAddresses, GivesAddressesOf, SkipsTable, at_room}
 use Rattle.goblin_pe.specs.added.Layouts.{read_or}
 use Rattle.goblin_pe_c_tables.specs.ExportDirectories.{address_for_c, addresses_for_c}
 
@@ -59,22 +59,25 @@ module _ (addressing : Addressing) (tables : ExportTables) where
 
 -- where no item is left
 pub onward-none : {W : Type 0} (items : List W) (from : ℕ) (old : List W) → length items ≤ from
-    → GivesOnward items (record { position = from; records = old }) (record { position = from; records = old }) (at_room (length old) 0 true)
+    → GivesOnward items (record { position = from; records = old }) (record { position = from; records = old }) (at_room (length old) 0 0 true)
 onward-none {W} items from old past =
     let stays : from ≡ from + 0 = omega arith in
-    none-given (row_table (λ (w : W). w) items) ⊥ (λ left. from ≡ from + 0) from old (ap (λ (xs : List W). Some (unrefused xs)) (drop_of_length-le items past)) stays
+    none-given (row_table (λ (w : W). w) items) ⊥ (λ left. (from ≡ from + 0) × CountsRows (at_room (length old) 0 0 true)) from old
+    (ap (λ (xs : List W). Some (unrefused xs)) (drop_of_length-le items past)) (stays, (refl, refl))
 
 -- ---- in a file
 
 module _ (m : MapOfAddresses) (places : TablePlaces) (bytes : List ℕ) (found : Part Exports)
     (read : (address_part m.opts m.addressing places).value bytes ≡ Some (part_map walked_tables found)) (old : Batch ℕ PeExportAddress) where
-  given : (p : Part ExportTables) → part_map walked_tables found ≡ p → (batch : PeBatch) (new : Batch ℕ PeExportAddress) → GivesOnward (read_or [] (addresses_for_c m.addressing) p) old new batch
+  given : (p : Part ExportTables) → part_map walked_tables found ≡ p → (batch : PeBatch) (new : Batch ℕ PeExportAddress) → GivesAddressesOf m p old new batch
       → GivesAddresses m places bytes old new batch
   given p is batch new gives =
-      subst (λ (v : Option (Part ExportTables)). IsSomeAnd v (λ p. GivesOnward (read_or [] (addresses_for_c m.addressing) p) old new batch))
+      subst (λ (v : Option (Part ExportTables)). IsSomeAnd v (λ p. GivesAddressesOf m p old new batch))
       (sym (read ∙ ap (λ (p : Part ExportTables). Some p) is)) gives
 
   -- where there are none
-  pub addresses-none : (found ≡ Absent) ⊎ (found ≡ Refused) → GivesAddresses m places bytes old old (at_room (length old.records) 0 true)
-  addresses-none (inl none) = given Absent (ap (part_map walked_tables) none) (at_room (length old.records) 0 true) old (onward-none [] old.position old.records (omega arith))
-  addresses-none (inr none) = given Refused (ap (part_map walked_tables) none) (at_room (length old.records) 0 true) old (onward-none [] old.position old.records (omega arith))
+  pub addresses-absent : found ≡ Absent → GivesAddresses m places bytes old old (at_room (length old.records) 0 0 true)
+  addresses-absent none = given Absent (ap (part_map walked_tables) none) (at_room (length old.records) 0 0 true) old (onward-none [] old.position old.records (omega arith))
+
+  pub addresses-refused : found ≡ Refused → (new : Batch ℕ PeExportAddress) (batch : PeBatch) → SkipsTable old new batch → GivesAddresses m places bytes old new batch
+  addresses-refused none new batch skips = given Refused (ap (part_map walked_tables) none) batch new skips

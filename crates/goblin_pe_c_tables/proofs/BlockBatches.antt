@@ -19,8 +19,8 @@ use Rattle.goblin_pe.specs.declared.whole.Part.TheVariants.{Absent, Refused}
 use Rattle.goblin_pe.specs.declared.whole.Part.TheVariants as part
 use Rattle.goblin_pe_c_headers.specs.{declared.batch.PeBatch.PeBatch, Items.without_causes}
 use Rattle.goblin_pe_c_tables.specs.declared.block.PeRelocationBlock.{PeRelocationBlock}
-use Rattle.goblin_pe_c_headers.specs.Onward.{IsRefusedNext, values_before, Batch, batch_at}
-use Rattle.goblin_pe_c_tables.specs.Batches.{GivesBlocksIn, GivesBlocks, IsBlockCause, IsBlocksFault, at_room, block_for_c, block_table, blocks_from, placed, blocks_begin}
+use Rattle.goblin_pe_c_headers.specs.Onward.{CountsRows, IsRefusedNext, values_before, Batch, batch_at, rows_given}
+use Rattle.goblin_pe_c_tables.specs.Batches.{GivesBlocksIn, GivesBlocks, IsBlockCause, IsBlocksFault, SkipsTable, at_room, block_for_c, block_table, blocks_from, placed, blocks_begin}
 use Rattle.goblin_pe_c_headers.proofs.Batches.{AtItems, items-end, items-fault, items-full, items-more, items-refused, items-start, items-stay, items-taken, items-then, done-end, done-full, done-refused, none-given}
 
 -- ---- a refusal is never Memory
@@ -117,23 +117,23 @@ module _ {begin : ℕ} {directory : List ℕ} {from : ℕ} {old : List PeRelocat
 
   abbrev AreGiven : Bool → Type 0
   AreGiven is_done =
-      GivesBlocksIn begin (part.Read directory) (record { position = from; records = old }) (record { position = offset; records = records }) (record { count = count; is_done = is_done })
+      GivesBlocksIn begin (part.Read directory) (record { position = from; records = old }) (record { position = offset; records = records }) (rows_given count is_done)
 
   pub blocks-end : FindsItem directory offset None → count < length records → AreGiven true
   blocks-end none within =
       let no = block-none begin directory offset none in (
         items-end h.at offset no (ap (λ (items : List (Option (ℕ × Block))). Some items) no) (items-stay h.at),
-        (done-end h.at no within, moves),
+        (done-end h.at no within, (moves, (refl, refl))),
       )
 
   pub blocks-full : length records ≤ count → AreGiven false
-  blocks-full full = (items-full h.at full, (done-full h.at full, moves))
+  blocks-full full = (items-full h.at full, (done-full h.at full, (moves, (refl, refl))))
 
   module _ (e : ErrorOf) (is : FindsItem directory offset (Some (Err e))) where
     pub blocks-refused : count ≢ 0 → AreGiven false
     blocks-refused some =
         let no = block-refused begin directory offset e is in
-        (items-refused h.at no some, (done-refused h.at no, moves))
+        (items-refused h.at no some, (done-refused h.at no, (moves, (refl, refl))))
 
     pub blocks-fault : count ≡ 0 → count < length records → (p : ℕ) → p ≡ from
         → IsRefusedNext (blocks_from begin (part.Read directory) from) × IsBlockCause from (part.Read directory) e × (0 < length old)
@@ -202,13 +202,15 @@ module _ (m : MapOfAddresses) (places : TablePlaces) (bytes : List ℕ) (found :
 
 -- where there are none
 module _ (m : MapOfAddresses) (places : TablePlaces) (bytes : List ℕ) (x : ℕ) (old : List PeRelocationBlock) where
-  pub blocks-none : (found : Part RelocationData) → (relocation_part m.opts m.addressing places).value bytes ≡ Some (part_map relocation_bytes found)
-      → (found ≡ Absent) ⊎ (found ≡ Refused)
-      → GivesBlocks m places bytes (record { position = x; records = old }) (record { position = x; records = old }) (at_room (length old) 0 true)
-  blocks-none found read none =
-      let begin = blocks_begin m places in
+  pub blocks-absent : (found : Part RelocationData) → (relocation_part m.opts m.addressing places).value bytes ≡ Some (part_map relocation_bytes found)
+      → found ≡ Absent
+      → GivesBlocks m places bytes (record { position = x; records = old }) (record { position = x; records = old }) (at_room (length old) 0 0 true)
+  blocks-absent found read is =
       let stays : x ≡ x + 0 = omega arith in
-      elim none [
-        | inl is ↦ rw (read ∙ ap (λ (p : Part RelocationData). Some (part_map relocation_bytes p)) is) (none-given (block_table begin Absent) ⊥ (λ left. x ≡ x + size_of (take 0 (values_before left))) x old refl stays)
-        | inr is ↦ rw (read ∙ ap (λ (p : Part RelocationData). Some (part_map relocation_bytes p)) is) (none-given (block_table begin Refused) ⊥ (λ left. x ≡ x + size_of (take 0 (values_before left))) x old refl stays)
-      ]
+      rw (read ∙ ap (λ (p : Part RelocationData). Some (part_map relocation_bytes p)) is)
+      (none-given (block_table (blocks_begin m places) Absent) ⊥ (λ left. (x ≡ x + size_of (take 0 (values_before left))) × CountsRows (at_room (length old) 0 0 true)) x old refl (stays, (refl, refl)))
+
+  pub blocks-skipped : (found : Part RelocationData) → (relocation_part m.opts m.addressing places).value bytes ≡ Some (part_map relocation_bytes found)
+      → found ≡ Refused → (new : Batch ℕ PeRelocationBlock) (batch : PeBatch) → SkipsTable (record { position = x; records = old }) new batch
+      → GivesBlocks m places bytes (record { position = x; records = old }) new batch
+  blocks-skipped found read is new batch skips = rw (read ∙ ap (λ (p : Part RelocationData). Some (part_map relocation_bytes p)) is) skips

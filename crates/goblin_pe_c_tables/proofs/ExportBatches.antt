@@ -1,6 +1,6 @@
 -- A loop that fills records with the exports of a file from a position on.
-use Rattle.std.proofs.Common.{◌≡◌, ◌⊎◌, ℕ, ◌+◌, ◌-◌, ◌<◌, ◌≤◌, List, [], length, drop, set, ap, refl, subst, sym, arith, ◌∙◌, inl, inr, max, min, nat_le, Bool, true, false, None, Option, Some}
-use Rattle.std.proofs.lemmas.Bool.{cases_lt, leb-false, leb-true}
+use Rattle.std.proofs.Common.{◌≡◌, ◌⊎◌, ℕ, ◌+◌, ◌-◌, ◌<◌, ◌≤◌, List, [], length, drop, set, ap, refl, subst, sym, arith, ◌∙◌, inl, inr, max, min, nat_le, not, ◌==◌, Bool, true, false, None, Option, Some}
+use Rattle.std.proofs.lemmas.Bool.{and_parts, cases_lt, leb-false, leb-true}
 use Rattle.std.specs.Iterator.{YieldsFirstBy}
 use Rattle.goblin_pe_export.specs.declared.added.exports.Exports.{Exports}
 use Rattle.goblin_pe_export.specs.declared.added.exports.WalkedExport.{WalkedExport}
@@ -15,8 +15,9 @@ use Rattle.goblin_pe.specs.declared.whole.Part.{Part}
 use Rattle.goblin_pe.specs.declared.whole.Part.TheVariants.{Absent, Refused}
 use Rattle.goblin_pe.specs.declared.whole.Part.TheVariants as part
 use Rattle.goblin_pe_c_tables.specs.Exports.{PeExport, export_for_c, export_model}
-use Rattle.goblin_pe_c_tables.specs.Batches.{GivesExports, LooksAtPointers, at_room, exports_in, exports_table}
-use Rattle.goblin_pe_c_headers.specs.Onward.{FillsFrom, IsRefusedNext, unrefused}
+use Rattle.goblin_pe_c_tables.specs.Batches.{GivesExports, LooksAtPointers, SkipsTable, at_room, exports_in, exports_table}
+use Rattle.goblin_pe_c_headers.specs.Onward.{Batch, FillsFrom, IsRefusedNext, unrefused}
+use Rattle.goblin_pe_c_headers.specs.declared.batch.PeBatch.{PeBatch}
 use Rattle.goblin_pe_c_headers.proofs.Batches.{AtItems, fills-by, items-cut, items-end, items-more, done-at_room, none-given}
 
 -- nothing comes once no name pointer is left
@@ -107,17 +108,18 @@ module _ (m : MapOfAddresses) (places : TablePlaces) (bytes : List ℕ) (found :
         ap (λ (n : MapOfAddresses). numbered_from n.addressing walk.bytes.now (walked_tables walk) y) over.0.1
         ∙ ap (λ (b : List ℕ). numbered_from m.addressing b (walked_tables walk) y) over.0.0
 
-    pub exports-given : (steps : ℕ) (now next : Exports) (end count left : ℕ) (is_done : Bool) (new : List PeExport)
+    pub exports-given : (before after : ℕ) (now next : Exports) (end count unmapped : ℕ) (is_done : Bool) (new : List PeExport)
         → exports_left now ≡ exports_at walk x → KeepsOver walk now → exports_position now ≡ x
-        → end ≤ x + steps → end ≤ pointer_count now → (end ≡ pointer_count now) ⊎ (end ≡ x + steps)
+        → end ≤ x + before → end ≤ pointer_count now → (end ≡ pointer_count now) ⊎ (end ≡ x + before)
         → FillsFrom (exports_table exports_left) ((end < pointer_count now) × (end ≤ exports_position next)) (to_come now)
         (record { position = now; records = old }) (record { position = next; records = new }) count
         → KeepsOver now next → exports_position now ≤ exports_position next → exports_position next ≤ max (exports_position now) end
         → (length old ≤ count) ⊎ (min end (pointer_count now) ≤ exports_position next)
-        → left ≡ steps - (exports_position next - x) → is_done ≡ nat_le (pointer_count now) (exports_position next)
-        → GivesExports steps left m places bytes (record { position = x; records = old }) (record { position = exports_position next; records = new })
-        (at_room (length old) count is_done)
-    exports-given steps now next end count left is_done new begun over_now at limit inside limited fills over_next further within through is ends =
+        → after ≡ before - (exports_position next - x)
+        → unmapped ≡ exports_position next - x - count → is_done ≡ nat_le (pointer_count now) (exports_position next)
+        → GivesExports before after m places bytes (record { position = x; records = old }) (record { position = exports_position next; records = new })
+        (at_room (length old) count unmapped is_done)
+    exports-given before after now next end count unmapped is_done new begun over_now at limit inside limited fills over_next further within through is nowhere ends =
         let left_is : exports_left now ≡ numbered_from m.addressing bytes (walked_tables walk) x = begun ∙ from-there x in
         let rest : numbered_from m.addressing bytes (walked_tables walk) (exports_position next) ≡ exports_left next =
         sym (at-over now next (exports_position next) over_next ∙ at-over walk now (exports_position next) over_now ∙ from-there (exports_position next)) in
@@ -125,23 +127,23 @@ module _ (m : MapOfAddresses) (places : TablePlaces) (bytes : List ℕ) (found :
         read ∙ ap (λ (p : Part Exports). Some (part_map walked_exports p)) is_read in
         let count_of = length-records_in 4 name_pointers.value_of walk.tables.name_pointers.now in
         let pointers = same-pointers walk now over_now in
-        let out : (end < pointer_count now) × (end ≤ exports_position next) → left ≡ 0 = λ cut. elim limited [
+        let out : (end < pointer_count now) × (end ≤ exports_position next) → after ≡ 0 = λ cut. elim limited [
           | inl all ↦ absurd (omega (arith, cut.0, all))
           | inr run ↦ omega (arith, run, cut.1, is)
         ] in
         let given = fills-by export_model export_for_c (exports_table exports_left).from (exports_table (exports_in m bytes (part.Read (walked_exports walk)))).from
-        ((end < pointer_count now) × (end ≤ exports_position next)) (left ≡ 0)
+        ((end < pointer_count now) × (end ≤ exports_position next)) (after ≡ 0)
         (to_come now) (unrefused (numbered_from m.addressing bytes (walked_tables walk) x)) now next x (exports_position next) old new count fills
         (ap unrefused left_is) (ap (λ (items : List NumberedExport). Some (unrefused items)) rest) out (λ same. ap exports_position same ∙ at) in
         let ended : is_done ≡ true → drop count (unrefused (numbered_from m.addressing bytes (walked_tables walk) x)) ≡ [] = λ yes.
         let past : pointer_count now ≤ exports_position next = leb-true (pointer_count now) (exports_position next) (sym ends ∙ yes) in
         let none = none-left next (let kept = same-pointers now next over_next in omega (arith, kept, past)) in
         cc (sym given.later ∙ ap (λ (items : List NumberedExport). Some (unrefused items)) (rest ∙ none)) in
-        let goes_on : is_done ≡ false → (length old ≤ count) ⊎ ((left ≡ 0) ⊎ IsRefusedNext (drop count (unrefused (numbered_from m.addressing bytes (walked_tables walk) x)))) = λ no.
-        let before : exports_position next < pointer_count now = leb-false (pointer_count now) (exports_position next) (sym ends ∙ no) in
+        let goes_on : is_done ≡ false → (length old ≤ count) ⊎ ((after ≡ 0) ⊎ IsRefusedNext (drop count (unrefused (numbered_from m.addressing bytes (walked_tables walk) x)))) = λ no.
+        let not_all : exports_position next < pointer_count now = leb-false (pointer_count now) (exports_position next) (sym ends ∙ no) in
         elim through [
           | inl full ↦ inl full
-          | inr past ↦ inr (inl (out (omega (arith, past, before), omega (arith, past, before))))
+          | inr past ↦ inr (inl (out (omega (arith, past, not_all), omega (arith, past, not_all))))
         ] in
         rw value (
           given,
@@ -151,15 +153,24 @@ module _ (m : MapOfAddresses) (places : TablePlaces) (bytes : List ℕ) (found :
               further = omega (arith, at, further);
               within = omega (arith, within, at, inside, pointers, count_of);
               looked = omega (arith, is, limit, within, at, further);
+              ended = λ done.
+                  let both = and_parts is_done (not (length old == 0)) done in
+                  let past = leb-true (pointer_count now) (exports_position next) (sym ends ∙ both.0) in
+                  omega (arith, past, pointers, count_of);
+              skipped = refl;
+              unmapped = nowhere;
             },
           ),
         )
 
-  pub exports-none : (steps : ℕ) → (found ≡ Absent) ⊎ (found ≡ Refused)
-      → GivesExports steps steps m places bytes (record { position = x; records = old }) (record { position = x; records = old }) (at_room (length old) 0 true)
-  exports-none steps none =
-      let looks : LooksAtPointers steps steps 0 x x = record { further = omega arith; within = omega arith; looked = refl } in
-      elim none [
-        | inl is ↦ rw (read ∙ ap (λ (p : Part Exports). Some (part_map walked_exports p)) is) (none-given (exports_table (exports_in m bytes Absent)) (steps ≡ 0) (λ left. LooksAtPointers steps steps 0 x x) x old refl looks)
-        | inr is ↦ rw (read ∙ ap (λ (p : Part Exports). Some (part_map walked_exports p)) is) (none-given (exports_table (exports_in m bytes Refused)) (steps ≡ 0) (λ left. LooksAtPointers steps steps 0 x x) x old refl looks)
-      ]
+  pub exports-absent : (steps : ℕ) → found ≡ Absent
+      → GivesExports steps steps m places bytes (record { position = x; records = old }) (record { position = x; records = old }) (at_room (length old) 0 0 true)
+  exports-absent steps is =
+      let looks : LooksAtPointers steps steps 0 x x (at_room (length old) 0 0 true) =
+      (record { further = omega arith; within = omega arith; looked = refl; ended = λ done. omega arith; skipped = refl; unmapped = omega arith }) in
+      rw (read ∙ ap (λ (p : Part Exports). Some (part_map walked_exports p)) is)
+      (none-given (exports_table (exports_in m bytes Absent)) (steps ≡ 0) (λ left. LooksAtPointers steps steps 0 x x (at_room (length old) 0 0 true)) x old refl looks)
+
+  pub exports-refused : (steps : ℕ) → found ≡ Refused → (new : Batch ℕ PeExport) (batch : PeBatch) → SkipsTable (record { position = x; records = old }) new batch
+      → GivesExports steps steps m places bytes (record { position = x; records = old }) new batch
+  exports-refused steps is new batch skips = rw (read ∙ ap (λ (p : Part Exports). Some (part_map walked_exports p)) is) (refl, skips)

@@ -1,5 +1,5 @@
 -- A loop that fills records with the imports of a file from a position on.
-use Rattle.std.proofs.Common.{◌≡◌, ◌≢◌, append-nil, ℕ, ◌+◌, ◌<◌, ◌≤◌, List, [], ◌∷◌, ◌++◌, length, drop, set, ap, subst, sym, refl, arith, ◌∙◌, inl, inr, is_none, is_some, Bool, true, false, ◌&&◌, Option, None, Some, Ok, Err, unwrap_or}
+use Rattle.std.proofs.Common.{◌≡◌, ◌≢◌, append-nil, ℕ, ◌+◌, ◌<◌, ◌≤◌, List, [], ◌∷◌, ◌++◌, if◌then◌else◌, length, drop, set, ap, subst, sym, refl, arith, ◌∙◌, inl, inr, is_none, is_some, Bool, true, false, ◌&&◌, Option, None, Some, Ok, Err, unwrap_or}
 use Rattle.std.specs.Bool.{then_some}
 use Rattle.std.proofs.{lemmas.Bool.and_parts, lemmas.List.append_assoc, lemmas.List.length-append}
 use Rattle.goblin_base.specs.declared.error.ErrorOf.{ErrorOf}
@@ -7,15 +7,19 @@ use Rattle.goblin_pe_import.specs.declared.added.imports.ImportCursor.{ImportCur
 use Rattle.goblin_pe_import.specs.declared.added.imports.WalkedImport.{WalkedImport}
 use Rattle.goblin_pe_import.specs.{Imports.NumberedImport, KeptEntries.entries_from}
 use Rattle.goblin_pe_import.specs.Steps.{AreCounted}
-use Rattle.goblin_pe_sect.specs.Addresses.{MapOfAddresses}
+use Rattle.goblin_pe_sect.specs.Addresses.{MapOfAddresses, reads_strictly}
 use Rattle.goblin_pe_import.specs.added.ImportWalks.{imports_next, walked_value}
-use Rattle.goblin_pe.specs.added.Layouts.{GivesFileWithin, IsImportWalk, file_ahead, file_bytes, file_cursor, file_cursor_ahead, file_cursor_left, file_imports_left}
+use Rattle.goblin_pe.specs.added.Layouts.{GivesFileWithin, IsImportWalk, file_ahead, file_bytes, file_cursor, file_cursor_ahead, file_cursor_left, file_cursor_passes, file_imports_left, file_passed, file_passes}
 use Rattle.goblin_pe_import.specs.added.StepsAhead.{AtSteps, HaveRunOut}
-use Rattle.goblin_pe.proofs.added.ImportStarts.{walk-ahead, walk-left}
+use Rattle.goblin_pe.proofs.added.ImportStarts.{walk-ahead, walk-left, walk-passes}
 use Rattle.goblin_pe.specs.{Whole.TablePlaces, declared.added.file_imports.FileImports.FileImports}
 use Rattle.goblin_pe.specs.declared.added.file_imports.FileImports.TheVariants.{Narrow, Wide}
 use Rattle.goblin_pe_c_tables.specs.Imports.{PeImport, import_for_c, import_model}
-use Rattle.goblin_pe_c_tables.specs.Batches.{PeImportCursor, Fills, GivesImports, GivesInFile, GoesOn, cursor_for_c, cursor_from_c, import_table, is_over, position_ahead}
+use Rattle.goblin_pe_c_tables.specs.Batches.{PeImportCursor, Fills, GivesImports, GivesInFile, GoesOn, cursor_for_c, cursor_from_c, batch_count, import_table, is_over, passed_batch, position_ahead, position_passes}
+use Rattle.goblin_pe_import.specs.Passed.{Count, HasRisen, count_of}
+use Rattle.goblin_pe_import.specs.declared.import.passed.Passed.{Passed}
+use Rattle.goblin_pe_import.specs.Passed.Count.{Skipped, Unmapped}
+use Rattle.goblin_pe_import.proofs.PassedSlots.{risen-same, risen-then}
 use Rattle.goblin_pe_c_headers.specs.Onward.{AtBatch, TellsEnd, unrefused}
 use Rattle.goblin_pe_c_headers.proofs.Batches.{AtItems, batch-more, items-cut, items-end, items-full, items-gives, items-refused, items-then, done-cut, done-end, done-full, done-refused}
 
@@ -51,6 +55,10 @@ module _ (m : MapOfAddresses) (places : TablePlaces) (bytes : List ℕ) where
     ahead = ap (position_ahead m places bytes) numbers
         ∙ ap (λ (at : ImportCursor). file_cursor_ahead m places.magic bytes at) (cursor-from_for c)
         ∙ sym (walk-ahead m places.magic bytes c imports (walk, at));
+    passes = λ k.
+        ap (λ (p : PeImportCursor). position_passes m places bytes p k) numbers
+        ∙ ap (λ (at : ImportCursor). file_cursor_passes m places.magic bytes at k) (cursor-from_for c)
+        ∙ sym (walk-passes m places.magic bytes c imports (walk, at) k);
     left = ap ((import_table m places bytes).from) numbers
         ∙ ap (λ (at : ImportCursor). Some (file_cursor_left m places.magic bytes at)) (cursor-from_for c)
         ∙ ap (λ (items : List (Option NumberedImport)). Some items) (sym left);
@@ -61,6 +69,14 @@ module _ (m : MapOfAddresses) (places : TablePlaces) (bytes : List ℕ) where
   unfolding entries_from imports_next
   over-left c over = let none = over-is c over in rw (none.0, none.1, none.2) refl
 
+  none-ahead : (strict : Bool) (x y z : ℕ) → x ≡ 0 → y ≡ 0 → z ≡ 0 → x + ((if strict then y else 0) + z) ≡ 0
+  none-ahead true x y z a b d = omega (arith, a, b, d)
+  none-ahead false x y z a b d = omega (arith, a, b, d)
+
+  -- and nothing is ahead
+  over-ahead : (c : ImportCursor) → is_over c ≡ true → file_cursor_ahead m places.magic bytes c ≡ 0
+  over-ahead c over = let none = over-is c over in rw (none.0, none.1, none.2) (none-ahead (reads_strictly m) _ _ _ refl refl refl)
+
 -- ---- the imports of a library
 
 -- it gave the values that the records hold
@@ -69,6 +85,8 @@ pub record AreGivenIn (s t : FileImports) (Holds : List NumberedImport → Type 
   held : Holds values
   ahead : file_ahead s ≡ length values + file_ahead t
   yielded : file_imports_left s ≡ unrefused values ++ file_imports_left t
+  passes : (k : Count) → file_passes s k ≡ file_passes t k
+  passed : file_passed t ≡ file_passed s
   -- it keeps what is walked over
   pub kept : (m : MapOfAddresses) (magic : ℕ) (bytes : List ℕ) → IsImportWalk m magic bytes s → IsImportWalk m magic bytes t
 
@@ -78,6 +96,8 @@ library-given (Narrow s) (Narrow t) Holds gives = record {
   held = gives.held;
   ahead = gives.ahead;
   yielded = gives.yielded;
+  passes = gives.passes;
+  passed = gives.passed;
   kept = λ m magic bytes walk. (walk.0, (gives.over.0 ∙ walk.1.0, gives.over.1 ∙ walk.1.1), gives.kept walk.2);
 }
 library-given (Wide s) (Wide t) Holds gives = record {
@@ -85,6 +105,8 @@ library-given (Wide s) (Wide t) Holds gives = record {
   held = gives.held;
   ahead = gives.ahead;
   yielded = gives.yielded;
+  passes = gives.passes;
+  passed = gives.passed;
   kept = λ m magic bytes walk. (walk.0, (gives.over.0 ∙ walk.1.0, gives.over.1 ∙ walk.1.1), gives.kept walk.2);
 }
 library-given (Narrow s) (Wide t) Holds gives = absurd gives
@@ -140,20 +162,29 @@ over-bytes m magic bytes (Wide imports) walk = walk.1.0
 
 -- the records hold what has come so far, and the walk goes on
 pub record AtImports (m : MapOfAddresses) (places : TablePlaces) (bytes : List ℕ) (steps : ℕ) (start : FileImports) (from : PeImportCursor) (old : List PeImport)
-    (now : FileImports) (p : PeImportCursor) (left : ℕ) (records : List PeImport) (count : ℕ) : Type 0 where
+    (now : FileImports) (p : PeImportCursor) (left : ℕ) (passed : Passed) (records : List PeImport) (count : ℕ) : Type 0 where
   pub at : AtItems (import_table m places bytes) file_imports_left start from old now p records count
   pub goes : GoesOn m places bytes p now
   pub counted : position_ahead m places bytes from + left ≡ file_ahead now + steps
+  pub passed_is : file_passed now ≡ passed
+  pub passes : (k : Count) → HasRisen 0 (count_of k passed) (position_passes m places bytes from k) (file_passes now k)
 
 module _ {m : MapOfAddresses} {places : TablePlaces} {bytes : List ℕ} {steps : ℕ} {start : FileImports} {from : PeImportCursor} {old : List PeImport}
-    {now : FileImports} {p : PeImportCursor} {left : ℕ} {records : List PeImport} {count : ℕ}
-    (h : AtImports m places bytes steps start from old now p left records count) where
+    {now : FileImports} {p : PeImportCursor} {left : ℕ} {passed : Passed} {records : List PeImport} {count : ℕ}
+    (h : AtImports m places bytes steps start from old now p left passed records count) where
+  -- what a call has counted comes to what was counted before it
+  more : (next : FileImports) → ((k : Count) → HasRisen (count_of k (file_passed now)) (count_of k (file_passed next)) (file_passes now k) (file_passes next k))
+      → (k : Count) → HasRisen 0 (count_of k (file_passed next)) (position_passes m places bytes from k) (file_passes next k)
+  more next rises k =
+      risen-then 0 (count_of k passed) (count_of k (file_passed next)) (position_passes m places bytes from k) (file_passes now k) (file_passes next k)
+      (h.passes k) (subst (λ (x : Passed). HasRisen (count_of k x) (count_of k (file_passed next)) (file_passes now k) (file_passes next k)) h.passed_is (rises k))
+
   -- an import has come, and those of its library that there is room for
   pub library-more : (x : WalkedImport) (next last : FileImports) (q : PeImportCursor) (limit : Option ℕ) (left1 left2 : ℕ) (r : PeImport) (new : List PeImport) (end : ℕ)
       → GivesFileWithin now (Some left) (Some (Ok x)) next limit → left1 ≡ unwrap_or limit 0 → count < length records → import_model r ≡ import_for_c (walked_value x)
       → GivesInFile next last (Fills (set records count r) new (count + 1) end)
       → file_ahead next + left2 ≡ file_ahead last + left1 → GoesOn m places bytes q last
-      → AtImports m places bytes steps start from old last q left2 new end
+      → AtImports m places bytes steps start from old last q left2 (file_passed next) new end
   library-more x next last q limit left1 left2 r new end gives is within says fills spent goes =
       let at = batch-more import_model import_for_c old h.at.values records count (walked_value x) r h.at.held within says in
       let filled = library-given next last (Fills (set records count r) new (count + 1) end) fills in
@@ -168,25 +199,47 @@ module _ {m : MapOfAddresses} {places : TablePlaces} {bytes : List ℕ} {steps :
             (omega (arith, last_is)) goes.left;
         goes = goes;
         counted = omega (arith, counted, one, is, spent);
+        passed_is = filled.passed;
+        passes = λ k.
+            risen-same 0 (count_of k (file_passed next)) (position_passes m places bytes from k) (file_passes next k) (file_passes last k)
+            (more next gives.passed k) (filled.passes k);
       }
 
   -- what a batch has given that ends at these numbers
-  abbrev AreGiven : PeImportCursor → ℕ → Bool → Type 0
-  AreGiven q rest is_done =
-      GivesImports steps rest m places bytes (record { position = from; records = old }) (record { position = q; records = records }) (record { count = count; is_done = is_done })
+  abbrev AreGiven : PeImportCursor → ℕ → Passed → Bool → Type 0
+  AreGiven q rest counts is_done =
+      GivesImports steps rest m places bytes (record { position = from; records = old }) (record { position = q; records = records }) (passed_batch count counts is_done)
 
-  abbrev Says : PeImportCursor → ℕ → Bool → List (Option NumberedImport) → Type 0
-  Says q rest is_done items =
+  abbrev Says : PeImportCursor → ℕ → Passed → Bool → List (Option NumberedImport) → Type 0
+  Says q rest counts is_done items =
       TellsEnd (rest ≡ 0) (drop count items) (length old) count is_done
-      × AtSteps (length bytes) (Some steps) (Some rest) (position_ahead m places bytes from) (position_ahead m places bytes q)
+      × (AtSteps (length bytes) (Some steps) (Some rest) (position_ahead m places bytes from) (position_ahead m places bytes q)
+      × (is_done ≡ true → position_ahead m places bytes q ≡ 0)
+      × ((k : Count) → HasRisen 0 (batch_count k (passed_batch count counts is_done)) (position_passes m places bytes from k) (position_passes m places bytes q k)))
+
+  -- what a walk has counted is counted in the batch
+  in-batch : (q : PeImportCursor) (counts : Passed) (is_done : Bool) (next : FileImports) → ((k : Count) → position_passes m places bytes q k ≡ file_passes next k)
+      → ((k : Count) → HasRisen 0 (count_of k counts) (position_passes m places bytes from k) (file_passes next k))
+      → (k : Count) → HasRisen 0 (batch_count k (passed_batch count counts is_done)) (position_passes m places bytes from k) (position_passes m places bytes q k)
+  in-batch q counts is_done next same rises k =
+      risen-same 0 (batch_count k (passed_batch count counts is_done)) (position_passes m places bytes from k) (file_passes next k) (position_passes m places bytes q k)
+      (by k (rises k)) (sym (same k))
+    where
+      by : (k : Count) → HasRisen 0 (count_of k counts) (position_passes m places bytes from k) (file_passes next k)
+          → HasRisen 0 (batch_count k (passed_batch count counts is_done)) (position_passes m places bytes from k) (file_passes next k)
+      by Skipped r = r
+      by Unmapped r = r
 
   -- what was looked at up to the last import
   kept : AtSteps (length bytes) (Some steps) (Some left) (position_ahead m places bytes from) (position_ahead m places bytes p)
   kept = inl (h.counted ∙ ap (λ (n : ℕ). n + steps) (sym h.goes.ahead))
 
+  counts : (k : Count) → HasRisen 0 (batch_count k (passed_batch count passed false)) (position_passes m places bytes from k) (position_passes m places bytes p k)
+  counts = in-batch p passed false now h.goes.passes h.passes
+
   -- there is no more room
-  pub imports-full : length records ≤ count → AreGiven p left false
-  imports-full full = items-gives h.at (Says p left false) p (items-full h.at full) (done-full h.at full, kept)
+  pub imports-full : length records ≤ count → AreGiven p left passed false
+  imports-full full = items-gives h.at (Says p left passed false) p (items-full h.at full) (done-full h.at full, (kept, (λ done. absurd (cc done)), counts))
 
   module _ (next : FileImports) (limit : Option ℕ) (given : GivesFileWithin now (Some left) None next limit) (q : PeImportCursor)
       (goes : GoesOn m places bytes q next) (within : count < length records) (rest : ℕ) (is : rest ≡ unwrap_or limit 0) where
@@ -198,28 +251,33 @@ module _ {m : MapOfAddresses} {places : TablePlaces} {bytes : List ℕ} {steps :
         rw (is, goes.ahead) (steps-then (length bytes) steps left limit (position_ahead m places bytes from) (file_ahead now) (file_ahead next) h.counted
         (subst (λ (b : List ℕ). AtSteps (length b) (Some left) limit (file_ahead now) (file_ahead next)) over given.looked))
 
+    counts-all : (is_done : Bool) (k : Count) → HasRisen 0 (batch_count k (passed_batch count (file_passed next) is_done)) (position_passes m places bytes from k) (position_passes m places bytes q k)
+    counts-all is_done = in-batch q (file_passed next) is_done next goes.passes (more next given.passed)
+
     stays : length old ≡ 0 → q ≡ from
     stays none = absurd (let same = h.at.held.same in omega (arith, none, same, within))
 
     -- nothing more comes, or the steps have run out
-    pub imports-end : (ends : Bool) → ends ≡ is_over (file_cursor next) → AreGiven q rest ends
+    pub imports-end : (ends : Bool) → ends ≡ is_over (file_cursor next) → AreGiven q rest (file_passed next) ends
     imports-end true ends =
         let none : file_imports_left next ≡ [] =
         walk-left m places.magic bytes (file_cursor next) next (goes.walk, refl)
         ∙ over-left m places bytes (file_cursor next) (sym ends) in
-        items-gives h.at (Says q rest true) q
+        let end = goes.ahead ∙ walk-ahead m places.magic bytes (file_cursor next) next (goes.walk, refl) ∙ over-ahead m places bytes (file_cursor next) (sym ends) in
+        items-gives h.at (Says q rest (file_passed next) true) q
         (items-end h.at q (given.steps.0 ∙ none) (goes.left ∙ ap (λ (items : List (Option NumberedImport)). Some items) none) stays)
-        (done-end h.at (given.steps.0 ∙ none) within, looked)
+        (done-end h.at (given.steps.0 ∙ none) within, (looked, (λ done. end), counts-all true))
     imports-end false ends = elim given.ended [
       | inl ended ↦ absurd (cc (ends ∙ ap is_over ended))
       | inr run ↦
           let out : rest ≡ 0 = is ∙ limit-out (length (file_bytes now)) left limit (file_ahead now) (file_ahead next) run in
-          items-gives h.at (Says q rest false) q
+          items-gives h.at (Says q rest (file_passed next) false) q
           (items-cut h.at q out (goes.left ∙ ap (λ (items : List (Option NumberedImport)). Some items) (sym given.steps.0)) stays)
-          (done-cut h.at out, looked)
+          (done-cut h.at out, (looked, (λ done. absurd (cc done)), counts-all false))
     ]
 
   module _ (e : ErrorOf) (next : FileImports) (limit : Option ℕ) (given : GivesFileWithin now (Some left) (Some (Err e)) next limit) where
     -- a refusal comes after something
-    pub imports-refused : count ≢ 0 → AreGiven p left false
-    imports-refused some = items-gives h.at (Says p left false) p (items-refused h.at given.steps.0 some) (done-refused h.at given.steps.0, kept)
+    pub imports-refused : count ≢ 0 → AreGiven p left passed false
+    imports-refused some =
+        items-gives h.at (Says p left passed false) p (items-refused h.at given.steps.0 some) (done-refused h.at given.steps.0, (kept, (λ done. absurd (cc done)), counts))

@@ -1,6 +1,5 @@
 pub mod AddressBatches
 pub mod BlockBatches
-pub mod DamageSteps
 pub mod ExportBatches
 pub mod ImportBatches
 pub mod Here
@@ -9,5 +8,4 @@ pub mod LibraryBatches
 pub mod LibraryEnds
 pub mod Named
 pub mod Placed
-pub mod SoundImages
 pub mod WrittenBack

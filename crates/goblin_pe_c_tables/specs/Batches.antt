@@ -1,8 +1,9 @@
 -- Batches of the tables of a file: imports, exports, export addresses and blocks; and a call.
 use Rattle.std.specs.Prelude.{◌≡◌, ℕ, ◌≤◌, true, List, [], ◌∷◌, ◌&&◌, ◌==◌, is_none}
-use Rattle.std.specs.Prelude.{not, ◌+◌, ◌++◌, take, length, max, Option, Some, None, Bool, is_some}
-use Rattle.std.specs.Prelude.{option_map, Result, Ok, Err, IsSomeAnd, sum_by, unwrap_or}
-use Rattle.std.specs.Bool.{then_some}
+use Rattle.std.specs.Prelude.{not, ◌+◌, ◌-◌, ◌++◌, take, length, max, Option, Some, None, Bool, is_some}
+use Rattle.std.specs.Prelude.{option_map, Result, Ok, Err, IsSomeAnd, sum_by, unwrap_or, ◌^◌}
+use Rattle.std.specs.Prelude.{if◌then◌else◌}
+use Rattle.std.specs.{Bool.then_some, Int.from_bool}
 use Rattle.goblin_base.specs.{declared.error.ErrorOf.ErrorOf, Answers.FirstFault, Answers.IsMemory}
 use Rattle.goblin_base.specs.Reading.{IsRefused, Reading}
 use Rattle.goblin_pe_sect.specs.BaseRelocations.{Block, block_at, block_items}
@@ -15,6 +16,10 @@ use Rattle.goblin_pe_export.specs.ExportRecords.{ExportTables}
 use Rattle.goblin_pe_export.specs.added.ExportWalks.{NumberedExport, numbered_from}
 use Rattle.goblin_pe.specs.added.Layouts.{read_or, IsFileCursorCause, IsImportWalk}
 use Rattle.goblin_pe.specs.added.Layouts.{file_cursor_left, file_ahead, file_cursor_ahead}
+use Rattle.goblin_pe.specs.added.Layouts.{file_cursor_passes, file_passes}
+use Rattle.goblin_pe_import.specs.Passed.{Count, HasRisen}
+use Rattle.goblin_pe_import.specs.declared.import.passed.Passed.{Passed}
+use Rattle.goblin_pe_import.specs.Passed.Count.{Skipped, Unmapped}
 use Rattle.goblin_pe.specs.added.Layouts.{import_begin, address_part, file_imports_left}
 use Rattle.readings.specs.Reads.{given, pick}
 use Rattle.goblin_pe.specs.Whole.{TablePlaces, directory_offset, export_part, relocation_part}
@@ -35,8 +40,9 @@ use Rattle.goblin_pe_c_headers.specs.Places.{placed_sections, image_places}
 use Rattle.goblin_pe_c_headers.specs.{Items.without_causes, declared.batch.PeBatch.PeBatch}
 use Rattle.goblin_pe_c_headers.specs.declared.fault.PeFault.{PeFault}
 use Rattle.goblin_pe_c_headers.specs.{declared.image.PeImage.PeImage, Calls.ReportedAfter}
-use Rattle.goblin_pe_c_headers.specs.Onward.{AtBatch, Batch, FillsNext, GivesOnward}
-use Rattle.goblin_pe_c_headers.specs.Onward.{IsNextFault, Table, no_batch, unrefused, values_before}
+use Rattle.goblin_pe_c_headers.specs.Onward.{AtBatch, Batch, CountsRows, FillsNext, GivesOnward}
+use Rattle.goblin_pe_c_headers.specs.Onward.{IsNextFault, Table, batch_of, no_batch, unrefused}
+use Rattle.goblin_pe_c_headers.specs.Onward.{values_before}
 
 -- what is said of a batch of a file, as its caller passes it and as it is filled, and of the answer
 abbrev pub SaysBatch : Type 0 → Type 0 → Type 1
@@ -47,8 +53,26 @@ abbrev pub SaysRefused : Type 0 → Type 0 → Type 1
 SaysRefused P R = MapOfAddresses → TablePlaces → List ℕ → Batch P R → ErrorOf → Type 0
 
 -- what a call says that gave `count` records: without room it does not say that it is done
-abbrev pub at_room : ℕ → ℕ → Bool → PeBatch
-at_room room count is_done = record { count = count; is_done = is_done && not (room == 0) }
+abbrev pub at_room : ℕ → ℕ → ℕ → Bool → PeBatch
+at_room room count unmapped is_done = batch_of count 0 unmapped (is_done && not (room == 0))
+
+-- A table that is skipped as a whole counts where its walk begins, if there is room; the walk is
+-- then at its end.
+abbrev pub begins_skip : ℕ → ℕ → Bool
+begins_skip position room = (position == 0) && not (room == 0)
+
+abbrev pub skip_batch : ℕ → ℕ → PeBatch
+skip_batch position room =
+    batch_of 0 (from_bool (begins_skip position room)) 0 (not (room == 0))
+
+abbrev pub after_skip : ℕ → ℕ → ℕ
+after_skip position room = if begins_skip position room then 2 ^ 64 - 1 else position
+
+abbrev pub SkipsTable : {R : Type 0} → Batch ℕ R → Batch ℕ R → PeBatch → Type 0
+SkipsTable old new batch =
+    let room = length old.records in
+    (batch ≡ skip_batch old.position room)
+    × (new ≡ record { position = after_skip old.position room; records = old.records })
 
 -- ---- imports
 
@@ -103,14 +127,32 @@ position_ahead m places bytes p =
 abbrev pub is_over : ImportCursor → Bool
 is_over c = is_none c.place && is_none c.next_record && is_none c.pending
 
+-- how much is still to be passed over from a position on
+abbrev pub position_passes : MapOfAddresses → TablePlaces → List ℕ → PeImportCursor → Count → ℕ
+position_passes m places bytes p k =
+    amount_of (λ c. file_cursor_passes m places.magic bytes c k)
+    ((import_cursor m places p).value bytes)
+
+-- what a call says of a walk that has passed over so much, and what a batch says of it
+abbrev pub passed_batch : ℕ → Passed → Bool → PeBatch
+passed_batch count passed is_done = batch_of count passed.skipped passed.unmapped is_done
+
+abbrev pub batch_count : Count → PeBatch → ℕ
+batch_count Skipped batch = batch.skipped
+batch_count Unmapped batch = batch.unmapped
+
 -- A step looks at a slot or a record. Of the steps are gone as many as are no longer ahead; or all,
--- and at most n more, as the slots of an address table are looked at in one go.
+-- and at most n more, as the slots of an address table are looked at in one go. At the end none is
+-- ahead. What is no longer ahead of what is passed over is counted.
 abbrev pub GivesImports : ℕ → ℕ → SaysBatch PeImportCursor PeImport
 GivesImports before after m places bytes old new batch =
     FillsNext (import_table m places bytes) (after ≡ 0)
     (λ left. AtSteps (length bytes) (Some before) (Some after)
-    (position_ahead m places bytes old.position) (position_ahead m places bytes new.position)) old
-    new batch
+    (position_ahead m places bytes old.position) (position_ahead m places bytes new.position)
+    × ((batch.is_done ≡ true) → (position_ahead m places bytes new.position ≡ 0))
+    × ((k : Count) → HasRisen 0 (batch_count k batch)
+    (position_passes m places bytes old.position k)
+    (position_passes m places bytes new.position k))) old new batch
 
 -- Where the imports begin is refused, or else the very next import, and there is room for it.
 abbrev pub IsImportsFault : SaysRefused PeImportCursor PeImport
@@ -138,6 +180,7 @@ pub record GoesOn (m : MapOfAddresses) (places : TablePlaces) (bytes : List ℕ)
   pub walk : IsImportWalk m places.magic bytes imports
   pub left : (import_table m places bytes).from p ≡ Some (file_imports_left imports)
   pub ahead : position_ahead m places bytes p ≡ file_ahead imports
+  pub passes : (k : Count) → position_passes m places bytes p k ≡ file_passes imports k
 
 -- ---- exports
 
@@ -155,17 +198,30 @@ abbrev pub exports_table : {P : Type 0} → (P → List NumberedExport)
 exports_table left =
     record { view = export_model; value_of = export_for_c; from = λ p. Some (unrefused (left p)) }
 
--- A step looks at one of the name pointers from the old position up to the new one.
-pub record LooksAtPointers (steps left pointers old new : ℕ) : Type 0 where
+-- A step looks at one of the name pointers from the old position up to the new one, which is past
+-- all of them at the end. Those that give no export lead nowhere.
+pub record LooksAtPointers (before after pointers old new : ℕ) (batch : PeBatch) : Type 0 where
   pub further : old ≤ new
   pub within : new ≤ max old pointers
-  pub looked : new + left ≡ old + steps
+  pub looked : new + after ≡ old + before
+  pub ended : batch.is_done ≡ true → pointers ≤ new
+  pub skipped : batch.skipped ≡ 0
+  pub unmapped : batch.unmapped ≡ new - old - batch.count
+
+abbrev pub GivesExportsOf : MapOfAddresses → List ℕ → ℕ → ℕ
+    → Part (ExportTables × List NumberedExport) → Batch ℕ PeExport → Batch ℕ PeExport → PeBatch
+    → Type 0
+GivesExportsOf m bytes before after part.Refused old new batch =
+    (after ≡ before) × SkipsTable old new batch
+GivesExportsOf m bytes before after p old new batch =
+    FillsNext (exports_table (exports_in m bytes p)) (after ≡ 0)
+    (λ left. LooksAtPointers before after (pointers_in p) old.position new.position batch)
+    old new batch
 
 abbrev pub GivesExports : ℕ → ℕ → SaysBatch ℕ PeExport
 GivesExports before after m places bytes old new batch =
-    IsSomeAnd ((export_part m.opts m.addressing places).value bytes) (λ p.
-    FillsNext (exports_table (exports_in m bytes p)) (after ≡ 0)
-    (λ left. LooksAtPointers before after (pointers_in p) old.position new.position) old new batch)
+    IsSomeAnd ((export_part m.opts m.addressing places).value bytes)
+    (λ p. GivesExportsOf m bytes before after p old new batch)
 
 -- a batch of exports is refused, wherever it begins, if the export directory is
 abbrev pub IsExportBatchFault : {R : Type 0} → SaysRefused ℕ R
@@ -186,12 +242,17 @@ IsAddressesFault m places bytes e = IsRefused (address_part m.opts m.addressing 
 
 -- ---- entries of the export address table
 
--- The records hold the entries from the old index on, and from the new one on come the others; none
--- if the directory is not read.
+-- The records hold the entries from the old index on, and from the new one on come the others.
+abbrev pub GivesAddressesOf : MapOfAddresses → Part ExportTables → Batch ℕ PeExportAddress
+    → Batch ℕ PeExportAddress → PeBatch → Type 0
+GivesAddressesOf m part.Refused old new batch = SkipsTable old new batch
+GivesAddressesOf m p old new batch =
+    GivesOnward (read_or [] (addresses_for_c m.addressing) p) old new batch
+
 abbrev pub GivesAddresses : SaysBatch ℕ PeExportAddress
 GivesAddresses m places bytes old new batch =
-    IsSomeAnd ((address_part m.opts m.addressing places).value bytes) (λ p.
-    GivesOnward (read_or [] (addresses_for_c m.addressing) p) old new batch)
+    IsSomeAnd ((address_part m.opts m.addressing places).value bytes)
+    (λ p. GivesAddressesOf m p old new batch)
 
 -- ---- blocks of base relocations
 
@@ -233,11 +294,13 @@ block_table begin p =
 -- The directory was read, or not. The position moves by the sizes of the blocks that are given.
 abbrev pub GivesBlocksIn : ℕ → Part (List ℕ) → Batch ℕ PeRelocationBlock
     → Batch ℕ PeRelocationBlock → PeBatch → Type 0
+GivesBlocksIn begin part.Refused old new batch = SkipsTable old new batch
 GivesBlocksIn begin p old new batch =
     FillsNext (block_table begin p) ⊥
-    (λ left. new.position
+    (λ left. (new.position
     ≡ old.position
-    + sum_by (λ (x : ℕ × Block). x.1.size) (take batch.count (values_before left))) old new batch
+    + sum_by (λ (x : ℕ × Block). x.1.size) (take batch.count (values_before left)))
+    × CountsRows batch) old new batch
 
 abbrev pub GivesBlocks : SaysBatch ℕ PeRelocationBlock
 GivesBlocks m places bytes old new batch =

@@ -5,7 +5,9 @@ use Rattle.goblin_base.specs.{declared.error.ErrorOf.ErrorOf, Tables.Format}
 use Rattle.goblin_pe_import.specs.{ImportEntries.EntryValue, added.StepsAhead.imports_ahead}
 use Rattle.goblin_pe_import.specs.{declared.added.imports.Imports.Imports, Imports.NumberedImport}
 use Rattle.goblin_pe_import.specs.added.ImportWalks.{AreImportsOver, HasName, IsImportsCause}
+use Rattle.goblin_pe_import.specs.Passed.{Count}
 use Rattle.goblin_pe_import.specs.added.ImportWalks.{imports_bytes, imports_left, imports_map}
+use Rattle.goblin_pe_import.specs.added.ImportWalks.{passed_of, walk_passes}
 pub use Rattle.goblin_pe_c_tables.specs.declared.import.PeImport.{PeImport}
 
 -- a record of an import, its slices as lists
@@ -60,5 +62,7 @@ pub record GivesHere {T : Type 0} (format : Format EntryValue) (s t : Imports T)
   pub yielded : imports_left format s ≡ map (λ x. Some x) values ++ imports_left format t
   pub cause : (e : ErrorOf) → IsImportsCause format t e → IsImportsCause format s e
   pub ahead : imports_ahead format s ≡ length values + imports_ahead format t
+  pub passes : (k : Count) → walk_passes format s.walk k ≡ walk_passes format t.walk k
+  pub passed : passed_of t ≡ passed_of s
   pub kept : HasName s → HasName t
   pub over : AreImportsOver (imports_bytes s) (imports_map s) t

@@ -1,5 +1,4 @@
 pub mod Batches
-pub mod Damages
 pub mod ExportDirectories
 pub mod Exports
 pub mod Imports
@@ -8,4 +7,3 @@ pub mod PartialImages
 pub mod Places
 pub mod ReadImages
 pub mod Steps
-pub mod Walked

@@ -1,18 +1,22 @@
 -- The records of libraries, and batches of them.
-use Rattle.std.specs.Prelude.{◌≡◌, ◌==◌, if◌then◌else◌, IsSome, Some, ℕ, Bool, false, List, [], ◌∷◌}
-use Rattle.std.specs.Prelude.{option_map, take, unwrap_or}
+use Rattle.std.specs.Prelude.{◌≡◌, ◌+◌, if◌then◌else◌, IsSome, Some, ℕ, Bool, List, [], ◌∷◌, take}
+use Rattle.std.specs.Prelude.{option_map, unwrap_or}
 use Rattle.std.specs.Result.{result_ok}
 use Rattle.goblin_pe_import.specs.declared.import.directory_entry as directory
 use directory.ImportDirectoryEntry.{ImportDirectoryEntry}
 use Rattle.goblin_pe_sect.specs.Addresses.{MapOfAddresses, reads_strictly}
 use Rattle.goblin_pe_import.specs.added.ImportWalks.{library_items, library_name, no_imports}
+use Rattle.goblin_pe_import.specs.{added.ImportWalks.record_counts, TableSums.amount_of}
+use Rattle.goblin_pe_import.specs.Passed.{Count, HasRisen}
+use Rattle.goblin_pe_import.specs.added.Libraries.{row_counts, rows_ahead}
 use Rattle.readings.specs.Walks.{until_refused}
 use Rattle.goblin_pe_import.specs.added.Libraries.{IsCursorEndCause, LibraryValue, after_library}
 use Rattle.goblin_pe_import.specs.added.Libraries.{cursor_libraries, inside_library, library_at}
 use Rattle.goblin_pe.specs.Whole.{TablePlaces, entry_format}
 use Rattle.goblin_pe_c_tables.specs.declared.library.PeLibrary.{PeLibrary}
 use Rattle.goblin_pe_c_tables.specs.Batches.{PeImportCursor, SaysBatch, SaysRefused, cursor_for_c}
-use Rattle.goblin_pe_c_tables.specs.Batches.{import_cursor, import_table}
+use Rattle.goblin_pe_c_tables.specs.Batches.{batch_count, import_cursor, import_table}
+use Rattle.goblin_pe_c_tables.specs.Batches.{position_passes}
 use Rattle.goblin_pe_c_headers.specs.Onward.{FillsNext, IsNextFault, Table, values_before}
 use Rattle.goblin_pe_c_headers.specs.{Faults.status_of, declared.fault.PeFault.PeFault}
 
@@ -68,13 +72,22 @@ position_after p [] = p
 position_after p (library ∷ libraries) =
     position_after (cursor_for_c (after_library library)) libraries
 
--- The new position is the end if the call is done, or else after the libraries that are given.
+-- how much the libraries count that come from a position on
+abbrev pub position_rows : MapOfAddresses → TablePlaces → List ℕ → PeImportCursor → Count → ℕ
+position_rows m places bytes p k =
+    amount_of (rows_ahead m (entry_format places.magic) bytes k)
+    ((import_cursor m places p).value bytes)
+
+-- The new position is the end if the call is done, or else after the libraries that are given. What
+-- is no longer ahead of what counts is counted.
 abbrev pub GivesLibraries : SaysBatch PeImportCursor PeLibrary
 GivesLibraries m places bytes old new batch =
     FillsNext (library_table m places bytes) ⊥
-    (λ left. new.position
+    (λ left. (new.position
     ≡ (if batch.is_done then cursor_for_c no_imports
-    else position_after old.position (take batch.count (values_before left)))) old new batch
+    else position_after old.position (take batch.count (values_before left))))
+    × ((k : Count) → HasRisen 0 (batch_count k batch) (position_rows m places bytes old.position k)
+    (position_rows m places bytes new.position k))) old new batch
 
 -- Where the imports begin is refused, or else no library comes next, since the directory reaches
 -- the end of the file, and there is room for one.
@@ -85,7 +98,7 @@ IsLibrariesFault m places bytes old e =
 
 -- From the cursor of a library come its imports, and nothing else: what a walk over all imports
 -- gives of its entry. Where that needs the name of the library and can't read it, this one does not
--- need it. (Of a directory at the front of the file permissive mode gives none.)
+-- need it.
 unfoldable pub LibrariesEnd : Type 0
 LibrariesEnd =
     (m : MapOfAddresses) (places : TablePlaces) (bytes : List ℕ) (first p : ℕ)
@@ -93,6 +106,18 @@ LibrariesEnd =
     → let strict = reads_strictly m in
     let format = entry_format places.magic in
     let library = library_at format m.addressing bytes first p r in
-    (first == 0) ≡ false → IsSome ((library_name strict m.addressing r).value bytes)
+    IsSome ((library_name strict m.addressing r).value bytes)
     → (import_table m places bytes).from (library_for_c m library).imports
     ≡ Some (until_refused (library_items strict format m.addressing bytes library.index r))
+
+-- Of each entry of the directory, a walk over all imports counts what the row of its library and a
+-- walk from the row's cursor count together.
+unfoldable pub LibrariesSum : Type 0
+LibrariesSum =
+    (m : MapOfAddresses) (places : TablePlaces) (bytes : List ℕ) (k : Count) (first p : ℕ)
+    (r : ImportDirectoryEntry)
+    → let format = entry_format places.magic in
+    let library = library_at format m.addressing bytes first p r in
+    record_counts (reads_strictly m) format m.addressing bytes k r
+    ≡ row_counts m format bytes k r
+    + position_passes m places bytes (library_for_c m library).imports k

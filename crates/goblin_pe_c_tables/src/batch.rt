@@ -3,7 +3,8 @@
 ghost use Rattle.std.specs.Prelude.{◌≡◌, ◌≢◌, ◌-◌, IfErr, MatchResult, OnErr, ℕ, length};
 ghost use Rattle.goblin_base.specs.Answers.{IsMemory};
 ghost use Rattle.goblin_pe.specs.added.Layouts.{layout_bytes, layout_map, layout_places};
-ghost use Rattle.goblin_pe_c_tables.specs.Batches.{SaysBatch, SaysRefused, WalksOver, at_room};
+ghost use Rattle.goblin_pe_c_tables.specs.Batches.{SaysBatch, SaysRefused, WalksOver, after_skip};
+ghost use Rattle.goblin_pe_c_tables.specs.Batches.{at_room, skip_batch};
 ghost use Rattle.goblin_pe_c_headers.specs.Onward.{batch_at};
 ghost use Rattle.goblin_pe_c_tables.specs.Steps.{section_steps};
 
@@ -11,7 +12,7 @@ use crate::places::layout_of;
 use crate::steps::section_steps;
 use goblin_pe::ResultOf;
 use goblin_pe::added::Layout;
-use goblin_pe_c_headers::batch::{PeBatch, ended};
+use goblin_pe_c_headers::batch::{PeBatch, batch_of, ended};
 use goblin_pe_c_headers::fault::{PeFault, fault_of, no_fault};
 use goblin_pe_c_headers::image::PeImage;
 use std::alloc::Global;
@@ -50,11 +51,23 @@ pub trait Batched<'a>: Sized {
 
 // What a call says that gave `count` records: without room it does not say that it is done.
 #[inline(always)]
-pub(crate) fn at_room(room: usize, count: usize, is_done: bool) -> PeBatch
-    ensures { result ≡ at_room room count is_done }
+pub(crate) fn at_room(room: usize, count: usize, unmapped: usize, is_done: bool) -> PeBatch
+    ensures { result ≡ at_room room count unmapped is_done }
 {
-    let is_done = is_done && room != 0;
-    PeBatch { count, is_done }
+    batch_of(count, 0, unmapped, is_done && room != 0)
+}
+
+// What a call says of a table that is skipped as a whole. It counts where the walk begins, if there
+// is room; the walk is then at its end.
+pub(crate) fn skip_table(position: &mut usize, room: usize) -> PeBatch
+    ensures batch { result ≡ skip_batch position.old room }
+    ensures moved { position.new ≡ after_skip position.old room }
+{
+    let begins = *position == 0 && room != 0;
+    if begins {
+        *position = usize::MAX;
+    }
+    batch_of(0, usize::from(begins), 0, room != 0)
 }
 
 /// Fills `records` with those of an image that come next, as many as there is room for, says in

@@ -8,7 +8,7 @@ ghost use Rattle.goblin_pe_c_tables.specs.Batches.{GivesBlocks, GivesBlocksIn, I
 ghost use Rattle.goblin_pe_c_tables.specs.Batches.{IsBlocksFault, block_for_c, blocks_from};
 ghost use Rattle.goblin_pe_c_headers.specs.Onward.{batch_at, IsRefusedNext};
 
-use crate::batch::{Batched, at_room};
+use crate::batch::{Batched, at_room, skip_table};
 use goblin_pe::added::Layout;
 use goblin_pe::relocation::{RelocationBlock, RelocationData};
 use goblin_pe::{Part, ResultOf};
@@ -109,7 +109,8 @@ impl<'a> Batched<'a> for PeRelocationBlock {
                 let begin = offset.unwrap_or(0);
                 fill_blocks(layout.bytes(), &relocations, begin, position, records)
             }
-            Part::Absent | Part::Refused => Ok(at_room(records.len(), 0, true)),
+            Part::Absent => Ok(at_room(records.len(), 0, 0, true)),
+            Part::Refused => Ok(skip_table(position, records.len())),
         }
     }
 }

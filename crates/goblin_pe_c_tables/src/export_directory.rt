@@ -12,7 +12,7 @@ ghost use Rattle.goblin_pe_c_tables.specs.ExportDirectories.{address_for_c, addr
 ghost use Rattle.goblin_pe_c_tables.specs.ExportDirectories.{directory_for_c, directory_model};
 ghost use Rattle.goblin_pe_c_tables.specs.ExportDirectories.{no_export_directory};
 
-use crate::batch::{Batched, at_room};
+use crate::batch::{Batched, at_room, skip_table};
 use crate::places::layout_of;
 use goblin_pe::added::{Exports, Layout};
 use goblin_pe::export::{ExportAddressTableEntry as Entry, ExportDirectoryTable};
@@ -155,7 +155,7 @@ fn fill_addresses(
         GivesOnward (addresses_for_c m.addressing (walked_tables exports.now)) old new result }
 {
     if exports.address_count() <= *position {
-        return at_room(records.len(), 0, true);
+        return at_room(records.len(), 0, 0, true);
     }
     let address_map = finder.address_map();
     fill_onward(
@@ -182,7 +182,8 @@ impl<'a> Batched<'a> for PeExportAddress {
             Part::Read(exports) => {
                 Ok(fill_addresses(&exports, &layout.finder(), position, records))
             }
-            Part::Absent | Part::Refused => Ok(at_room(records.len(), 0, true)),
+            Part::Absent => Ok(at_room(records.len(), 0, 0, true)),
+            Part::Refused => Ok(skip_table(position, records.len())),
         }
     }
 }

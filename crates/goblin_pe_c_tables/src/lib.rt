@@ -11,7 +11,6 @@
 
 pub mod batch;
 pub mod block;
-pub mod damage;
 pub mod export;
 pub mod export_directory;
 pub mod forwarder;

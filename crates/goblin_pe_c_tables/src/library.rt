@@ -5,19 +5,22 @@ ghost use Rattle.goblin_base.specs.Answers.{IsMemory};
 ghost use Rattle.goblin_pe_sect.specs.Addresses.{map_of};
 ghost use Rattle.goblin_pe.specs.added.Layouts.{layout_bytes, layout_map, layout_places};
 ghost use Rattle.goblin_pe_import.specs.added.Libraries.{AreLibrariesOver, IsLibrariesCause};
-ghost use Rattle.goblin_pe_import.specs.added.Libraries.{libraries_left, library_value};
+ghost use Rattle.goblin_pe_import.specs.added.Libraries.{libraries_ahead, libraries_left};
+ghost use Rattle.goblin_pe_import.specs.added.Libraries.{libraries_passed, library_value};
+ghost use Rattle.goblin_pe_import.specs.Passed.{Count, nothing_passed};
+ghost use Rattle.goblin_pe_c_tables.specs.Libraries.{position_rows};
 ghost use Rattle.goblin_pe.specs.Whole.{entry_format};
 ghost use Rattle.goblin_pe_c_headers.specs.Onward.{batch_at, IsRefusedNext};
 ghost use Rattle.goblin_pe_c_tables.specs.Libraries.{GivesLibraries, IsLibrariesFault};
 ghost use Rattle.goblin_pe_c_tables.specs.Libraries.{library_for_c, library_model, library_table};
 
 use crate::batch::Batched;
-use crate::next::{PeImportCursor, cursor_at, cursor_for_c};
+use crate::next::{PeImportCursor, cursor_at, cursor_for_c, passed_batch};
 use goblin_base::answer_for;
 use goblin_pe::added::{ImportCursor, Layout, Libraries, WalkedLibrary};
 use goblin_pe::import::ImportDirectoryEntry;
 use goblin_pe::{Result, ResultOf};
-use goblin_pe_c_headers::batch::{PeBatch, ended, goes_on};
+use goblin_pe_c_headers::batch::PeBatch;
 use goblin_pe_c_headers::fault::{PeFault, fault_of, no_fault};
 use goblin_pe_sect::address_map::Finder;
 
@@ -85,6 +88,10 @@ fn fill_libraries<'a>(
     requires left { let m = layout_map layout.now in
         (library_table m (layout_places layout.now) (layout_bytes layout.now)).from position.old
         ≡ Some (libraries_left libraries) }
+    requires ahead { let m = layout_map layout.now in
+        (k : Count) → position_rows m (layout_places layout.now) (layout_bytes layout.now)
+        position.old k ≡ libraries_ahead libraries k }
+    requires fresh { libraries_passed libraries ≡ nothing_passed }
     ensures filled { let m = layout_map layout.now in
         let old = batch_at position.old records.old in
         let new = batch_at position.new records.new in
@@ -95,25 +102,27 @@ fn fill_libraries<'a>(
     ensures refused { IfErr result (λ e. ¬ IsMemory e) }
 {
     let mut finder = layout.finder();
+    let mut passed = libraries.passed();
     let mut count = 0;
     'libraries: while count < records.len() {
         match libraries.next() {
             Some(Ok(library)) => {
                 records[count] = library_record(layout.bytes(), &library, &mut finder);
                 *position = cursor_for_c(libraries.cursor());
+                passed = libraries.passed();
                 count += 1;
             }
             Some(Err(error)) if count == 0 => return Err(error),
             Some(Err(_)) => {
-                return Ok(goes_on(count));
+                return Ok(passed_batch(count, passed, false));
             }
             None => {
                 *position = cursor_for_c(ImportCursor::end());
-                return Ok(ended(count));
+                return Ok(passed_batch(count, libraries.passed(), true));
             }
         }
     }
-    Ok(goes_on(count))
+    Ok(passed_batch(count, passed, false))
 }
 
 impl<'a> Batched<'a> for PeLibrary<'a> {

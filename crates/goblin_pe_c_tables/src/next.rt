@@ -4,23 +4,25 @@ ghost use Rattle.std.specs.Prelude.{◌≡◌, ◌⊎◌, ◌+◌, ◌<◌, ◌�
 ghost use Rattle.goblin_base.specs.{Answers.IsMemory, Reading.Reads};
 ghost use Rattle.goblin_pe.specs.added.Layouts.{file_ahead, IsFileImportsCause, file_imports_left};
 ghost use Rattle.goblin_pe.specs.added.Layouts.{layout_map, layout_bytes, layout_places};
+ghost use Rattle.goblin_pe.specs.added.Layouts.{file_passed};
+ghost use Rattle.goblin_pe_import.specs.Passed.{nothing_passed};
 ghost use Rattle.goblin_pe_export.specs.added.ExportWalks.{KeepsOver, exports_left};
 ghost use Rattle.goblin_pe_export.specs.added.ExportWalks.{exports_position, pointer_count};
 ghost use Rattle.goblin_pe_c_tables.specs.Batches.{Fills, GivesExports, GivesImports, GivesInFile};
 ghost use Rattle.goblin_pe_c_tables.specs.Batches.{GoesOn, IsExportBatchFault, IsImportsFault};
 ghost use Rattle.goblin_pe_c_tables.specs.Batches.{cursor_for_c, cursor_from_c, is_over};
 ghost use Rattle.goblin_pe_c_headers.specs.Onward.{batch_at, FillsFrom, IsRefusedNext, unrefused};
-ghost use Rattle.goblin_pe_c_tables.specs.Batches.{exports_table, import_cursor};
+ghost use Rattle.goblin_pe_c_tables.specs.Batches.{exports_table, import_cursor, passed_batch};
 ghost use Rattle.goblin_pe_c_tables.specs.Imports.{GivesHere};
 
-use crate::batch::{Batched, at_room};
+use crate::batch::{Batched, at_room, skip_table};
 use crate::export::{PeExport, export_record, put_export};
 use crate::forwarder::no_forwarder;
 use crate::import::{PeImport, import_record};
-use goblin_pe::added::{Exports, FileImports, ImportCursor, Imports, Layout};
+use goblin_pe::added::{Exports, FileImports, ImportCursor, Imports, Layout, Passed};
 use goblin_pe::import::Bitfield;
 use goblin_pe::{Part, ResultOf};
-use goblin_pe_c_headers::batch::{PeBatch, goes_on};
+use goblin_pe_c_headers::batch::{PeBatch, batch_of};
 
 /// Where a walk over imports or libraries is. Zeros begin it. The other numbers are internal: copy
 /// and compare them, but make none.
@@ -180,6 +182,14 @@ fn fill_library<'a, 'm, 'e>(
     count
 }
 
+// The batch of a walk that has passed over so much.
+#[inline(always)]
+pub(crate) fn passed_batch(count: usize, passed: Passed, is_done: bool) -> PeBatch
+    ensures { result ≡ passed_batch count passed is_done }
+{
+    batch_of(count, passed.skipped, passed.unmapped, is_done)
+}
+
 // Fills records with the imports that come next, as far as room and steps reach, and answers what
 // it did and how many steps are left. What was looked at before a refusal does not count.
 fn fill_imports<'a, 'm, 'e>(
@@ -189,8 +199,9 @@ fn fill_imports<'a, 'm, 'e>(
     steps: usize,
     records: &mut [PeImport<'a>],
 ) -> ResultOf<'e, (PeBatch, usize)>
-    requires { let m = layout_map layout.now in
+    requires goes { let m = layout_map layout.now in
         GoesOn m (layout_places layout.now) (layout_bytes layout.now) position.old imports }
+    requires fresh { file_passed imports ≡ nothing_passed }
     ensures filled { let m = layout_map layout.now in
         let places = layout_places layout.now in
         let bytes = layout_bytes layout.now in
@@ -202,6 +213,7 @@ fn fill_imports<'a, 'm, 'e>(
     ensures refused { IfErr result (λ e. ¬ IsMemory e) }
 {
     let mut left = steps;
+    let mut passed = imports.passed();
     let mut count = 0;
     'imports: while count < records.len() {
         let mut limit = Some(left);
@@ -209,22 +221,23 @@ fn fill_imports<'a, 'm, 'e>(
             Some(Ok(import)) => {
                 records[count] = import_record(layout.bytes(), &import);
                 left = limit.unwrap_or(0);
+                passed = imports.passed();
                 count = fill_library(layout.bytes(), &mut imports, records, count + 1, &mut left);
                 *position = cursor_for_c(imports.cursor());
             }
             Some(Err(error)) if count == 0 => return Err(error),
             Some(Err(_)) => {
-                return Ok((goes_on(count), left));
+                return Ok((passed_batch(count, passed, false), left));
             }
             None => {
                 let at = imports.cursor();
                 *position = cursor_for_c(at);
-                let is_done = is_over(&at);
-                return Ok((PeBatch { count, is_done }, limit.unwrap_or(0)));
+                let batch = passed_batch(count, imports.passed(), is_over(&at));
+                return Ok((batch, limit.unwrap_or(0)));
             }
         }
     }
-    Ok((goes_on(count), left))
+    Ok((passed_batch(count, passed, false), left))
 }
 
 impl<'a> Batched<'a> for PeImport<'a> {
@@ -310,11 +323,15 @@ impl<'a> Batched<'a> for PeExport<'a> {
                 let end = end_within(pointers, *position, allowed);
                 let count = fill_exports(layout.bytes(), &mut exports, end, records);
                 let next = exports.position();
-                *steps = allowed.saturating_sub(next.saturating_sub(*position));
+                let looked = next.saturating_sub(*position);
+                let left = allowed.saturating_sub(looked);
+                let unmapped = looked.saturating_sub(count);
+                *steps = left;
                 *position = next;
-                Ok(at_room(room, count, pointers <= next))
+                Ok(at_room(room, count, unmapped, pointers <= next))
             }
-            Part::Absent | Part::Refused => Ok(at_room(records.len(), 0, true)),
+            Part::Absent => Ok(at_room(records.len(), 0, 0, true)),
+            Part::Refused => Ok(skip_table(position, records.len())),
         }
     }
 }

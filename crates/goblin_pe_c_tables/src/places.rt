@@ -4,7 +4,7 @@ ghost use Rattle.std.specs.Prelude.{◌≡◌, ◌<◌, IfErr, IfOk};
 ghost use Rattle.goblin_base.specs.{Answers.IsMemory, Reading.ReadsOrMemory};
 ghost use Rattle.goblin_pe.specs.added.Layouts.{layout_bytes, layout_map, layout_places};
 ghost use Rattle.goblin_pe.specs.added.Layouts.{layout_sections};
-ghost use Rattle.goblin_pe.specs.Whole.{directory_offset, table_places};
+ghost use Rattle.goblin_pe.specs.Whole.{table_places};
 ghost use Rattle.goblin_pe_c_tables.specs.Places.{TakesIndexAt, map_at, places_from_c};
 ghost use Rattle.goblin_pe_c_headers.specs.Places.{image_places, placed_sections};
 
@@ -58,16 +58,4 @@ pub fn layout_of<'a, 'e>(alloc: Global, image: &PeImage<'a>) -> ResultOf<'e, Lay
     address_map.set_longest_name(longest_of(&image.options));
     let places = places_from_c(&places_of(image));
     Ok(Layout::by(image.bytes, places, records, address_map))
-}
-
-/// The file offset of a data directory, if it has one.
-pub(crate) fn directory_offset(layout: &Layout, index: usize) -> Option<usize>
-    requires { index < 16 }
-    ensures { let m = layout_map layout.now in
-        result ≡ directory_offset m.addressing (layout_places layout.now) index }
-{
-    match layout.places().directory(index) {
-        Some(directory) => layout.finder().offset_of(directory.virtual_address),
-        None => None,
-    }
 }

@@ -24,9 +24,10 @@ use goblin_pe_c_tables::steps::refused_walk;
 use std::alloc::Global;
 
 /// Gives the next exports that have a name pointer, in the order of these. Counts steps: one for
-/// each name pointer. A name pointer without an ordinal, with an ordinal past the address table, or
-/// with a forwarder that can't be read gives no export, in either mode; `goblin_pe_read_damage`
-/// counts them.
+/// each name pointer.
+///
+/// `unmapped` counts name pointers without an ordinal, with an ordinal past the address table, and
+/// with a forwarder that can't be read.
 ///
 /// Faults: STEPS; in strict mode a damaged export directory; else as `goblin_pe_next_imports`.
 #[unsafe(no_mangle)]
@@ -61,7 +62,7 @@ pub extern "C" fn goblin_pe_raw_next_exports<'a>(
 /// Reads the export directory table. It is not present if the image has none, or if permissive mode
 /// skips a damaged one.
 ///
-/// Faults: in strict mode a damaged export directory, whatever its number of name pointers is;
+/// Faults: in strict mode a damaged export directory (too many name pointers are no damage here);
 /// else as `goblin_pe_next_imports`, but no STEPS.
 #[unsafe(no_mangle)]
 pub extern "C" fn goblin_pe_raw_read_export_directory<'a>(

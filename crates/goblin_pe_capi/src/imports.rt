@@ -4,7 +4,7 @@ ghost use Rattle.std.specs.Prelude.{◌≡◌, ◌≢◌, ◌-◌, length};
 ghost use Rattle.goblin_pe_c_headers.specs.{Faults.options_fault, Onward.batch_at};
 ghost use Rattle.goblin_pe_c_tables.specs.Batches.{GivesImports, IsImportsFault, WalksOver};
 ghost use Rattle.goblin_pe_c_tables.specs.Libraries.{GivesLibraries, IsLibrariesFault};
-ghost use Rattle.goblin_pe_c_tables.specs.Libraries.{LibrariesEnd};
+ghost use Rattle.goblin_pe_c_tables.specs.Libraries.{LibrariesEnd, LibrariesSum};
 ghost use Rattle.goblin_pe_c_tables.specs.Steps.{section_steps, walk_fault};
 
 use goblin_pe_c_headers::batch::PeBatch;
@@ -19,9 +19,8 @@ use std::alloc::Global;
 
 /// Gives the next imports, in the order of the import directory. Counts steps.
 ///
-/// Entries that lead nowhere give no import, in either mode. Permissive mode also skips libraries
-/// without an address table and entries whose hint is cut. `goblin_pe_read_damage` counts all of
-/// these.
+/// `skipped` counts libraries without an address table, imports whose hint can't be read, and tables
+/// that the file cuts short, each once. `unmapped` counts imports whose name has no offset.
 ///
 /// Faults: STEPS; in strict mode damage, after the imports that come before it; READ if the file
 /// has no room for the section headers; OPTIONS; MEMORY if there are more than 96 sections.
@@ -46,12 +45,15 @@ pub extern "C" fn goblin_pe_raw_next_imports<'a>(
     walk::<PeImport>(alloc, image, refusal, cursor, imports, steps, batch)
 }
 
-/// Gives the next libraries: one for each entry of the import directory, also the skipped ones.
+/// Gives the next libraries: one for each entry of the import directory, also the skipped ones,
+/// which `skipped` counts. A walk over the imports of such a library does not count it again. So
+/// this walk and those over the imports of its rows count together what one walk over all imports
+/// counts.
 ///
 /// Faults: as `goblin_pe_next_imports`, but no STEPS. In strict mode the walk ends with a fault
 /// where the file ends before the import directory does.
 #[unsafe(no_mangle)]
-#[tactic(auto, using(goblin_pe_c_tables::proofs::LibraryEnds::libraries_end))]
+#[tactic(auto, using(goblin_pe_c_tables::proofs::LibraryEnds::libraries_end, goblin_pe_c_tables::proofs::LibraryEnds::libraries_sum))]
 pub extern "C" fn goblin_pe_raw_next_libraries<'a>(
     alloc: Global,
     image: &PeImage<'a>,
@@ -64,6 +66,7 @@ pub extern "C" fn goblin_pe_raw_next_libraries<'a>(
         WalksOver (options_fault image.now.options) result image.now GivesLibraries IsLibrariesFault
         old new batch.new }
     ensures ends { LibrariesEnd }
+    ensures sums { LibrariesSum }
 {
     let refusal = refused_call(&image.options);
     walk::<PeLibrary>(alloc, image, refusal, cursor, libraries, &mut 0, batch)

@@ -8,7 +8,6 @@
 #![tactic(auto)]
 
 mod checksum;
-mod damage;
 mod exports;
 mod fault;
 mod imports;

@@ -1,3 +1,2 @@
 pub mod ExportAddresses
 pub mod ExportWalk
-pub mod LeftOutExports

@@ -8,5 +8,6 @@ pub mod LibraryIndexes
 pub mod LookupSlots
 pub mod LookupWalk
 pub mod Modes
+pub mod PassedSlots
 pub mod PermissiveReads
 pub mod SlotSteps

@@ -1,10 +1,18 @@
 -- The slots before the stop of a table, and what a budget of steps has left.
-use Rattle.std.proofs.Common.{◌≡◌, ◌≤◌, ◌+◌, ℕ, zero, suc, false, List, Option, Some, None, refl, ap, ◌∙◌, arith}
-use Rattle.goblin_base.specs.Tables.{SlotFormat, slot_at, stop}
+use Rattle.std.proofs.Common.{◌≡◌, ◌≤◌, ◌+◌, ℕ, zero, suc, Bool, true, false, List, Option, Some, None, refl, ap, ◌∙◌, arith}
+use Rattle.goblin_base.specs.Tables.{SlotFormat, ends_table, slot_at, stop}
 use Rattle.goblin_base.proofs.SlotTables.{reads}
 use Rattle.goblin_pe_import.specs.TableSums.{amount_of, sum_below, sum_of_slots}
 use Rattle.goblin_pe_import.specs.Steps.{AreCounted, HasNotGrown, HasSteps, spent}
-use Rattle.readings.proofs.Walks.{here, shifted, stop-next}
+use Rattle.readings.proofs.Walks.{here, shifted, stop-first, stop-next}
+
+-- a table that ends at once amounts to nothing
+pub sum-here : {V : Type 0} (slots : SlotFormat V) (amount : V → ℕ) (bytes : List ℕ) (o : ℕ)
+    → 1 ≤ slots.entry.width → (end : Option V) → reads slots bytes o ≡ end
+    → ends_table slots.is_last end ≡ true → sum_of_slots slots amount bytes o ≡ 0
+unfolding sum_of_slots sum_below
+sum-here slots amount bytes o wide end r e =
+    ap (sum_below (λ i. amount_of amount (slot_at slots bytes o i))) (stop-first slots bytes o wide end r e)
 
 module _ {V : Type 0} (slots : SlotFormat V) (bytes : List ℕ) (o : ℕ)
     (wide : 1 ≤ slots.entry.width) (v : V) (r : reads slots bytes o ≡ Some v)

@@ -5,7 +5,6 @@ pub mod ImportFaults
 pub mod ImportSteps
 pub mod ImportsValue
 pub mod ImportsWalk
-pub mod LeftOutLibraries
 pub mod LibrariesWalk
-pub mod SlotSums
+pub mod PassedLibraries
 pub mod StepsAhead

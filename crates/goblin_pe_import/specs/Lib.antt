@@ -6,6 +6,7 @@ pub mod ImportRecords
 pub mod Imports
 pub mod KeptEntries
 pub mod LookupReadings
+pub mod Passed
 pub mod Steps
 pub mod TableSums
 pub mod added

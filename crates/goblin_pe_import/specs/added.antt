@@ -1,5 +1,4 @@
 pub mod ImportCursors
 pub mod ImportWalks
-pub mod LeftOut
 pub mod Libraries
 pub mod StepsAhead

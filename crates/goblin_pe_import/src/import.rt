@@ -29,6 +29,7 @@ pub(crate) mod kept;
 pub(crate) mod library;
 mod listed;
 pub(crate) mod lookup_table;
+pub(crate) mod passed;
 pub(crate) mod slots;
 pub(crate) mod steps;
 

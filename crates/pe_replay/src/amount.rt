@@ -1,7 +1,7 @@
 //! How much there is of what a call read, as a number that tells it from other answers.
 
 use goblin_base::{ErrorOf, ResultOf, Strtab};
-use goblin_pe::added::{Damage, Layout};
+use goblin_pe::added::Layout;
 use goblin_pe::export::{Export, ExportData};
 use goblin_pe::import::{Import, ImportData, SyntheticImportDirectoryEntry};
 use goblin_pe::laws::{PartsOf, TablesOf};
@@ -164,15 +164,6 @@ impl Amount for Whole<'_> {
 impl Amount for Layout<'_> {
     fn amount(&self) -> Result<usize, Refusal> {
         Ok(self.section_records().len())
-    }
-}
-
-/// One for each kind of part that is damaged: headers, tables of names, base relocations.
-impl Amount for Damage {
-    fn amount(&self) -> Result<usize, Refusal> {
-        let of_header = usize::from(self.dos_stub.is_some() || self.section_names.is_some());
-        let of_tables = usize::from(self.imports.is_some() || self.exports.is_some());
-        Ok(of_header + of_tables + usize::from(self.relocations.is_some()))
     }
 }
 

@@ -54,7 +54,6 @@ pub fn show_call(
         "whole" => show_answer(rt, Whole::read(alloc, file, opts)),
         "layout" => show_layout(rt, file, opts),
         "layout_of_many" => show_layout_of_many(rt, opts),
-        "damage" => show_answer(rt, Whole::damage(alloc, file, opts)),
         _ => show_imports(rt, call, file, sections, opts),
     }
 }

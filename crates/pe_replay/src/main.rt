@@ -2,7 +2,7 @@
 //! the tests that compare it.
 //!
 //! ```text
-//! pe_replay header|imports|exports|damage < FILE
+//! pe_replay header|imports|exports < FILE
 //! pe_replay walk|index COUNT stored|rounded < FILE
 //! pe_replay twins OFFSET < CHANGES
 //! pe_replay CALL default|strict|permissive
@@ -92,7 +92,6 @@ fn show_file(rt: &HostRuntime, word: &str, count: &str, rule: &str) -> io::Resul
         "walk" => look_ups::show_walk(rt, &file, count.parse().unwrap_or(0), &opts),
         "index" => look_ups::show_index(rt, &file, count.parse().unwrap_or(0), &opts),
         "imports" | "exports" => walks::show(rt, &file, word),
-        "damage" => walks::show_damage(rt, &file),
         "twins" => twins::show(rt, &file, count.parse().unwrap_or(0)),
         _ => Err(ErrorKind::InvalidInput.into()),
     }

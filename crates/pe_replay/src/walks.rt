@@ -1,10 +1,9 @@
-//! The tables of a file, walked over in constant memory, and the damage of its parts.
+//! The tables of a file, walked over in constant memory.
 
 use crate::refused;
-use fixture::sample::in_mode;
-use goblin_base::{Error, ErrorOf, ParseMode};
+use goblin_base::{Error, ErrorOf};
+use goblin_pe::Part;
 use goblin_pe::added::{Exports, FileImports, Layout};
-use goblin_pe::{Part, Whole};
 use goblin_pe_head::Header;
 use goblin_pe_sect::ParseOptions;
 use std::io;
@@ -64,30 +63,5 @@ fn show_count(rt: &HostRuntime, count: usize, end: &Option<Error>) -> io::Result
     match end {
         Some(error) => println!(rt; "{error}"),
         None => Ok(()),
-    }
-}
-
-/// Shows what strict mode would refuse of a file that permissive mode reads, a line for each part,
-/// and how much is left out.
-pub fn show_damage(rt: &HostRuntime, file: &[u8]) -> io::Result<()> {
-    let opts = in_mode(ParseMode::Permissive);
-    let damage = Whole::damage(rt.alloc(), file, &opts).map_err(refused)?;
-    show_part(rt, "stub", &damage.dos_stub)?;
-    show_part(rt, "section names", &damage.section_names)?;
-    show_part(rt, "imports", &damage.imports)?;
-    show_part(rt, "exports", &damage.exports)?;
-    show_part(rt, "relocations", &damage.relocations)?;
-    let left_out = damage.left_out;
-    println!(rt;
-        "left out: {} libraries, {} entries",
-        left_out.libraries, left_out.entries
-    )?;
-    println!(rt; "by both modes: {} entries", left_out.unmapped_entries)
-}
-
-fn show_part(rt: &HostRuntime, part: &str, damage: &Option<Error>) -> io::Result<()> {
-    match damage {
-        Some(error) => println!(rt; "{part}: {error}"),
-        None => println!(rt; "{part}: sound"),
     }
 }

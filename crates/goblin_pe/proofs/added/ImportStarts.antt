@@ -11,9 +11,10 @@ use Rattle.goblin_pe_import.specs.declared.added.imports.ImportCursor.{ImportCur
 use Rattle.goblin_pe_import.specs.declared.added.imports.Imports.{Imports}
 use Rattle.goblin_pe_import.specs.declared.added.imports.WalkedImport.{WalkedImport}
 use Rattle.goblin_pe_import.specs.ImportLookup.{entries_32, entries_64}
-use Rattle.goblin_pe_import.specs.added.ImportWalks.{AreImportsOver, HasName, cursor_of, imports_bytes, imports_map, no_imports, walked_value, IsWalkFault}
+use Rattle.goblin_pe_import.specs.Passed.{Count}
+use Rattle.goblin_pe_import.specs.added.ImportWalks.{AreImportsOver, HasName, cursor_of, cursor_passes, walk_passes, imports_bytes, imports_map, no_imports, walked_value, IsWalkFault}
 use Rattle.goblin_pe_import.specs.added.StepsAhead.{GivesImportWithin, cursor_ahead, imports_ahead}
-use Rattle.goblin_pe.specs.added.Layouts.{FileImports, file_ahead, file_cursor_ahead, GivesFileWithin, GivesFileImport, IsImportWalkAt, file_cursor, file_cursor_left, import_begin, IsFileImportsCause, file_imports_left}
+use Rattle.goblin_pe.specs.added.Layouts.{FileImports, file_ahead, file_cursor_ahead, file_cursor_passes, file_passes, GivesFileWithin, GivesFileImport, IsImportWalkAt, file_cursor, file_cursor_left, import_begin, IsFileImportsCause, file_imports_left}
 use Rattle.goblin_pe.specs.declared.added.file_imports.FileImports.TheVariants.{Narrow, Wide}
 use Rattle.goblin_pe.specs.Whole.{TablePlaces, directory_at}
 use Rattle.goblin_pe_import.proofs.added.ImportCursors.{cursor_left_of}
@@ -74,6 +75,7 @@ narrow_within s t r old new given = record {
   walk = λ m magic bytes. kept s t given.over given.named m bytes;
   fault = (faults s r given.fault).0;
   over = given.over;
+  passed = given.passed;
   spent = given.spent;
   looked = given.looked;
   ended = given.ended;
@@ -88,6 +90,7 @@ wide_within s t r old new given = record {
   walk = λ m magic bytes. kept s t given.over given.named m bytes;
   fault = (faults s r given.fault).0;
   over = given.over;
+  passed = given.passed;
   spent = given.spent;
   looked = given.looked;
   ended = given.ended;
@@ -106,13 +109,13 @@ file_given s t None new given =
     elim given.ended [
       | inl ended ↦
           let none = file-ended t ended in
-          ((given.steps.0 ∙ none, none), given.walk, tt, ended, given.over.0, given.over.1)
+          ((given.steps.0 ∙ none, none), given.walk, tt, ended, given.over.0, given.over.1, given.passed)
       | inr out ↦ absurd out
     ]
 file_given s t (Some (Ok x)) new given =
-    (given.steps, given.walk, given.fault, tt, given.over.0, given.over.1)
+    (given.steps, given.walk, given.fault, tt, given.over.0, given.over.1, given.passed)
 file_given s t (Some (Err e)) new given =
-    (given.steps, given.walk, given.fault, given.ended, given.over.0, given.over.1)
+    (given.steps, given.walk, given.fault, given.ended, given.over.0, given.over.1, given.passed)
 
 -- ---- a walk at a cursor
 
@@ -125,6 +128,14 @@ module _ (m : MapOfAddresses) (magic : ℕ) (bytes : List ℕ) (c : ImportCursor
   walk-left (Wide imports) h =
       rw h.0.0 (cursor_left_of m entries_64 bytes c imports (record { over = h.0.1; at = h.1; named = h.0.2 }))
 
+  -- so does what is to be passed over
+  passes-at : (format : Format EntryValue) (imports : Imports ℕ) → AreImportsOver bytes m imports
+      → cursor_of imports ≡ c → (k : Count) → walk_passes format imports.walk k ≡ cursor_passes m format bytes c k
+  passes-at format imports over at k =
+      ap (λ (m : MapOfAddresses). cursor_passes m format (imports_bytes imports) (cursor_of imports) k) over.1
+      ∙ ap (λ (b : List ℕ). cursor_passes m format b (cursor_of imports) k) over.0
+      ∙ ap (λ (at : ImportCursor). cursor_passes m format bytes at k) at
+
   -- so do the steps that are ahead
   ahead-at : (format : Format EntryValue) (imports : Imports ℕ) → AreImportsOver bytes m imports
       → cursor_of imports ≡ c → imports_ahead format imports ≡ cursor_ahead m format bytes c
@@ -132,6 +143,11 @@ module _ (m : MapOfAddresses) (magic : ℕ) (bytes : List ℕ) (c : ImportCursor
       ap (λ (m : MapOfAddresses). cursor_ahead m format (imports_bytes imports) (cursor_of imports)) over.1
       ∙ ap (λ (b : List ℕ). cursor_ahead m format b (cursor_of imports)) over.0
       ∙ ap (cursor_ahead m format bytes) at
+
+  pub walk-passes : (imports : FileImports) → IsImportWalkAt m magic bytes c imports → (k : Count)
+      → file_passes imports k ≡ file_cursor_passes m magic bytes c k
+  walk-passes (Narrow imports) h k = rw h.0.0 (passes-at entries_32 imports h.0.1 h.1 k)
+  walk-passes (Wide imports) h k = rw h.0.0 (passes-at entries_64 imports h.0.1 h.1 k)
 
   pub walk-ahead : (imports : FileImports) → IsImportWalkAt m magic bytes c imports
       → file_ahead imports ≡ file_cursor_ahead m magic bytes c

@@ -15,23 +15,9 @@ use Rattle.goblin_pe_sect.proofs.added.UnnamedMaps.{unnamed_map_in}
 use Rattle.goblin_pe_head.specs.{declared.header.pe_header.Header.Header, CoffHeader.symbols_end}
 use Rattle.goblin_pe_head.specs.CoffReadings.{sections_at, with_room}
 use Rattle.goblin_pe_head.specs.{HeaderReadings.pe_header, PeHeader.PeHeader, PeHeader.header_value}
-use Rattle.goblin_pe.specs.added.Damages.{Damage, IsDamage, IsDamaged, TellsDamage}
 use Rattle.goblin_pe.specs.added.Layouts.{Layout, IsLayoutOf, layout_map, layout_places}
 use Rattle.goblin_pe_import.proofs.ImportBound.{all_of-length}
 use Rattle.goblin_pe.specs.Whole.{TablePlaces, layout, mapped_in, places_in, section_table_offset, sections_after}
-
--- ---- a refusal tells the damage
-
-pub damage_read : {X A : Type 0} (view : X → A) (result : Result X ErrorOf) (reading : Reading A) (bytes : List ℕ)
-    → Reads view result reading bytes → IsDamage reading bytes (result_err result)
-damage_read view (Ok x) reading bytes read = rw read refl
-damage_read view (Err e) reading bytes refused = refused
-
--- so does one of what is made of a value
-pub damage_made : {X A B : Type 0} (view : X → B) (result : Result X ErrorOf) (f : A → B) (reading : Reading A) (bytes : List ℕ)
-    → Reads view result (mapped f reading) bytes → IsDamage reading bytes (result_err result)
-damage_made view (Ok x) f reading bytes read = rw (steps.mapped (reading.value bytes) f (view x) read).is refl
-damage_made view (Err e) f reading bytes refused = (steps.unmapped f (reading.value bytes) refused.0, refused.1)
 
 -- ---- how many sections there are
 
@@ -72,14 +58,3 @@ of_file view opts bytes header l is sections read P holds =
     subst (λ (m : MapOfAddresses). P m (places_in header.optional_header) bytes) (is.mapped sections read)
     (subst (λ (places : TablePlaces). P (layout_map l) places bytes) is.placed
     (subst (λ (b : List ℕ). P (layout_map l) (layout_places l) b) is.over holds))
-
--- ---- the header and the sections
-
-module _ (view : View) (opts : ParseOptions) (bytes : List ℕ) (h : PeHeader) (there : (pe_header (is_strict opts.parse_mode)).value bytes ≡ Some h) where
-  pub tells_damage : (read : Option (List Section)) (records : List Section) (d : Damage)
-      → (sections_after (is_strict opts.parse_mode) h).value bytes ≡ read → option_map (map unnamed) read ≡ Some records
-      → ((sections : List Section) → (sections_after (is_strict opts.parse_mode) h).value bytes ≡ Some sections → IsDamaged view opts h sections bytes d)
-      → TellsDamage view opts bytes (Ok d)
-  unfolding layout
-  tells_damage None records d is made damaged = absurd cc
-  tells_damage (Some sections) records d is made damaged = rw (there, is) (damaged sections is)

@@ -2,9 +2,7 @@
 -- the algorithm to the Windows library IMAGEHLP. That library adds the field, too, and subtracts it
 -- again. The result differs if the other words add up to 0xFFFF and the field is not 0.
 use Rattle.std.specs.Prelude.{ℕ, zero, suc, ◌+◌, ◌*◌, ◌/◌, ◌%◌, ◌^◌, ◌&&◌, nat_le, nat_lt}
-use Rattle.std.specs.Prelude.{Bool, if◌then◌else◌, List, length, slice_index_or, Option, option_map}
-use Rattle.goblin_base.specs.Answers.{◌>>=◌}
-use Rattle.goblin_pe_head.specs.{HeaderReadings.pe_header, PeHeader.PeHeader}
+use Rattle.std.specs.Prelude.{if◌then◌else◌, List, length, slice_index_or}
 
 -- the byte at an offset, which counts as 0 in the four bytes of the field, and past the end
 abbrev pub summed_byte : List ℕ → ℕ → ℕ → ℕ
@@ -31,14 +29,3 @@ sum_of_words bytes field (suc n) =
 abbrev pub image_checksum : List ℕ → ℕ → ℕ
 image_checksum bytes field =
     (sum_of_words bytes field ((length bytes + 1) / 2) + length bytes) % 2 ^ 32
-
--- the file offset of the field, if there is an optional header: that begins 24 bytes after the
--- signature, and the field lies 64 bytes into it in both of its forms
-abbrev pub checksum_field : PeHeader → Option ℕ
-checksum_field h = option_map (λ optional. h.dos_header.pe_pointer + 88) h.optional_header
-
--- the checksum of a file, with the field where its header says; none if the header cannot be read
--- or has no such field
-abbrev pub file_checksum : Bool → List ℕ → Option ℕ
-file_checksum strict bytes =
-    (pe_header strict).value bytes >>= λ h. option_map (image_checksum bytes) (checksum_field h)

@@ -26,7 +26,10 @@ use Rattle.goblin_pe_import.specs.added.ImportWalks.{cursor_left, cursor_of, imp
 use Rattle.goblin_pe_import.specs.added.ImportWalks.{imports_map, no_imports, walked_value}
 use Rattle.goblin_pe_import.specs.added.StepsAhead.{EndsWithin, HaveRunOut, LooksAt, cursor_ahead}
 use Rattle.goblin_pe_import.specs.added.StepsAhead.{imports_ahead}
-use Rattle.goblin_pe_import.specs.Steps.{GivesWithin, HasNotGrown}
+use Rattle.goblin_pe_import.specs.added.ImportWalks.{cursor_passes, passed_of, walk_passes}
+use Rattle.goblin_pe_import.specs.Passed.{Count, HasRisen, count_of}
+use Rattle.goblin_pe_import.specs.declared.import.passed.Passed.{Passed}
+use Rattle.goblin_pe_import.specs.Steps.{GivesWithin, HasNotGrown, UnlessErr}
 use Rattle.goblin_pe_export.specs.declared.added.exports.Exports.{Exports}
 use Rattle.goblin_pe_export.specs.added.ExportAddresses.{export_addresses}
 use Rattle.goblin_pe_export.specs.ExportRecords.{ExportTables, NumberedExport}
@@ -199,6 +202,26 @@ abbrev pub IsImportWalkAt : MapOfAddresses → ℕ → List ℕ → ImportCursor
 IsImportWalkAt m magic bytes c imports =
     IsImportWalk m magic bytes imports × (file_cursor imports ≡ c)
 
+-- what a walk has passed over, and how much it passes over to its end
+abbrev pub file_passed : FileImports → Passed
+file_passed (Narrow imports) = passed_of imports
+file_passed (Wide imports) = passed_of imports
+
+abbrev pub file_passes : FileImports → Count → ℕ
+file_passes (Narrow imports) = walk_passes entries_32 imports.walk
+file_passes (Wide imports) = walk_passes entries_64 imports.walk
+
+-- how much it passes over from a cursor on
+abbrev pub file_cursor_passes : MapOfAddresses → ℕ → List ℕ → ImportCursor → Count → ℕ
+file_cursor_passes m magic bytes c = cursor_passes m (entry_format magic) bytes c
+
+-- A call counts what it passes over, unless it is refused.
+abbrev pub CountsFilePassed : FileImports → Option (Result WalkedImport ErrorOf) → FileImports
+    → Type 0
+CountsFilePassed s result t =
+    UnlessErr result ((k : Count) → HasRisen (count_of k (file_passed s)) (count_of k (file_passed t))
+    (file_passes s k) (file_passes t k))
+
 -- A call of `next` gives the next import, or an error that is never Memory, or it has ended the
 -- walk. It keeps the bytes and the map, and what is known of the walk.
 abbrev pub GivesFileImport : FileImports → Option (Result WalkedImport ErrorOf) → FileImports
@@ -212,6 +235,7 @@ GivesFileImport s result t =
     (λ r. IfErr r (λ e. file_cursor t ≡ no_imports))
     × (file_bytes t ≡ file_bytes s)
     × (file_map t ≡ file_map s)
+    × CountsFilePassed s result t
 
 -- how many steps are ahead: slots and import descriptors that are still to be looked at
 abbrev pub file_ahead : FileImports → ℕ
@@ -232,6 +256,7 @@ pub record GivesFileWithin (s : FileImports) (old : Option ℕ)
         → IsImportWalk m magic bytes t
     pub fault : IfSome result (λ r. IfErr r (λ e. ¬ IsMemory e))
     pub over : (file_bytes t ≡ file_bytes s) × (file_map t ≡ file_map s)
+    pub passed : CountsFilePassed s result t
     pub spent : HasNotGrown old new
     pub looked : LooksAt (length (file_bytes s)) result old new (file_ahead s) (file_ahead t)
     pub ended : EndsWithin result (file_cursor t)

@@ -10,9 +10,9 @@ ghost use Rattle.goblin_pe_sect.specs.Addresses.{MapOfAddresses, map_of};
 ghost use Rattle.goblin_pe.specs.added.Layouts.{GivesFileImport, file_cursor_left, file_map};
 ghost use Rattle.goblin_pe.specs.added.Layouts.{GivesFileWithin, IsImportWalk, file_cursor};
 ghost use Rattle.goblin_pe.specs.added.Layouts.{IsFileImportsCause, file_imports_bound};
-ghost use Rattle.goblin_pe.specs.added.Layouts.{file_imports_left};
+ghost use Rattle.goblin_pe.specs.added.Layouts.{file_imports_left, file_passed};
 
-use crate::added::{ImportCursor, Imports, WalkedImport};
+use crate::added::{ImportCursor, Imports, Passed, WalkedImport};
 use goblin_base::ResultOf;
 use goblin_pe_sect::address_map::Finder;
 use std::iter::FusedIterator;
@@ -42,6 +42,16 @@ impl<'a, 'm, 'e> FileImports<'a, 'm, 'e> {
         match self {
             FileImports::Narrow(imports) => imports.cursor(),
             FileImports::Wide(imports) => imports.cursor(),
+        }
+    }
+
+    /// What the walk has passed over since it was made. After an error, what it says is not known.
+    pub fn passed(&self) -> Passed
+        ensures { result ≡ file_passed self.now }
+    {
+        match self {
+            FileImports::Narrow(imports) => imports.passed(),
+            FileImports::Wide(imports) => imports.passed(),
         }
     }
 

@@ -1,8 +1,9 @@
 //! A walk over the libraries of a file.
 
-ghost use Rattle.std.specs.Prelude.{IfOk};
+ghost use Rattle.std.specs.Prelude.{◌≡◌, IfOk};
 ghost use Rattle.goblin_base.specs.Reading.{Reads};
 ghost use Rattle.goblin_pe_import.specs.added.Libraries.{AreLibrariesAt, libraries_cursor};
+ghost use Rattle.goblin_pe_import.specs.{Passed.nothing_passed, added.Libraries.libraries_passed};
 ghost use Rattle.goblin_pe.specs.added.Layouts.{import_begin};
 ghost use Rattle.goblin_pe.specs.added.Layouts.{layout_bytes, layout_map, layout_places};
 ghost use Rattle.goblin_pe.specs.Whole.{entry_format};
@@ -15,7 +16,8 @@ impl<'a> Layout<'a> {
     /// It also yields the libraries that permissive mode leaves out of the imports, with one
     /// exception: in permissive mode a directory at file offset 0 yields none. The walk is empty if
     /// the file has no import directory, or if the options do not ask for imports. In permissive
-    /// mode it is also empty if the directory's address has no file offset.
+    /// mode it is also empty if the directory's address has no file offset. [`Libraries::passed`]
+    /// counts what the walk skips, also a directory as a whole.
     ///
     /// [`Layout::imports_at`] gives the imports of each library.
     ///
@@ -38,8 +40,9 @@ impl<'a> Layout<'a> {
     /// returned.
     #[tactic(auto, unfolding(crate::specs::Whole::entry_format))]
     pub fn libraries_at<'m>(&'m self, at: ImportCursor) -> Libraries<'a, 'm>
-        ensures { AreLibrariesAt (layout_map self.now) (entry_format (layout_places self.now).magic)
-            (layout_bytes self.now) at result }
+        ensures at { AreLibrariesAt (layout_map self.now)
+            (entry_format (layout_places self.now).magic) (layout_bytes self.now) at result }
+        ensures fresh { libraries_passed result ≡ nothing_passed }
     {
         let is_narrow = self.places.has_narrow_entries();
         Libraries::at_cursor(self.bytes(), at, is_narrow, self.finder())

@@ -2,17 +2,7 @@
 
 ghost use Rattle.std.specs.Prelude.{◌≡◌, ◌+◌, ◌*◌, ◌/◌, ◌<◌, length};
 ghost use Rattle.goblin_pe.specs.added.Checksums.{image_checksum, sum_of_words, summed_byte};
-ghost use Rattle.goblin_pe.specs.added.Checksums.{summed_word};
-ghost use Rattle.goblin_pe.specs.added.Checksums.{checksum_field, file_checksum, with_carry};
-ghost use Rattle.goblin_pe_head.specs.PeHeader.{header_value};
-ghost use Rattle.goblin_pe_sect.specs.Options.{is_strict};
-
-use goblin_pe_head::header::{Header, SIZEOF_COFF_HEADER, SIZEOF_PE_MAGIC};
-use goblin_pe_head::optional_header::{
-    OFFSET_WINDOWS_FIELDS_32_CHECKSUM, OFFSET_WINDOWS_FIELDS_64_CHECKSUM,
-    SIZEOF_STANDARD_FIELDS_32, SIZEOF_STANDARD_FIELDS_64,
-};
-use goblin_pe_sect::options::ParseOptions;
+ghost use Rattle.goblin_pe.specs.added.Checksums.{summed_word, with_carry};
 
 fn summed_byte(bytes: &[u8], field: usize, offset: usize) -> u32
     ensures value { result ≡ summed_byte bytes.now field offset }
@@ -73,32 +63,4 @@ pub fn checksum(bytes: &[u8], field: usize) -> u32
 {
     let length = (bytes.len() % (1 << 32)) as u32;
     sum_of_words(bytes, field).wrapping_add(length)
-}
-
-// The offset of the checksum field in an optional header of either width, in bytes. The standard
-// fields come before the Windows fields.
-const FIELD_OFFSET: usize = SIZEOF_STANDARD_FIELDS_32 + OFFSET_WINDOWS_FIELDS_32_CHECKSUM;
-
-const _: () = prove!(FIELD_OFFSET == SIZEOF_STANDARD_FIELDS_64 + OFFSET_WINDOWS_FIELDS_64_CHECKSUM);
-
-/// The file offset of the checksum field of an image with this header, or `None` if the image has
-/// no optional header.
-pub fn checksum_field(header: &Header) -> Option<usize>
-    ensures { result ≡ checksum_field (header_value header.now) }
-{
-    let begin = header.dos_header.pe_pointer as usize + SIZEOF_PE_MAGIC + SIZEOF_COFF_HEADER;
-    match &header.optional_header {
-        Some(_) => Some(begin + FIELD_OFFSET),
-        None => None,
-    }
-}
-
-/// The checksum of the image `bytes`, as [`checksum`] computes it, with the field where the header
-/// says. It is `None` if these options refuse the header, or if there is no optional header.
-pub fn file_checksum(bytes: &[u8], opts: &ParseOptions) -> Option<u32>
-    ensures { result ≡ file_checksum (is_strict opts.now.parse_mode) bytes.now }
-{
-    let header = Header::parse_with_opts(bytes, opts).ok()?;
-    let field = checksum_field(&header)?;
-    Some(checksum(bytes, field))
 }

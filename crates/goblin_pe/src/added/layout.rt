@@ -6,16 +6,17 @@ ghost use Rattle.goblin_base.specs.{declared.error.ErrorOf.ErrorOf, Reading.Read
 ghost use Rattle.readings.specs.{Reads.mapped, Walks.Walks};
 ghost use Rattle.goblin_pe_sect.specs.declared.options.ParseOptions.{ParseOptions};
 ghost use Rattle.goblin_pe_sect.specs.declared.options.View.TheVariants.{Loader, Sections};
-ghost use Rattle.goblin_pe_sect.specs.Addresses.{map_of, reads_strictly, strict_map, with_longest};
+ghost use Rattle.goblin_pe_sect.specs.Addresses.{map_of, reads_strictly, with_longest};
 ghost use Rattle.goblin_pe_sect.specs.BaseRelocations.{relocation_bytes};
 ghost use Rattle.goblin_pe_sect.specs.Options.{is_strict, rule_by_alignment};
 ghost use Rattle.goblin_pe_sect.specs.SectionTable.{recorded_sections, unnamed};
 ghost use Rattle.goblin_pe_head.specs.{CoffHeader.IsTooManySections, PeHeader.header_value};
 ghost use Rattle.goblin_pe_import.specs.added.ImportCursors.{first_import};
 ghost use Rattle.goblin_pe_import.specs.{ImportReadings.numbered_data, Imports.numbered_imports};
-ghost use Rattle.goblin_pe.specs.added.Damages.{exports_left_out, left_out_of};
 ghost use Rattle.goblin_pe.specs.added.Layouts.{GivesFirst, IsFileCursorCause, IsImportWalkAt};
 ghost use Rattle.goblin_pe.specs.added.Layouts.{PartBegins, file_cursor_left, file_map};
+ghost use Rattle.goblin_pe.specs.added.Layouts.{file_passed};
+ghost use Rattle.goblin_pe_import.specs.Passed.{nothing_passed};
 ghost use Rattle.goblin_pe.specs.added.Layouts.{import_begin, IsExportWalk, IsFileImportsCause};
 ghost use Rattle.goblin_pe.specs.added.Layouts.{PartWalks, file_imports_left, layout_bytes};
 ghost use Rattle.goblin_pe.specs.added.Layouts.{layout_map, layout_places, layout_sections};
@@ -27,7 +28,7 @@ ghost use Rattle.goblin_pe.specs.Whole.{export_part, import_list, part_map, plac
 ghost use Rattle.goblin_pe.specs.Whole.{relocation_part, section_table_offset, sections_after};
 ghost use Rattle.goblin_pe.specs.Whole.{table_places};
 
-use crate::added::{Exports, FileImports, ImportCursor, Imports, LeftOut};
+use crate::added::{Exports, FileImports, ImportCursor, Imports};
 use crate::whole::Part;
 use crate::whole::places::{
     EXPORT_TABLE, IMPORT_TABLE, Places, file_alignment, part_of, size_of_headers,
@@ -189,20 +190,6 @@ impl<'a> Layout<'a> {
         }
     }
 
-    // The same layout in strict mode: damaged tables are refused, and not passed over.
-    pub(super) fn strictly(self) -> Layout<'a>
-        ensures over { layout_bytes result ≡ layout_bytes self.entry }
-        ensures placed { layout_places result ≡ layout_places self.entry }
-        ensures mapped { layout_map result ≡ strict_map (layout_map self.entry) }
-    {
-        Layout {
-            bytes: self.bytes,
-            places: self.places,
-            records: self.records,
-            address_map: self.address_map.strictly(),
-        }
-    }
-
     /// Sets a limit, in bytes, on the names of imports, libraries and exports. A longer name is cut
     /// as [`pread_str_within`](goblin_base::pread_str_within) says: what is left of it is longer
     /// than the limit by up to four bytes. The text of a forwarder is cut as
@@ -247,8 +234,7 @@ impl<'a> Layout<'a> {
     /// [absent](Part::Absent) if the file has no import directory, or if the options do not ask for
     /// imports.
     ///
-    /// [`Layout::left_out`] counts the entries that give no import. Those that it counts in
-    /// `unmapped_entries` give none in either mode.
+    /// [`FileImports::passed`] counts what the walk passes over.
     ///
     /// # Errors
     /// In strict mode as [`Imports::of`](crate::added::Imports::of).
@@ -262,6 +248,7 @@ impl<'a> Layout<'a> {
             GivesFirst (PartBegins m places.magic (layout_bytes self.now))
             (import_begin m.opts m.addressing places) (layout_bytes self.now) result }
         ensures over { IfOk result (IfRead (λ walk. file_map walk ≡ layout_map self.now)) }
+        ensures fresh { IfOk result (IfRead (λ walk. file_passed walk ≡ nothing_passed)) }
     {
         let opts = self.address_map.opts();
         match self.places.directory(IMPORT_TABLE) {
@@ -305,6 +292,7 @@ impl<'a> Layout<'a> {
         ensures cause { let m = layout_map self.now in
             (e : ErrorOf) → IsFileImportsCause result e
             → IsFileCursorCause m (layout_places self.now).magic (layout_bytes self.now) at e }
+        ensures fresh { file_passed result ≡ nothing_passed }
     {
         if self.places.has_narrow_entries() {
             FileImports::Narrow(Imports::at_cursor(self.bytes, at, self.finder()))
@@ -424,44 +412,6 @@ impl<'a> Layout<'a> {
         }
     }
 
-    /// How much is left out of the imports. All counts are 0 if the options ask for no imports.
-    #[tactic(auto, unfolding(crate::specs::added::Damages::left_out_of, crate::specs::Whole::entry_format))]
-    pub fn left_out(&self) -> LeftOut
-        ensures { let m = layout_map self.now in
-            result ≡ left_out_of m.opts m.addressing (layout_places self.now)
-            (layout_bytes self.now) }
-    {
-        match self.places.directory(IMPORT_TABLE) {
-            Some(directory) if self.address_map.opts().parse_imports => {
-                if self.places.has_narrow_entries() {
-                    LeftOut::of::<u32>(self.bytes, directory, &self.address_map)
-                } else {
-                    LeftOut::of::<u64>(self.bytes, directory, &self.address_map)
-                }
-            }
-            _ => LeftOut::default(),
-        }
-    }
-
-    /// How many name pointers of the export directory give no export, in either mode. Such a
-    /// pointer has no ordinal, or its ordinal lies past the address table, or it leads to a
-    /// forwarder whose text cannot be read. The count is 0 if there is no export directory, or if
-    /// it is refused.
-    #[tactic(auto, unfolding(crate::specs::added::Damages::exports_left_out))]
-    pub fn left_out_exports(&self) -> usize
-        ensures { let m = layout_map self.now in
-            result ≡ exports_left_out m.addressing (layout_places self.now)
-            (layout_bytes self.now) }
-    {
-        let Some(directory) = self.places.directory(EXPORT_TABLE) else {
-            return 0;
-        };
-        match Exports::by(self.bytes, directory, self.finder()) {
-            Ok(exports) => exports.left_out(),
-            Err(_) => 0,
-        }
-    }
-
     #[inline(always)]
     #[tactic(auto, unfolding(crate::specs::Whole::entry_format))]
     fn imports_in<'m, 'e>(
@@ -480,6 +430,7 @@ impl<'a> Layout<'a> {
             GivesFirst (IsImportWalkAt m (layout_places self.now).magic (layout_bytes self.now))
             (first_import (reads_strictly m) m.addressing rva) (layout_bytes self.now) result }
         ensures over { IfOk result (λ walk. file_map walk ≡ layout_map self.now) }
+        ensures fresh { IfOk result (λ walk. file_passed walk ≡ nothing_passed) }
     {
         if self.places.has_narrow_entries() {
             let imports = Imports::<u32>::of(self.bytes, directory, &self.address_map)?;

@@ -1,5 +1,4 @@
-//! A walk over the exports of an image; how many name pointers give none, and which exports pass a
-//! test.
+//! A walk over the exports of an image, and which exports pass a test.
 
 ghost use Rattle.std.specs.Prelude.{◌≡◌, ◌≤◌, ◌<◌, ◌^◌, ◌+◌, IfOk, IfSome, MatchOption, None, Some};
 ghost use Rattle.std.specs.Prelude.{length, option_map, slice_get, Bool, count_by, find};
@@ -16,14 +15,11 @@ ghost use Rattle.goblin_pe_export.specs.added.ExportWalks.{GivesExport, exports_
 ghost use Rattle.goblin_pe_export.specs.added.ExportWalks.{GivesExportBefore, exports_position};
 ghost use Rattle.goblin_pe_export.specs.added.ExportWalks.{KeepsOver, numbered_from, pointer_count};
 ghost use Rattle.goblin_pe_export.specs.added.ExportWalks.{walked_export, walked_tables};
-ghost use Rattle.goblin_pe_export.specs.added.ExportWalks.{NumberedExport, exports_bytes};
-ghost use Rattle.goblin_pe_export.specs.added.ExportWalks.{exports_map};
-ghost use Rattle.goblin_pe_export.specs.added.LeftOutExports.{gives_export, pointers_left_out};
-ghost use Rattle.goblin_pe_export.specs.added.LeftOutExports.{reads_forwarder};
+ghost use Rattle.goblin_pe_export.specs.added.ExportWalks.{NumberedExport};
 
+use crate::export::Export;
 use crate::export::entries::{Entries, TablesInFile};
 use crate::export::tables::{ExportAddressTableEntry, ExportDirectoryTable, test_address_count};
-use crate::export::{Export, forwarder_at};
 use goblin_base::{Cause, Error, Result, pread_ascii_str};
 use goblin_pe_sect::DataDirectory;
 use goblin_pe_sect::address_map::{AddressMap, Finder};
@@ -48,7 +44,10 @@ pub struct WalkedExport<'a> {
 /// [`ExportData::parse_by`](crate::export::ExportData::parse_by) reads.
 ///
 /// The three tables are read from the bytes of the file, one name pointer at a time. Once the
-/// record that leads to them is read, nothing is refused.
+/// record that leads to them is read, nothing is refused. The walk passes over a name pointer
+/// without an ordinal, with an ordinal past the address table, or with a forwarder whose text can't
+/// be read. So it has passed over as many as its [`position`](Exports::position) exceeds the number
+/// of exports that it yielded.
 #[derive(Drop)]
 pub struct Exports<'a, 'm> {
     bytes: &'a [u8],
@@ -56,37 +55,6 @@ pub struct Exports<'a, 'm> {
     tables: TablesInFile<'a>,
     // The index of the name pointer that is read next.
     next: usize,
-}
-
-// Whether an entry of the address table is not a forwarder, or is one whose text can be read.
-fn reads_forwarder(bytes: &[u8], address: ExportAddressTableEntry, finder: &mut Finder<'_>) -> bool
-    ensures value { let m = map_of finder.old in
-        result ≡ reads_forwarder m.addressing bytes.now address }
-    ensures same { finder.new ≡ finder.old }
-{
-    match address {
-        ExportAddressTableEntry::ExportRVA(_) => true,
-        ExportAddressTableEntry::ForwarderRVA(rva) => {
-            forwarder_at(bytes, finder.offset_of(rva), finder.longest_name()).is_some()
-        }
-    }
-}
-
-// Whether the name pointer at an index gives an export. Its name is not needed, so it is not read.
-#[tactic(auto, unfolding(crate::specs::ExportReadings::export_row, crate::specs::ExportReadings::numbered_row, crate::specs::ExportReadings::row_of))]
-fn gives_export(bytes: &[u8], tables: &TablesInFile, index: usize, finder: &mut Finder<'_>) -> bool
-    requires { index < length (tables_in tables.now).export_name_pointer_table }
-    ensures value { let m = map_of finder.old in
-        result ≡ gives_export m.addressing bytes.now (tables_in tables.now) index }
-    ensures same { finder.new ≡ finder.old }
-{
-    let Some(ordinal) = tables.ordinal(index) else {
-        return false;
-    };
-    match tables.address(usize::from(ordinal)) {
-        Some(address) => reads_forwarder(bytes, address, finder),
-        None => false,
-    }
 }
 
 impl<'a, 'm> Exports<'a, 'm> {
@@ -243,26 +211,6 @@ impl<'a, 'm> Exports<'a, 'm> {
         ensures { result ≡ slice_get (walked_tables self.now).export_address_table index }
     {
         self.tables.address(index)
-    }
-
-    /// How many name pointers of the directory give no export, wherever the walk is. Such a pointer
-    /// has no ordinal, or its ordinal lies past the address table, or it leads to a forwarder whose
-    /// text cannot be read. A name that cannot be read does not leave an export out.
-    #[tactic(auto, unfolding(crate::specs::added::LeftOutExports::pointers_left_out))]
-    pub fn left_out(&self) -> usize
-        ensures value { let m = exports_map self.now in
-            result
-            ≡ pointers_left_out m.addressing (exports_bytes self.now) (walked_tables self.now) }
-        ensures others { length (exports_at self.now 0) + result
-            ≡ length (walked_tables self.now).export_name_pointer_table }
-    {
-        let mut finder = self.finder.again();
-        let mut count = 0;
-        'pointers: for index in 0..self.tables.pointers() {
-            let gives = gives_export(self.bytes, &self.tables, index, &mut finder);
-            count += usize::from(!gives);
-        }
-        count
     }
 
     /// How many of the exports that are still to come pass a test.

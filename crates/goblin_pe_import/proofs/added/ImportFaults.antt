@@ -67,10 +67,10 @@ import-given format s t None new given =
     elim given.ended [
       | inl ended ↦
           let none = ended-left format t.walk ended in
-          ((given.steps.0 ∙ none, none), given.named, tt, given.over, ended)
+          ((given.steps.0 ∙ none, none), given.named, tt, given.over, ended, given.passed)
       | inr out ↦ absurd out
     ]
 import-given format s t (Some (Ok import)) new given =
-    (given.steps, given.named, given.fault, given.over, tt)
+    (given.steps, given.named, given.fault, given.over, tt, given.passed)
 import-given format s t (Some (Err e)) new given =
-    (given.steps, given.named, given.fault, given.over, given.ended)
+    (given.steps, given.named, given.fault, given.over, given.ended, given.passed)

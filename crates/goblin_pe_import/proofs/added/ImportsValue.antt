@@ -8,18 +8,19 @@ use Rattle.std.proofs.Math.Seq.{get_or-append_seam}
 use Rattle.goblin_base.specs.{declared.endian.Endian.TheVariants.Little, Answers.◌>>=◌}
 use Rattle.goblin_base.specs.{Answers.all_at, Answers.all_of, Bytes.IsBytes, Reading.Reading}
 use Rattle.goblin_base.specs.Tables.{Format, concat_below, each_below, join, made_of, or_left_out, slot_at, slot_place, stop}
-use Rattle.goblin_base.proofs.{Records.record_at-some, Footprints.same-all_at}
+use Rattle.goblin_base.proofs.{Numbers.slice_at-past, Records.record_at-some, Footprints.same-all_at}
 use Rattle.goblin_base.proofs.Steps.{all_at-more, all_at-zero, all_of-map, same_value, step}
 use Rattle.readings.specs.Reads.{given, in_its_place, mapped, pair_of, pick}
-use Rattle.readings.specs.Walks.{IsWalkOf, end_items, items_at, refusal_of, table_walk}
+use Rattle.readings.specs.Walks.{IsWalkOf, end_items, items_at, refusal_of, table_walk, until_refused}
+use Rattle.readings.proofs.Walks.{slot-end, walk-slot}
 use Rattle.readings.proofs.WalkValues.{all_of-append, all_of-until, joined-end, walk-holds}
-use Rattle.goblin_pe_import.specs.ImportRecords.{ImportDirectoryEntry, ImportedLibrary, NumberedLibrary, import_record, import_slots, lookup_offset}
+use Rattle.goblin_pe_import.specs.ImportRecords.{ImportDirectoryEntry, ImportedLibrary, NumberedLibrary, import_record, import_slots, is_last_record, lookup_offset}
 use Rattle.goblin_pe_sect.specs.Addresses.{MapOfAddresses, offset_of, reads_strictly, Addressing}
 use Rattle.goblin_pe_import.specs.ImportEntries.{EntryValue, LookupEntry, entry_slots}
 use Rattle.goblin_pe_import.specs.{added.ImportCursors.before_record, LookupReadings.kept_entry}
 use Rattle.goblin_pe_import.specs.ImportReadings.{at_index, first_record_offset, kept_library, library_of, numbered_data, numbered_libraries_at, read_if, read_past_front}
 use Rattle.goblin_pe_import.specs.Imports.{ImportValue, NumberedImport, at_library, import_at, import_of, imports_by, numbered_imports}
-use Rattle.goblin_pe_import.specs.added.ImportWalks.{imports_from_record, library_items, addresses_of, imports_next, library_name, record_index, IsCursorCause, IsImportsCause, IsWalkAt, cursor_of, imports_bytes, imports_left, imports_map, items_left, kept_import, no_imports, ImportCursor, Imports}
+use Rattle.goblin_pe_import.specs.added.ImportWalks.{imports_from_record, library_items, addresses_of, imports_next, library_name, record_index, IsCursorCause, IsImportsCause, IsWalkAt, cursor_of, imports_bytes, imports_left, imports_map, items_left, kept_import, ImportCursor, Imports}
 use Rattle.goblin_pe_import.specs.KeptEntries.{entries_from, KeptValue, kept_at}
 use Rattle.goblin_pe_import.proofs.{ImportBound.kept_entry-few, ListedImports.address-low}
 use Rattle.goblin_pe_import.proofs.added.ImportsWalk.{imports-once, in_two_if, listed}
@@ -409,17 +410,43 @@ module _ (m : MapOfAddresses) (format : Format EntryValue) (bytes : List ℕ) (r
       (λ (first : Option ℕ). (read_if (numbered_libraries_at false format m.addressing) first).value bytes)
       none
 
-  pub imports-none : reads_strictly m ≡ false
+  -- no descriptor lies behind the file
+  none-at : (by : MapOfAddresses) (over dll : List ℕ) (c : ImportCursor) → by ≡ m → over ≡ bytes
+      → c ≡ before_record (2 ^ 64 - 1) → reads_strictly m ≡ false → length bytes < 2 ^ 63
+      → items_left (reads_strictly by) format by.addressing over dll c ≡ []
+  unfolding entries_from imports_next imports_from_record
+  none-at by over dll c same is at permissive short =
+      let p = 2 ^ 64 - 1 in
+      let strict = reads_strictly m in
+      let items = λ (q : ℕ) (r : ImportDirectoryEntry). library_items strict format m.addressing bytes (record_index p q) r
+      in
+      let slot = ap (option_map (import_record Little)) (slice_at-past bytes p 20 (omega (arith, short)))
+      in
+      rw (same, is, at)
+      (ap until_refused
+      (walk-slot import_slots items bytes strict (lit≤ tt) p None slot
+      ∙ slot-end strict is_last_record (items p) (table_walk import_slots strict items bytes (p + 20)) None refl (ap (λ (needed : Bool). needed && true) permissive)))
+
+  pub imports-none : reads_strictly m ≡ false → length bytes < 2 ^ 63
       → first_record_offset (reads_strictly m) (offset_of m rva) ≡ None → {T : Type 0} (it : Imports T)
-      → cursor_of it ≡ no_imports
+      → IsWalkAt m bytes (before_record (2 ^ 64 - 1)) it
       → IsWalkOf (λ xs. xs)
       (mapped (flat_map (numbered_imports format.width))
       (numbered_data (reads_strictly m) format m.addressing rva))
       bytes (imports_left format it) (IsImportsCause format it)
-  unfolding entries_from imports_next numbered_data
-  imports-none permissive none it ended =
+  unfolding numbered_data
+  imports-none permissive short none it h =
       let read = none-by (reads_strictly m) (offset_of m rva) permissive none in
-      rw (ended) (record {
+      let left = none-at (imports_map it) (imports_bytes it) it.walk.dll.now (cursor_of it) h.over.1
+      h.over.0 h.at permissive short in
+      subst
+      (λ (left : List (Option NumberedImport)).
+      IsWalkOf (λ xs. xs)
+      (mapped (flat_map (numbered_imports format.width))
+      (numbered_data (reads_strictly m) format m.addressing rva))
+      bytes left (IsImportsCause format it))
+      (sym left)
+      (record {
         value = sym (ap (option_map (flat_map (numbered_imports format.width))) read);
-        cause = λ e fault. absurd fault.1;
+        cause = λ e fault. absurd (cc (fault.0, ap reads_strictly h.over.1, permissive));
       })

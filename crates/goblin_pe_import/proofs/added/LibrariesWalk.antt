@@ -6,6 +6,7 @@ use Rattle.readings.specs.Reads.{given}
 use Rattle.readings.specs.Walks.{GivesNext, from_slot, table_walk, until_refused}
 use Rattle.readings.proofs.Walks.{IsSlotCause, cause-slot, slot-end, slot-going, slot-missing, until_refused-later, walk-slot}
 use Rattle.goblin_pe_sect.specs.Addresses.{reads_strictly}
+use Rattle.goblin_pe_import.specs.declared.import.passed.Passed.{Passed}
 use Rattle.goblin_pe_import.specs.{ImportReadings.import_record_at, added.ImportWalks.no_imports}
 use Rattle.goblin_pe_import.specs.declared.added.library_walk.Libraries.{Libraries}
 use Rattle.goblin_pe_import.specs.declared.added.library_walk.WalkedLibrary.{WalkedLibrary}
@@ -92,9 +93,10 @@ module _ (s : Libraries) where
     -- a library comes, and then those after it
     pub given-left : (t : Libraries) (v : ImportDirectoryEntry) (x : WalkedLibrary)
         → reads import_slots bytes p ≡ Some v → is_last_record v ≡ false
-        → library_value x ≡ library p v → t ≡ record s { at = at_record s.at.first_record (p + 20) }
+        → library_value x ≡ library p v → (passed : Passed)
+        → t ≡ record s { at = at_record s.at.first_record (p + 20); passed = passed }
         → GivesNext library_value libraries_left IsLibrariesCause s (Some (Ok x)) t
-    given-left t v x r going value after =
+    given-left t v x r going value passed after =
         rw after (
           by_record (Some v) r ∙ slot-going strict is_last_record items next v going
               ∙ ap (λ (later : List (Option LibraryValue)). Some (library p v) ∷ later) once

@@ -4,10 +4,10 @@ use Rattle.std.proofs.lemmas.Bool.{cases_lt}
 use Rattle.goblin_base.specs.Tables.{Format, SlotFormat, ends_table, slot_at, stop}
 use Rattle.goblin_base.proofs.Below.{least-le}
 use Rattle.goblin_base.proofs.SlotTables.{ends, reach-stop, reads}
-use Rattle.readings.proofs.{Loops.AtRead, Walks.stop-first}
+use Rattle.readings.proofs.Loops.{AtRead}
 use Rattle.goblin_pe_import.specs.ImportEntries.{EntryValue, entry_slots}
 use Rattle.goblin_pe_import.specs.LookupReadings.{entry_number}
-use Rattle.goblin_pe_import.proofs.{LookupWalk.in_slot, SlotSteps.sum-first}
+use Rattle.goblin_pe_import.proofs.{LookupWalk.in_slot, SlotSteps.sum-first, SlotSteps.sum-here}
 use Rattle.goblin_pe_import.specs.TableSums.{amount_of, sum_below, sum_of_slots}
 use Rattle.goblin_pe_import.specs.Steps.{AreCounted, HasNotGrown, HasSteps, IsOut, slots_ahead, spent}
 use Rattle.goblin_pe_import.specs.added.StepsAhead.{AtSteps, HaveRunOut, later_ahead, record_steps, tested_ahead, pending_ahead, walk_ahead}
@@ -22,14 +22,6 @@ pub stop-few : {V : Type 0} (slots : SlotFormat V) (bytes : List ℕ) (o : ℕ)
     → stop slots bytes o ≤ length bytes
 unfolding stop
 stop-few slots bytes o = least-le (ends slots bytes o) (length bytes)
-
--- a table that ends at once amounts to nothing
-pub sum-here : {V : Type 0} (slots : SlotFormat V) (amount : V → ℕ) (bytes : List ℕ) (o : ℕ)
-    → 1 ≤ slots.entry.width → (end : Option V) → reads slots bytes o ≡ end
-    → ends_table slots.is_last end ≡ true → sum_of_slots slots amount bytes o ≡ 0
-unfolding sum_of_slots sum_below
-sum-here slots amount bytes o wide end r e =
-    ap (sum_below (λ i. amount_of amount (slot_at slots bytes o i))) (stop-first slots bytes o wide end r e)
 
 -- ---- an address table
 

@@ -1,19 +1,20 @@
 -- Where the imports of an image begin.
-use Rattle.std.specs.Prelude.{ℕ, Bool, List, Option, Some, None, IsSomeAnd, Result, Ok, Err}
+use Rattle.std.specs.Prelude.{ℕ, ◌-◌, ◌^◌, Bool, List, Option, Some, None, IsSomeAnd, Result, Ok, Err}
 use Rattle.goblin_base.specs.{declared.error.ErrorOf.ErrorOf, Reading.IsRefused, Reading.Reading}
 use Rattle.readings.specs.Reads.{mapped, or_else}
 use Rattle.goblin_pe_sect.specs.AddressReadings.{offset_at}
 use Rattle.goblin_pe_sect.specs.Addresses.{MapOfAddresses, Addressing}
 use Rattle.goblin_pe_import.specs.{ImportReadings.first_record_offset, added.Libraries.at_record}
-use Rattle.goblin_pe_import.specs.added.ImportWalks.{IsWalkAt, no_imports, ImportCursor, Imports}
+use Rattle.goblin_pe_import.specs.added.ImportWalks.{IsWalkAt, ImportCursor, Imports}
 
 -- the cursor before the first import descriptor of a directory, which lies at this offset
 abbrev pub before_record : ℕ → ImportCursor
 before_record p = at_record p p
 
--- the same if there is such a descriptor, else the end
+-- The same if there is such a descriptor. Else the directory is skipped as a whole: the cursor is
+-- behind any file, which so ends the directory.
 abbrev pub before_first : Option ℕ → ImportCursor
-before_first None = no_imports
+before_first None = before_record (2 ^ 64 - 1)
 before_first (Some p) = before_record p
 
 -- The cursor before the first import of a directory at an address. Permissive mode treats an

@@ -22,6 +22,9 @@ pub use Rattle.goblin_pe_import.specs.declared.added.imports.Imports.{Imports}
 pub use Rattle.goblin_pe_import.specs.declared.added.imports.Walk.{Walk}
 pub use Rattle.goblin_pe_import.specs.declared.added.imports.WalkedImport.{WalkedImport}
 use Rattle.goblin_pe_import.specs.KeptEntries.{KeptValue, entries_from, IsEntriesCause, slots_bound}
+use Rattle.goblin_pe_import.specs.Passed.{Count, HasRisen, Passed, as_skipped, count_of}
+use Rattle.goblin_pe_import.specs.Passed.{entries_ahead, table_counts}
+use Rattle.goblin_pe_import.specs.{Steps.UnlessErr, TableSums.amount_of}
 
 -- ---- the entries of a lookup table
 
@@ -71,6 +74,10 @@ no_imports = record {
   place = None;
   pending = None;
 }
+
+-- whether a descriptor leads to no library, because its address table cannot be read
+unfoldable pub leads_to_none : Format EntryValue → Addressing → List ℕ → ImportDirectoryEntry → Bool
+leads_to_none format addressing bytes r = is_none ((addresses_of format addressing r).value bytes)
 
 module _ (strict : Bool) (format : Format EntryValue) (addressing : Addressing)
     (bytes : List ℕ) where
@@ -224,7 +231,43 @@ GivesLibrary format s (Some (Ok x)) t =
 GivesLibrary format s (Some (Err e)) t =
     (later_left format s ≡ None ∷ []) × IsLaterLeftCause format s e
 
+-- ---- what a walk passes over: sums over the slots by which its imports are defined
+
+module _ (strict : Bool) (format : Format EntryValue) (addressing : Addressing)
+    (bytes : List ℕ) (k : Count) where
+  -- how much a descriptor counts: a library that is skipped, whose entries are not looked at, or
+  -- its lookup table
+  unfoldable pub record_counts : ImportDirectoryEntry → ℕ
+  record_counts r =
+      if is_skipped strict format addressing bytes r
+      then as_skipped k
+      else entries_ahead strict format addressing bytes k (lookup_offset addressing r)
+
+  -- how much a directory counts, from the next descriptor on
+  abbrev pub records_ahead : Option ℕ → ℕ
+  records_ahead next = amount_of (table_counts import_slots record_counts k bytes) next
+
+-- how much a walk passes over from a cursor to its end
+abbrev pub cursor_passes : MapOfAddresses → Format EntryValue → List ℕ → ImportCursor → Count → ℕ
+cursor_passes m format bytes c k =
+    entries_ahead (reads_strictly m) format m.addressing bytes k c.place
+    + records_ahead (reads_strictly m) format m.addressing bytes k c.next_record
+
+abbrev pub walk_passes : Format EntryValue → Walk → Count → ℕ
+walk_passes format w k = cursor_passes (map_of w.finder) format w.bytes.now w.at k
+
+-- A call counts what it passes over, unless it is refused.
+abbrev pub CountsPassed : {X : Type 0} → Format EntryValue → Walk → Option (Result X ErrorOf) → Walk
+    → Type 0
+CountsPassed format s result t =
+    UnlessErr result ((k : Count) → HasRisen (count_of k s.passed) (count_of k t.passed)
+    (walk_passes format s k) (walk_passes format t k))
+
 -- ---- the walk as callers see it
+
+-- what it has passed over
+abbrev pub passed_of : {T : Type 0} → Imports T → Passed
+passed_of it = it.walk.passed
 
 -- what is still to come
 abbrev pub imports_left : {T : Type 0} → Format EntryValue → Imports T
@@ -274,7 +317,7 @@ abbrev pub IsWalkFault : Walk → ErrorOf → Type 0
 IsWalkFault w e = (reads_strictly (map_of w.finder) ≡ true) × ¬ IsMemory e
 
 -- A call of `next` gives the next import, or such an error, or it has ended the walk. It keeps the
--- bytes and the map.
+-- bytes and the map, and counts what it passes over.
 abbrev pub GivesImport : {T : Type 0} → Format EntryValue → Imports T
     → Option (Result WalkedImport ErrorOf) → Imports T → Type 0
 GivesImport format s result t =
@@ -283,6 +326,7 @@ GivesImport format s result t =
     × IfSome result (λ r. IfErr r (IsWalkFault s.walk))
     × AreImportsOver (imports_bytes s) (imports_map s) t
     × MatchOption result (cursor_of t ≡ no_imports) (λ r. IfErr r (λ e. cursor_of t ≡ no_imports))
+    × CountsPassed format s.walk result t.walk
 
 -- the walk at another place of the library that it is in
 abbrev pub walk_at : Walk → ℕ → Walk

@@ -1,7 +1,7 @@
 -- The walk over the libraries of an import directory: what is still to come.
 use Rattle.std.specs.Prelude.{◌≡◌, ℕ, Bool, ◌&&◌, not, if◌then◌else◌, List, [], ◌∷◌, Option}
 use Rattle.std.specs.Prelude.{Some, None, unwrap_or, Result, Err, IfErr, IfOk, IfSome, MatchOption}
-use Rattle.std.specs.Prelude.{◌+◌, ◌==◌, IsSomeAnd}
+use Rattle.std.specs.Prelude.{◌+◌, IsSomeAnd}
 use Rattle.std.specs.{Option.ok_or, Result.result_map_both}
 use Rattle.goblin_base.specs.declared.error.ErrorOf.{ErrorOf}
 use Rattle.goblin_base.specs.{declared.error.ErrorOf.TheVariants.Malformed, Answers.IsMemory}
@@ -13,12 +13,15 @@ use Rattle.goblin_pe_sect.specs.Addresses.{Addressing, MapOfAddresses, map_of, r
 use Rattle.goblin_pe_import.specs.ImportEntries.{EntryValue, entries_32, entries_64}
 use Rattle.goblin_pe_import.specs.ImportReadings.{import_record_at}
 use Rattle.goblin_pe_import.specs.ImportRecords.{address_table_rva, import_slots, lookup_offset}
-use Rattle.goblin_pe_import.specs.added.ImportWalks.{no_imports, record_index, ImportCursor}
-use Rattle.goblin_pe_import.specs.added.LeftOut.{is_library_left_out}
+use Rattle.goblin_pe_import.specs.added.ImportWalks.{is_skipped, leads_to_none, no_imports}
+use Rattle.goblin_pe_import.specs.added.ImportWalks.{record_index}
+use Rattle.goblin_pe_import.specs.added.ImportWalks.{ImportCursor}
 use Rattle.goblin_pe_import.specs.ImportRecords.{ImportDirectoryEntry}
 use Rattle.goblin_pe_import.specs.declared.added.library_walk.Libraries.{Libraries}
 use Rattle.goblin_pe_import.specs.declared.added.library_walk.WalkedLibrary.{WalkedLibrary}
-use Rattle.goblin_pe_import.specs.KeptEntries.{slots_bound}
+use Rattle.goblin_pe_import.specs.{KeptEntries.slots_bound, Steps.UnlessErr, TableSums.amount_of}
+use Rattle.goblin_pe_import.specs.Passed.{Count, HasRisen, Passed, as_skipped, count_of}
+use Rattle.goblin_pe_import.specs.Passed.{table_counts}
 
 -- ---- a library
 
@@ -38,7 +41,8 @@ abbrev pub at_record : ℕ → ℕ → ImportCursor
 at_record first p = record no_imports { first_record = first; next_record = Some p }
 
 -- A library: the index and the offset of its import descriptor, and the descriptor itself; its
--- name; whether permissive mode leaves it out of the imports; and the cursor before these.
+-- name; whether permissive mode leaves it out of the imports, because its address table cannot be
+-- read; and the cursor before these.
 pub record LibraryValue : Type 0 where
   pub index : ℕ
   pub offset : ℕ
@@ -55,7 +59,7 @@ library_at format addressing bytes first p r = record {
   offset = p;
   entry = r;
   name = name_or_cause addressing bytes r.name_rva;
-  is_left_out = is_library_left_out (first == 0) format addressing bytes r;
+  is_left_out = leads_to_none format addressing bytes r;
   cursor = at_record first p;
 }
 
@@ -167,6 +171,32 @@ AreAtEnd result it =
     let c = libraries_cursor it in
     MatchOption result (c ≡ no_imports) (λ r. IfErr r (λ e. c ≡ no_imports))
 
+-- ---- what it counts
+
+abbrev pub libraries_passed : Libraries → Passed
+libraries_passed it = it.passed
+
+module _ (m : MapOfAddresses) (format : Format EntryValue) (bytes : List ℕ) (k : Count) where
+  -- how much a descriptor counts: its library, if a walk over imports skips it
+  abbrev pub row_counts : ImportDirectoryEntry → ℕ
+  row_counts r =
+      if is_skipped (reads_strictly m) format m.addressing bytes r then as_skipped k else 0
+
+  -- how much the descriptors count that come next at a cursor
+  abbrev pub rows_ahead : ImportCursor → ℕ
+  rows_ahead c = amount_of (table_counts import_slots row_counts k bytes) c.next_record
+
+abbrev pub libraries_ahead : Libraries → Count → ℕ
+libraries_ahead it k =
+    rows_ahead (libraries_map it) (libraries_format it) (libraries_bytes it) k
+    (libraries_cursor it)
+
+-- A call counts what is no longer ahead, unless it is refused.
+abbrev pub CountsRowsOf : {X : Type 0} → Libraries → Option (Result X ErrorOf) → Libraries → Type 0
+CountsRowsOf s result t =
+    UnlessErr result ((k : Count) → HasRisen (count_of k (libraries_passed s))
+    (count_of k (libraries_passed t)) (libraries_ahead s k) (libraries_ahead t k))
+
 -- A call of `next` gives the next library, and the walk is then after it. Or it has ended the walk.
 -- Or it is refused in strict mode, because the directory reaches the end of the file. It keeps the
 -- bytes and the map.
@@ -177,3 +207,4 @@ GivesNextLibrary s result t =
     × AreLibrariesOver (libraries_map s) (libraries_format s) (libraries_bytes s) t
     × IfSome result (λ r. IfOk r (λ x. libraries_cursor t ≡ after_library (library_value x)))
     × AreAtEnd result t
+    × CountsRowsOf s result t

@@ -11,6 +11,7 @@ use Rattle.goblin_pe_import.specs.added.ImportWalks.{IsImportsCause, IsWalkFault
 use Rattle.goblin_pe_import.specs.added.ImportWalks.{cursor_of, imports_bytes, imports_bound}
 use Rattle.goblin_pe_import.specs.added.ImportWalks.{imports_left, imports_map, ImportCursor}
 use Rattle.goblin_pe_import.specs.added.ImportWalks.{Imports, Walk, WalkedImport}
+use Rattle.goblin_pe_import.specs.added.ImportWalks.{CountsPassed}
 use Rattle.goblin_pe_import.specs.TableSums.{amount_of, sum_of_slots}
 use Rattle.goblin_pe_import.specs.ImportRecords.{ImportDirectoryEntry}
 use Rattle.goblin_pe_import.specs.Steps.{slots_ahead, HasNotGrown, AreCounted, GivesWithin}
@@ -97,6 +98,7 @@ pub record GivesImportWithin {T : Type 0} (format : Format EntryValue) (s : Impo
   pub named : HasName s → HasName t
   pub fault : IfSome result (λ r. IfErr r (IsWalkFault s.walk))
   pub over : AreImportsOver (imports_bytes s) (imports_map s) t
+  pub passed : CountsPassed format s.walk result t.walk
   pub spent : HasNotGrown old new
   pub looked : LooksAt (length (imports_bytes s)) result old new (imports_ahead format s)
       (imports_ahead format t)

@@ -6,6 +6,7 @@ ghost use Rattle.goblin_pe_sect.specs.Addresses.{map_of, reads_strictly};
 ghost use Rattle.goblin_pe_import.specs.ImportLookup.{hint_name_model, kept_model};
 ghost use Rattle.goblin_pe_import.specs.KeptEntries.{IsEntriesCause, entries_from, kept_value};
 ghost use Rattle.goblin_pe_import.specs.LookupReadings as reading;
+ghost use Rattle.goblin_pe_import.specs.Passed.{Count, entries_ahead};
 ghost use Rattle.goblin_pe_import.specs.Steps.{slots_ahead};
 
 use crate::import::bitfield::Bitfield;
@@ -85,6 +86,10 @@ pub(super) fn ascii_kept<'a, T: Bitfield<'a>>(
     ensures short { IfSome result (λ kept. kept.place + T.format.width < 2 ^ 63) }
     ensures counted { IfSome result (λ kept. slots_ahead T.format bytes.now (Some place)
         ≡ suc (slots_ahead T.format bytes.now (Some (place + T.format.width)))) }
+    ensures passed { let m = map_of finder.now in
+        let ahead = entries_ahead (reads_strictly m) T.format m.addressing bytes.now in
+        IfSome result (λ _. (k : Count)
+        → ahead k (Some place) ≡ ahead k (Some (place + T.format.width))) }
 {
     let Some(entry) = next_entry::<T>(bytes, place) else {
         return None;

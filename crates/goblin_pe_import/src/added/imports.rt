@@ -23,6 +23,9 @@ ghost use Rattle.goblin_pe_import.specs.added.ImportWalks.{ascii_at, ascii_walk}
 ghost use Rattle.goblin_pe_import.specs.added.ImportWalks.{record_index, pending_table, walk_bound};
 ghost use Rattle.goblin_pe_import.specs.added.ImportWalks.{walk_left, walked_value};
 ghost use Rattle.goblin_pe_import.specs.KeptEntries.{kept_value, slots_bound};
+ghost use Rattle.goblin_pe_import.specs.Passed.{Count, HasRisen, count_of, nothing_passed};
+ghost use Rattle.goblin_pe_import.specs.added.ImportWalks.{CountsPassed, passed_of, records_ahead};
+ghost use Rattle.goblin_pe_import.specs.added.ImportWalks.{walk_passes};
 ghost use Rattle.goblin_pe_import.specs.added.StepsAhead.{EndsWithin, GivesImportWithin};
 ghost use Rattle.goblin_pe_import.specs.added.StepsAhead.{HaveRunOut, LooksAt, imports_ahead};
 ghost use Rattle.goblin_pe_import.specs.added.StepsAhead.{later_ahead, tested_ahead, pending_ahead};
@@ -38,6 +41,7 @@ use crate::import::library::{
     address_table_rva, first_record_offset, library_name, lookup_offset, name_or_empty,
 };
 use crate::import::lookup_table::SyntheticImportLookupTableEntry;
+use crate::import::passed::Passed;
 use crate::import::slots::{may_end, next_record};
 use crate::import::steps::{are_out, spend};
 use goblin_base::{Cause, Error, ResultOf};
@@ -116,8 +120,9 @@ impl ImportCursor {
         ImportCursor::at_record(offset, offset)
     }
 
-    /// The cursor before the first import of `directory`. In permissive mode it is the cursor at
-    /// the end if the directory's address has no file offset, or leads to file offset 0.
+    /// The cursor before the first import of `directory`. Permissive mode skips the directory as a
+    /// whole if its address has no file offset, or leads to file offset 0. The cursor then lies
+    /// behind the file: nothing comes there, and a walk counts the directory as skipped.
     ///
     /// # Errors
     /// In strict mode [`Error::Malformed`] with [`Cause::Unmapped`] if the directory's address has
@@ -139,18 +144,19 @@ impl ImportCursor {
         }
         match first_record_offset(offset, strictly) {
             Some(offset) => Ok(ImportCursor::before_record(offset)),
-            None => Ok(ImportCursor::end()),
+            None => Ok(ImportCursor::before_record(usize::MAX)),
         }
     }
 }
 
-// A walk: where it is, and the name of the library there.
+// A walk: where it is, the name of the library there, and what it has passed over.
 #[derive(Drop)]
 struct Walk<'a, 'm> {
     bytes: &'a [u8],
     finder: Finder<'m>,
     dll: &'a str,
     at: ImportCursor,
+    passed: Passed,
 }
 
 // Tests the address table that is yet to be tested, if there is one, and returns how many slots it
@@ -256,6 +262,7 @@ impl<'a, 'm> Walk<'a, 'm> {
         ensures bytes { self.new.bytes.now ≡ self.old.bytes.now }
         ensures finder { self.new.finder ≡ self.old.finder }
         ensures at { self.new.at ≡ no_imports }
+        ensures passed { self.new.passed ≡ self.old.passed }
     {
         self.at = ImportCursor::end();
     }
@@ -284,6 +291,11 @@ impl<'a, 'm> Walk<'a, 'm> {
             later_ahead (reads_strictly m) T.format m.addressing bytes c.pending c.next_record in
             MatchOption result ((last.new ≡ before) × (last.new ≤ length bytes)) (λ r. IfOk r (λ n.
             (n + walk_ahead T.format self.new ≡ before) × (n ≤ length bytes + 1))) }
+        ensures passed { let m = map_of self.old.finder in
+            (k : Count) → let before = records_ahead (reads_strictly m) T.format m.addressing
+            self.old.bytes.now k self.old.at.next_record in
+            let risen = HasRisen (count_of k self.old.passed) (count_of k self.new.passed) before in
+            MatchOption result (risen 0) (λ r. IfOk r (λ _. risen (walk_passes T.format self.new k))) }
     {
         let tested = match test_pending::<T>(self.bytes, self.at.pending, &mut self.finder) {
             Ok(tested) => tested,
@@ -296,6 +308,7 @@ impl<'a, 'm> Walk<'a, 'm> {
         let size = SIZEOF_IMPORT_DIRECTORY_ENTRY;
         let Some(record) = next_record(self.bytes, offset) else {
             if may_end(self.bytes, offset, size, self.finder.reads_strictly()) {
+                self.passed.add_end(self.bytes, offset, size);
                 *last = tested;
                 return None;
             }
@@ -305,6 +318,7 @@ impl<'a, 'm> Walk<'a, 'm> {
         let steps = tested + looked + 1;
         let next_record = Some(offset + size);
         if is_out {
+            self.passed.add_library();
             self.at.next_record = next_record;
             self.at.place = None;
             self.at.pending = None;
@@ -355,6 +369,7 @@ impl<'a, 'm> Walk<'a, 'm> {
         ensures bytes { self.new.bytes.now ≡ self.old.bytes.now }
         ensures finder { self.new.finder ≡ self.old.finder }
         ensures fewer { IfSome result (λ r. walk_bound self.new < walk_bound self.old) }
+        ensures passed { CountsPassed T.format self.old result self.new }
         ensures spent { HasNotGrown steps.old steps.new }
         ensures looked { LooksAt (length self.old.bytes.now) result steps.old steps.new
             (walk_ahead T.format self.old) (walk_ahead T.format self.new) }
@@ -365,7 +380,8 @@ impl<'a, 'm> Walk<'a, 'm> {
         'libraries: loop {
             let (bytes, finder) = (self.bytes, &mut self.finder);
             let offset = self.at.table_offset;
-            match next_kept_within::<T>(bytes, offset, &mut self.at.place, finder, steps) {
+            let (place, passed) = (&mut self.at.place, &mut self.passed);
+            match next_kept_within::<T>(bytes, offset, place, finder, steps, passed) {
                 Some(Ok(kept)) => return Some(Ok(import_of::<T>(kept, self.dll, &self.at))),
                 Some(Err(error)) => {
                     self.end();
@@ -427,6 +443,7 @@ impl<'a, 'm, 'e, T: Bitfield<'a>> Imports<'a, 'm, 'e, T> {
         ensures begins { let m = map_of address_map.now in
             let rva = directory.virtual_address in
             BeginsAt m bytes.now (first_import (reads_strictly m) m.addressing rva) result }
+        ensures fresh { IfOk result (λ walk. passed_of walk ≡ nothing_passed) }
         ensures permissive { reads_strictly (map_of address_map.now) ≡ false → IsOk result }
     {
         let rva = directory.virtual_address;
@@ -436,7 +453,8 @@ impl<'a, 'm, 'e, T: Bitfield<'a>> Imports<'a, 'm, 'e, T> {
             if strictly {
                 return Err(Error::Malformed(Cause::Unmapped(rva as usize)));
             }
-            return Ok(Imports::at_cursor(bytes, ImportCursor::end(), finder));
+            let behind = ImportCursor::before_record(usize::MAX);
+            return Ok(Imports::at_cursor(bytes, behind, finder));
         };
         Ok(Imports::at(bytes, offset, finder))
     }
@@ -450,6 +468,7 @@ impl<'a, 'm, 'e, T: Bitfield<'a>> Imports<'a, 'm, 'e, T> {
             (mapped (flat_map (numbered_imports T.format.width)) libraries) bytes.now
             (imports_left T.format result) (IsImportsCause T.format result) }
         ensures begins { IsWalkAt (map_of finder.entry) bytes.now (before_record offset) result }
+        ensures fresh { passed_of result ≡ nothing_passed }
         ensures counted { let m = map_of finder.entry in
             let both = indexed_at (reads_strictly m) T.format m.addressing offset in
             IfSome (both.value bytes.now) (λ x. length x.1 ≡ length x.0) }
@@ -471,6 +490,7 @@ impl<'a, 'm, 'e, T: Bitfield<'a>> Imports<'a, 'm, 'e, T> {
             ≡ cursor_left (map_of finder.entry) T.format bytes.now at }
         ensures cause { (e : ErrorOf) → IsImportsCause T.format result e
             → IsCursorCause (map_of finder.entry) T.format bytes.now at e }
+        ensures fresh { passed_of result ≡ nothing_passed }
         ensures wide { 1 ≤ T.format.width }
     {
         let dll = "";
@@ -479,6 +499,7 @@ impl<'a, 'm, 'e, T: Bitfield<'a>> Imports<'a, 'm, 'e, T> {
             finder,
             dll,
             at,
+            passed: Passed::nothing(),
         };
         if at.place.is_some() {
             walk.dll = name_or_empty(bytes, at.name_rva, &mut walk.finder);
@@ -496,6 +517,13 @@ impl<'a, 'm, 'e, T: Bitfield<'a>> Imports<'a, 'm, 'e, T> {
         ensures is { result ≡ cursor_of self.now }
     {
         self.walk.at
+    }
+
+    /// What the walk has passed over since it was made. After an error, what it says is not known.
+    pub fn passed(&self) -> Passed
+        ensures { result ≡ passed_of self.now }
+    {
+        self.walk.passed
     }
 
     /// A faster walk over the next imports, as long as they are by ordinal or by an ASCII name.
@@ -605,6 +633,9 @@ impl<'a, 'm, 'e, T: Bitfield<'a>> AsciiImports<'a, 'm, 'e, T> {
         ensures gives { GivesAscii T.format self.old result self.new }
         ensures counted { IfSome result (λ _. imports_ahead T.format (ascii_at self.old)
             ≡ suc (imports_ahead T.format (ascii_at self.new))) }
+        ensures passes { IfSome result (λ _. (k : Count)
+            → walk_passes T.format (ascii_at self.old).walk k
+            ≡ walk_passes T.format (ascii_at self.new).walk k) }
     {
         let walk = &self.imports.walk;
         let offset = walk.at.table_offset;

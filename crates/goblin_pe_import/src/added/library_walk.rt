@@ -13,12 +13,14 @@ ghost use Rattle.goblin_pe_import.specs.added.Libraries.{cursor_libraries, entri
 ghost use Rattle.goblin_pe_import.specs.added.Libraries.{libraries_left, libraries_bound};
 ghost use Rattle.goblin_pe_import.specs.added.Libraries.{libraries_bytes, libraries_cursor};
 ghost use Rattle.goblin_pe_import.specs.added.Libraries.{libraries_format, libraries_map};
+ghost use Rattle.goblin_pe_import.specs.{Passed.nothing_passed, added.Libraries.libraries_passed};
 ghost use Rattle.goblin_pe_import.specs.added.Libraries.{library_at, library_value};
 
 use crate::added::imports::{ImportCursor, record_index, slots_bound};
 use crate::added::tested::leads_to_none;
 use crate::import::directory_entry::{ImportDirectoryEntry, SIZEOF_IMPORT_DIRECTORY_ENTRY};
 use crate::import::library::{address_table_rva, lookup_offset};
+use crate::import::passed::Passed;
 use crate::import::slots::{may_end, next_record};
 use goblin_base::{Cause, Error, Result, pread_str_within};
 use goblin_pe_sect::address_map::Finder;
@@ -41,9 +43,8 @@ pub struct WalkedLibrary<'a> {
     /// [`Error::Malformed`] with [`Cause::Unmapped`] if the address of the name has no file offset,
     /// and with [`Cause::NameRead`] if there is no text.
     pub name: Result<&'a str>,
-    /// Whether permissive mode leaves the library out of the imports: its address table cannot be
-    /// read, or the directory lies at file offset 0. Strict mode yields the imports of the library,
-    /// and then refuses it if its address table cannot be read.
+    /// Whether permissive mode leaves the library out of the imports, because its address table
+    /// cannot be read. Strict mode yields the imports of the library, and then refuses it.
     pub is_left_out: bool,
     /// The cursor before the imports of the library.
     pub cursor: ImportCursor,
@@ -117,7 +118,8 @@ impl WalkedLibrary<'_> {
 /// The walk also yields the libraries whose address table cannot be read, which permissive mode
 /// leaves out of the imports; their [`is_left_out`](WalkedLibrary::is_left_out) is true. In strict
 /// mode, if the directory reaches the end of the file, the walk ends with one error. In permissive
-/// mode it yields no error.
+/// mode it yields no error, and counts these libraries and that end. What it counts and what walks
+/// inside of its libraries count is together what one walk over the imports counts.
 #[derive(Drop)]
 pub struct Libraries<'a, 'm> {
     bytes: &'a [u8],
@@ -125,6 +127,7 @@ pub struct Libraries<'a, 'm> {
     // Whether the tables have entries of four bytes, not of eight.
     is_narrow: bool,
     at: ImportCursor,
+    passed: Passed,
 }
 
 impl<'a, 'm> Libraries<'a, 'm> {
@@ -138,13 +141,15 @@ impl<'a, 'm> Libraries<'a, 'm> {
         is_narrow: bool,
         finder: Finder<'m>,
     ) -> Libraries<'a, 'm>
-        ensures { AreLibrariesAt (map_of finder.entry) (entries_by is_narrow) bytes.now at result }
+        ensures at { AreLibrariesAt (map_of finder.entry) (entries_by is_narrow) bytes.now at result }
+        ensures fresh { libraries_passed result ≡ nothing_passed }
     {
         Libraries {
             bytes,
             finder,
             is_narrow,
             at,
+            passed: Passed::nothing(),
         }
     }
 
@@ -159,6 +164,14 @@ impl<'a, 'm> Libraries<'a, 'm> {
             (libraries_bytes self.now) result }
     {
         self.at
+    }
+
+    /// What the walk has skipped since it was made: the libraries that permissive mode leaves out,
+    /// and the end of a directory that the file cuts short. After an error it is not known.
+    pub fn passed(&self) -> Passed
+        ensures { result ≡ libraries_passed self.now }
+    {
+        self.passed
     }
 
     // The library of the import descriptor at an offset.
@@ -181,7 +194,7 @@ impl<'a, 'm> Libraries<'a, 'm> {
             index: record_index(first, offset),
             offset,
             name: name_or_cause(self.bytes, entry.name_rva, &mut self.finder),
-            is_left_out: is_none || first == 0,
+            is_left_out: is_none,
             cursor: ImportCursor::at_record(first, offset),
         }
     }
@@ -203,11 +216,14 @@ impl<'a, 'm> Iterator for Libraries<'a, 'm> {
             self.at = ImportCursor::end();
             let size = SIZEOF_IMPORT_DIRECTORY_ENTRY;
             if may_end(self.bytes, offset, size, self.finder.reads_strictly()) {
+                self.passed.add_end(self.bytes, offset, size);
                 return None;
             }
             return Some(Err(Error::Malformed(Cause::ImportRecordEnd(offset))));
         };
         let library = self.library_at(offset, record);
+        let strictly = self.finder.reads_strictly();
+        self.passed.add_row(strictly, library.is_left_out);
         let next = offset + SIZEOF_IMPORT_DIRECTORY_ENTRY;
         self.at = ImportCursor::at_record(self.at.first_record, next);
         Some(Ok(library))

@@ -6,8 +6,7 @@ ghost use Rattle.readings.specs.Reads.{mapped};
 ghost use Rattle.goblin_pe_sect.specs.Addresses.{map_of};
 ghost use Rattle.goblin_pe_import.specs.ImportRecords.{address_table_rva};
 ghost use Rattle.goblin_pe_import.specs.{ImportEntries.entry_slots, LookupReadings.address_table};
-ghost use Rattle.goblin_pe_import.specs.added.ImportWalks.{addresses_of};
-ghost use Rattle.goblin_pe_import.specs.added.LeftOut.{leads_to_none};
+ghost use Rattle.goblin_pe_import.specs.added.ImportWalks.{addresses_of, leads_to_none};
 ghost use Rattle.goblin_pe_import.specs.added.StepsAhead.{slots_at_address};
 
 use crate::import::address_table_rva;
@@ -48,7 +47,7 @@ pub(super) fn test_numbers<'a, 'e, T: Bitfield<'a>>(
 
 // Whether an import descriptor leads to no library, because its address table cannot be read, and
 // how many numbers of that table are looked at. They are not kept.
-#[tactic(auto, using(crate::proofs::added::LeftOutLibraries::library_left_out))]
+#[tactic(auto, unfolding(crate::specs::added::ImportWalks::leads_to_none))]
 pub(super) fn leads_to_none<'a, T: Bitfield<'a>>(
     bytes: &'a [u8],
     entry: &ImportDirectoryEntry,

@@ -5,12 +5,14 @@ ghost use Rattle.std.specs.Prelude.{None, Ok, Some, length, true};
 ghost use Rattle.goblin_pe_sect.specs.Addresses.{map_of, reads_strictly};
 ghost use Rattle.goblin_pe_import.specs.KeptEntries.{IsEntriesCause, entries_from, kept_value};
 ghost use Rattle.goblin_pe_import.specs.KeptEntries.{place_after, slots_bound};
+ghost use Rattle.goblin_pe_import.specs.Passed.{Count, HasRisen, count_of, entries_ahead};
 ghost use Rattle.goblin_pe_import.specs.Steps.{AreCounted, GivesWithin, HasNotGrown};
 ghost use Rattle.goblin_pe_import.specs.Steps.{HasSteps, IsOut, UnlessErr, slots_ahead};
 ghost use Rattle.readings.specs.Walks.{GivesNext};
 
 use crate::import::bitfield::Bitfield;
 use crate::import::lookup_table::SyntheticImportLookupTableEntry;
+use crate::import::passed::Passed;
 use crate::import::slots::{may_end, next_entry};
 use crate::import::steps::{are_out, spend};
 use goblin_base::{Cause, Error, ResultOf};
@@ -51,11 +53,19 @@ pub(crate) fn next_kept<'a, 'e, T: Bitfield<'a>>(
     ensures same { finder.new ≡ finder.old }
 {
     let mut place = place;
-    next_kept_within::<T>(bytes, offset, &mut place, finder, &mut None)
+    next_kept_within::<T>(
+        bytes,
+        offset,
+        &mut place,
+        finder,
+        &mut None,
+        &mut Passed::nothing(),
+    )
 }
 
-// The same within a budget of steps: each step looks at one slot. `place` moves on. `None`
-// means the end if no place is left, or else that the budget has run out.
+// The same within a budget of steps: each step looks at one slot. `place` moves on, and `passed`
+// counts the entries that it moves past and of which nothing is kept. `None` means the end if no
+// place is left, or else that the budget has run out.
 #[inline(always)]
 #[tactic(auto, using(crate::proofs::SlotSteps::grown_none, crate::proofs::SlotSteps::grown_spent))]
 pub(crate) fn next_kept_within<'a, 'e, T: Bitfield<'a>>(
@@ -64,6 +74,7 @@ pub(crate) fn next_kept_within<'a, 'e, T: Bitfield<'a>>(
     place: &mut Option<usize>,
     finder: &mut Finder<'_>,
     steps: &mut Option<usize>,
+    passed: &mut Passed,
 ) -> Option<ResultOf<'e, KeptEntry<'a>>>
     ensures steps { let m = map_of finder.old in
         GivesWithin kept_value
@@ -74,6 +85,10 @@ pub(crate) fn next_kept_within<'a, 'e, T: Bitfield<'a>>(
         let before = slots_ahead format bytes.now place.old in
         let after = slots_ahead format bytes.now place.new in
         UnlessErr result (AreCounted steps.old steps.new before after) }
+    ensures passed { let m = map_of finder.old in
+        let ahead = entries_ahead (reads_strictly m) T.format m.addressing bytes.now in
+        UnlessErr result ((k : Count) → HasRisen (count_of k passed.old) (count_of k passed.new)
+        (ahead k place.old) (ahead k place.new)) }
     ensures spent { HasNotGrown steps.old steps.new }
     ensures given { IfSome result (λ r. IfOk r (λ _. HasSteps steps.old)) }
     ensures ended { result ≡ None → (place.new ≡ None) ⊎ IsOut steps.new }
@@ -103,6 +118,7 @@ pub(crate) fn next_kept_within<'a, 'e, T: Bitfield<'a>>(
         let Some(entry) = next_entry::<T>(bytes, at) else {
             *place = None;
             if may_end(bytes, at, size, finder.reads_strictly()) {
+                passed.add_end(bytes, at, size);
                 return None;
             }
             return Some(Err(Error::Malformed(Cause::LookupEnd(at))));
@@ -118,7 +134,10 @@ pub(crate) fn next_kept_within<'a, 'e, T: Bitfield<'a>>(
                     entry,
                 }));
             }
-            Ok(None) => at += size,
+            Ok(None) => {
+                passed.add_entry::<T>(&entry, finder);
+                at += size;
+            }
             Err(error) => {
                 *place = None;
                 return Some(Err(error));

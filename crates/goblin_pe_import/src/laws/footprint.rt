@@ -205,9 +205,9 @@ fn add_libraries<'a, 'e, T: Bitfield<'a>>(
 /// which parts of the file it has.
 ///
 /// No range is empty or runs past the end of the file. They come in the order in which the import
-/// data is read, and may overlap. A range takes 16 bytes. There are about as many as
-/// [`ImportData::parse`](crate::import::ImportData::parse) makes entries: a table that several
-/// libraries share is read, and its ranges are listed, for each of them.
+/// data is read, and may overlap. There are at most two for each entry that imports by name, three
+/// for each library, and one for the directory. A table that several libraries share is listed for
+/// each of them. A range takes 16 bytes, and up to 48 while the list grows.
 ///
 /// # Errors
 /// [`Error::Memory`](goblin_base::Error::Memory) only.

@@ -24,9 +24,9 @@ pub returns-in_default : goal.returns-in_default
 returns-in_default c =
     elim c.else-has_rest.branch [
       | else-has_rest-via-then-has_rest+else-count-eq0 w ↦
-          rw w.if-has_rest.true (entry-rest _ _ c.records.invariant.made (sym c.is_rest-has_rest.ensures ∙ w.if-has_rest.true) w.if-count-eq0.false)
+          rw (c.batch_of.ensures, w.if-has_rest.true) (entry-rest _ _ c.records.invariant.made (sym c.is_rest-has_rest.ensures ∙ w.if-has_rest.true) w.if-count-eq0.false)
       | else-has_rest-via-else-has_rest w ↦
-          rw w.if-has_rest.false (entry-end _ _ c.records.invariant.made (sym c.in_default.ensures) (sym c.is_rest-has_rest.ensures ∙ w.if-has_rest.false)
+          rw (c.batch_of.ensures, w.if-has_rest.false) (entry-end _ _ c.records.invariant.made (sym c.in_default.ensures) (sym c.is_rest-has_rest.ensures ∙ w.if-has_rest.false)
           (omega (arith, c.records-test.true, c.records.auto.records)))
     ]
 

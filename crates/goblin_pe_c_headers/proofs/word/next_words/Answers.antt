@@ -12,7 +12,7 @@ overflow_mul-cursor c =
     let words = c.words_at-words.result.now in
     let count = length-records_in 2 (λ bytes. word_for_c page (word_record Little bytes)) words in
     let short = c.words_at-words.ensures.short in
-    let few = given-few (words_for_c page words) _ _ _ _ (c.fill_onward-batch.ensures (words_for_c page words) (omega (arith, count, short)) (search rules)) in
+    let few = given-few (words_for_c page words) _ _ _ c.fill_onward-batch.result (c.fill_onward-batch.ensures (words_for_c page words) (omega (arith, count, short)) (search rules)) in
     omega (arith, few, count, short)
 
 pub overflow_add-cursor : goal.overflow_add-cursor
@@ -22,7 +22,7 @@ overflow_add-cursor c =
     let count = length-records_in 2 (λ bytes. word_for_c page (word_record Little bytes)) words in
     let short = c.words_at-words.ensures.short in
     let room = c.words_at-words.ensures.room in
-    let few = given-few (words_for_c page words) _ _ _ _ (c.fill_onward-batch.ensures (words_for_c page words) (omega (arith, count, short)) (search rules)) in
+    let few = given-few (words_for_c page words) _ _ _ c.fill_onward-batch.result (c.fill_onward-batch.ensures (words_for_c page words) (omega (arith, count, short)) (search rules)) in
     omega (arith, few, count, short, room)
 
 pub returns : goal.returns

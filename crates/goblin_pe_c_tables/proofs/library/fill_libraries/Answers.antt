@@ -1,4 +1,4 @@
-use Rattle.std.proofs.Common.{◌∙◌, Result, Some, ap, subst}
+use Rattle.std.proofs.Common.{◌∙◌, Result, Some, ap, subst, sym}
 use Rattle.goblin_base.specs.declared.error.ErrorOf.{ErrorOf}
 use Rattle.goblin_pe_import.specs.declared.added.library_walk.WalkedLibrary.{WalkedLibrary}
 use Rattle.goblin_pe.specs.added.Layouts.{layout_map, layout_places}
@@ -11,26 +11,26 @@ use Rattle.goblin_pe_c_tables.proofs.library.fill_libraries.Goals as goal
 pub libraries-init : goal.libraries-init
 libraries-init c =
     let l = c.args.layout.now in
-    (libraries-start (layout_map l) (layout_places l) l.bytes.now c.args.libraries c.args.position.now c.args.records.now c.requires.left c.requires.over, c.finder-finder.ensures)
+    (libraries-start (layout_map l) (layout_places l) l.bytes.now c.args.libraries c.args.position.now c.args.records.now c.requires.left c.requires.over c.requires.ahead c.passed-passed.result (sym c.passed-passed.ensures) (c.passed-passed.ensures ∙ c.requires.fresh), c.finder-finder.ensures)
 
 pub libraries-preserved : goal.libraries-preserved
 libraries-preserved c =
     let is = subst (λ (r : Result WalkedLibrary ErrorOf). GivesNextLibrary c.libraries.libraries (Some r) c.next.new.self) c.in-Some-Ok.field-0-is c.in-Some-Ok.ensures.steps in
     let map_is = c.libraries.invariant.1 in
     let same = c.library_record.ensures.value ∙ ap (λ (m : MapOfAddresses). library_for_c m (library_value c.in-Some-Ok.library)) map_is in (
-      libraries-more c.libraries.invariant.0 c.in-Some-Ok.library c.next.new.self c.cursor_for_c.result c.library_record.result is (c.cursor_for_c.ensures ∙ ap cursor_for_c c.cursor.ensures.is) c.libraries-test.true same,
+      libraries-more c.libraries.invariant.0 c.in-Some-Ok.library c.next.new.self c.cursor_for_c.result c.library_record.result is (c.cursor_for_c.ensures ∙ ap cursor_for_c c.cursor.ensures.is) c.libraries-test.true same c.passed-passed-in-Some-Ok.result c.passed-passed-in-Some-Ok.ensures,
       ap map_of c.library_record.ensures.same ∙ map_is,
     )
 
 pub returns-in-Some-Err-2-clause-filled : goal.returns-in-Some-Err-2-clause-filled
 returns-in-Some-Err-2-clause-filled c =
     let is = subst (λ (r : Result WalkedLibrary ErrorOf). GivesNextLibrary c.libraries.libraries (Some r) c.next.new.self) c.in-Some-Err.field-0-is c.in-Some-Err.ensures.steps in
-    rw c.goes_on.ensures (libraries-refused c.libraries.invariant.0 c.in-Some-Err.error c.next.new.self is c.if-count-eq0.false)
+    rw c.passed_batch.ensures (libraries-refused c.libraries.invariant.0 c.in-Some-Err.error c.next.new.self is c.if-count-eq0.false)
 
 pub returns-in-None-clause-filled : goal.returns-in-None-clause-filled
 returns-in-None-clause-filled c =
-    rw c.ended.ensures (libraries-end c.libraries.invariant.0 c.next.new.self c.cursor_for_c-in-None.result c.in-None.ensures.steps (c.cursor_for_c-in-None.ensures ∙ ap cursor_for_c c.end.ensures) c.libraries-test.true)
+    rw (c.passed_batch-in-None.ensures, c.passed.ensures) (libraries-end c.libraries.invariant.0 c.next.new.self c.cursor_for_c-in-None.result c.in-None.ensures.steps (c.cursor_for_c-in-None.ensures ∙ ap cursor_for_c c.end.ensures) c.libraries-test.true)
 
 pub returns-clause-filled : goal.returns-clause-filled
 returns-clause-filled c =
-    rw c.goes_on-2.ensures (libraries-full c.libraries.invariant.0 c.libraries-test.false)
+    rw c.passed_batch-2.ensures (libraries-full c.libraries.invariant.0 c.libraries-test.false)

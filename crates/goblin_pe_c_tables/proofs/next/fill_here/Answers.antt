@@ -1,4 +1,6 @@
-use Rattle.std.proofs.Common.{◌∙◌, ◌+◌, arith, refl, set}
+use Rattle.std.proofs.Common.{◌∙◌, ◌+◌, ap, arith, refl, set}
+use Rattle.goblin_pe_import.specs.declared.added.imports.Imports.{Imports}
+use Rattle.goblin_pe_import.specs.added.ImportWalks.{passed_of}
 use Rattle.std.proofs.lemmas.List.{length-set}
 use Rattle.goblin_pe_c_tables.specs.Batches.{Fills}
 use Rattle.goblin_pe_c_tables.proofs.ImportBatches.{filled-more, filled-none}
@@ -21,7 +23,7 @@ pub ascii-preserved : goal.ascii-preserved
 ascii-preserved g c =
     let further = c.ascii.invariant.1 in
     let gives = c.in-Some-next_import.ensures in (
-      here-more g.T.Bitfield.format c.args.imports.now _ _ _ (Fills c.args.records.now (set c.ascii.records c.ascii.count c.import_record.result) c.args.first (c.ascii.count + 1)) c.ascii.invariant.0 c.in-Some-next_import.import gives.gives.0 gives.counted (filled-more c.args.records.now c.ascii.records c.args.first c.ascii.count c.in-Some-next_import.import c.import_record.result (omega (arith, c.ascii-test.true, c.ascii.invariant.3, c.requires)) c.import_record.ensures),
+      here-more g.T.Bitfield.format c.args.imports.now _ _ _ (Fills c.args.records.now (set c.ascii.records c.ascii.count c.import_record.result) c.args.first (c.ascii.count + 1)) c.ascii.invariant.0 c.in-Some-next_import.import gives.gives.0 gives.counted gives.passes (ap (λ (i : Imports g.row.T.Denot). passed_of i) gives.gives.1) (filled-more c.args.records.now c.ascii.records c.args.first c.ascii.count c.in-Some-next_import.import c.import_record.result (omega (arith, c.ascii-test.true, c.ascii.invariant.3, c.requires)) c.import_record.ensures),
       omega (arith, further),
       gives.gives.1 ∙ c.ascii.invariant.2,
       length-set c.ascii.records c.ascii.count c.import_record.result ∙ c.ascii.invariant.3,

@@ -21,15 +21,16 @@ imports-preserved c =
     let filled = c.fill_library-count.ensures in
     let there = (library-given next last _ filled.filled).kept m places.magic bytes kept in
     let goes = goes-at m places bytes c.cursor_for_c.result c.cursor.result last there (c.cursor.ensures.left m places.magic bytes there) (sym c.cursor.ensures.is) c.cursor_for_c.ensures in
-    library-more c.imports.invariant x next last c.cursor_for_c.result c.next_within.new.steps c.unwrap_or-left.result c.fill_library-count.new.left c.import_record.result c.fill_library-count.new.records c.fill_library-count.result
-    is c.unwrap_or-left.ensures c.imports-test.true c.import_record.ensures filled.filled filled.counted goes
+    rw c.passed-passed-in-Some-Ok.ensures
+    (library-more c.imports.invariant x next last c.cursor_for_c.result c.next_within.new.steps c.unwrap_or-left.result c.fill_library-count.new.left c.import_record.result c.fill_library-count.new.records c.fill_library-count.result
+    is c.unwrap_or-left.ensures c.imports-test.true c.import_record.ensures filled.filled filled.counted goes)
 
 pub returns-in-Some-Err-2-clause-filled : goal.returns-in-Some-Err-2-clause-filled
 returns-in-Some-Err-2-clause-filled c =
     let now = c.imports.imports in
     let next = c.next_within.new.self in
     let is = subst (λ (r : Result WalkedImport ErrorOf). GivesFileWithin now (Some c.imports.left) (Some r) next c.next_within.new.steps) c.in-Some-Err.field-0-is c.in-Some-Err.ensures in
-    rw c.goes_on.ensures (imports-refused c.imports.invariant c.in-Some-Err.error next c.next_within.new.steps is c.if-count-eq0.false)
+    rw c.passed_batch.ensures (imports-refused c.imports.invariant c.in-Some-Err.error next c.next_within.new.steps is c.if-count-eq0.false)
 
 pub returns-in-None-clause-filled : goal.returns-in-None-clause-filled
 returns-in-None-clause-filled c =
@@ -43,9 +44,10 @@ returns-in-None-clause-filled c =
     let cursor = c.cursor-at in
     let numbers = c.cursor_for_c-in-None in
     let goes = goes-at m places l.bytes.now numbers.result cursor.result next kept (cursor.ensures.left m places.magic l.bytes.now kept) (sym cursor.ensures.is) numbers.ensures in
-    imports-end c.imports.invariant next c.next_within.new.steps given numbers.result goes c.imports-test.true c.unwrap_or.result c.unwrap_or.ensures
-    c.is_over-is_done.result (c.is_over-is_done.ensures ∙ ap is_over cursor.ensures.is)
+    rw (c.passed_batch-batch.ensures, c.passed.ensures)
+    (imports-end c.imports.invariant next c.next_within.new.steps given numbers.result goes c.imports-test.true c.unwrap_or.result c.unwrap_or.ensures
+    c.is_over.result (c.is_over.ensures ∙ ap is_over cursor.ensures.is))
 
 pub returns-clause-filled : goal.returns-clause-filled
 returns-clause-filled c =
-    rw c.goes_on-2.ensures (imports-full c.imports.invariant c.imports-test.false)
+    rw c.passed_batch-2.ensures (imports-full c.imports.invariant c.imports-test.false)

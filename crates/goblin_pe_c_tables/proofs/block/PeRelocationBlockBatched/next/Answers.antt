@@ -4,7 +4,7 @@ use Rattle.goblin_pe_sect.specs.declared.relocation.base.RelocationData.{Relocat
 use Rattle.goblin_pe.specs.added.Layouts.{layout_map, layout_places}
 use Rattle.goblin_pe.specs.{Whole.part_map, declared.whole.Part.Part}
 use Rattle.goblin_pe_c_headers.specs.Onward.{batch_at}
-use Rattle.goblin_pe_c_tables.proofs.BlockBatches.{blocks-answered, blocks-none, directory-inside, directory-read}
+use Rattle.goblin_pe_c_tables.proofs.BlockBatches.{blocks-absent, blocks-answered, blocks-skipped, directory-inside, directory-read}
 use Rattle.goblin_pe_c_tables.proofs.block.PeRelocationBlockBatched.next.Goals as goal
 
 pub fill_blocks-requires : goal.fill_blocks-requires
@@ -20,7 +20,14 @@ pub returns-in-Absent : goal.returns-in-Absent
 returns-in-Absent c =
     let l = c.args.layout.now in
     let read = directory-read (layout_map l) (layout_places l) l.bytes.now _ _ c.in_ok-relocations.was c.placed_relocations-offset.ensures.value in
-    record { filled = rw c.at_room.ensures (blocks-none (layout_map l) (layout_places l) l.bytes.now c.args.position.now c.args.records.now c.in_ok-relocations.field-0 read c.in-Absent.is); kept = tt; refused = tt }
+    record { filled = rw c.at_room.ensures (blocks-absent (layout_map l) (layout_places l) l.bytes.now c.args.position.now c.args.records.now c.in_ok-relocations.field-0 read c.in-Absent.is); kept = tt; refused = tt }
+
+pub returns-in-Refused : goal.returns-in-Refused
+returns-in-Refused c =
+    let l = c.args.layout.now in
+    let read = directory-read (layout_map l) (layout_places l) l.bytes.now _ _ c.in_ok-relocations.was c.placed_relocations-offset.ensures.value in
+    let moved = ap (λ (p : ℕ). batch_at p c.args.records.now) c.skip_table.ensures.moved in
+    record { filled = blocks-skipped (layout_map l) (layout_places l) l.bytes.now c.args.position.now c.args.records.now c.in_ok-relocations.field-0 read c.in-Refused.is (batch_at c.skip_table.new.position c.args.records.now) c.skip_table.result (c.skip_table.ensures.batch, moved); kept = tt; refused = tt }
 
 pub returns-in-Read-clause-filled : goal.returns-in-Read-clause-filled
 returns-in-Read-clause-filled c =

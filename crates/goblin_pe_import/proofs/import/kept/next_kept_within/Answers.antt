@@ -4,6 +4,7 @@ use Rattle.goblin_base.specs.declared.error.CauseOf.TheVariants.{LookupEnd}
 use Rattle.goblin_pe_import.specs.{ImportEntries.entry_slots, Steps.AreCounted, Steps.slots_ahead}
 use Rattle.goblin_pe_import.proofs.LookupWalk.{refused-strictly, rest-end, rest-kept, rest-missing, rest-refused, rest-skip}
 use Rattle.goblin_pe_import.proofs.Modes.{ends, lacks_end}
+use Rattle.goblin_pe_import.proofs.PassedSlots.{counts-end, passed-kept, passed-skip, risen-same}
 use Rattle.goblin_pe_import.proofs.SlotSteps.{counted-one, grown_spent}
 use Rattle.readings.proofs.Walks.{stop-first, stop-next}
 use Rattle.goblin_pe_import.proofs.import.kept.next_kept_within.Goals as goal
@@ -21,6 +22,12 @@ returns-then-may_end-clause-counted g c =
     let format = g.T.Bitfield.format in
     subst (λ (n : ℕ). AreCounted c.args.steps.now c.slots.steps (slots_ahead format c.args.bytes.now c.args.place.now) n)
     (stop-first (entry_slots format) c.args.bytes.now c.slots.at wide _ refl c.in_default-next_entry.ensures) c.slots.invariant.2
+
+pub returns-then-may_end-clause-passed : goal.returns-then-may_end-clause-passed
+returns-then-may_end-clause-passed g c k =
+    let wide : 1 ≤ g.T.Bitfield.format.width = omega (arith, c.size_of-size.ensures.width, c.size_of-size.ensures.positive) in
+    counts-end (entry_slots g.T.Bitfield.format) _ k c.args.bytes.now c.slots.at wide c.in_default-next_entry.ensures c.slots.passed c.add_end.new.self
+    (rw c.size_of-size.ensures.width at c.add_end.ensures.skipped) c.add_end.ensures.unmapped _ _ (c.slots.invariant.5 k)
 
 pub returns-in_default-next_entry-clause-steps : goal.returns-in_default-next_entry-clause-steps
 returns-in_default-next_entry-clause-steps g c =
@@ -41,6 +48,12 @@ returns-in-Ok-Some-clause-counted g c =
     rw (c.spend.ensures, c.size_of-size.ensures.width)
     (counted-one c.args.steps.now c.slots.steps _ _ _ (c.are_out.ensures.no c.if-are_out.false) next c.slots.invariant.2)
 
+pub returns-in-Ok-Some-clause-passed : goal.returns-in-Ok-Some-clause-passed
+returns-in-Ok-Some-clause-passed g c k =
+    let wide : 1 ≤ g.T.Bitfield.format.width = omega (arith, c.size_of-size.ensures.width, c.size_of-size.ensures.positive) in
+    rw c.size_of-size.ensures.width
+    (risen-same _ _ _ _ _ (c.slots.invariant.5 k) (passed-kept _ _ _ _ c.slots.at wide _ c.in-Some-next_entry.ensures.0 c.in-Some-next_entry.ensures.1 _ (rw c.slots.invariant.1 at c.in-Ok-Some.ensures.value) _ c.in-Ok-Some.field-0-is k))
+
 pub returns-in-Ok-Some-clause-less : goal.returns-in-Ok-Some-clause-less
 returns-in-Ok-Some-clause-less g c =
     let wide : 1 ≤ g.T.Bitfield.format.width = omega (arith, c.size_of-size.ensures.width, c.size_of-size.ensures.positive) in
@@ -60,10 +73,11 @@ slots-preserved g c =
     let less = c.slots.invariant.3 in
     rw (c.spend.ensures, c.size_of-size.ensures.width) (
       rest-skip _ _ _ _ _ _ _ c.slots.invariant.0 wide _ c.in-Some-next_entry.ensures.0 c.in-Some-next_entry.ensures.1 _ (rw c.slots.invariant.1 at c.in-Ok-None.ensures.value) c.in-Ok-None.field-0-is,
-      c.in-Ok-None.ensures.same ∙ c.slots.invariant.1,
+      c.add_entry.ensures.same ∙ c.in-Ok-None.ensures.same ∙ c.slots.invariant.1,
       counted-one c.args.steps.now c.slots.steps _ _ _ (c.are_out.ensures.no c.if-are_out.false) next c.slots.invariant.2,
       omega (arith, next, less),
       grown_spent c.args.steps.now c.slots.steps 1 c.slots.invariant.4,
+      (λ k. passed-skip _ _ _ _ c.slots.at wide _ c.in-Some-next_entry.ensures.0 c.in-Some-next_entry.ensures.1 _ (rw c.slots.invariant.1 at c.in-Ok-None.ensures.value) c.in-Ok-None.field-0-is k c.slots.passed c.add_entry.new.self (rw (c.in-Ok-None.ensures.same, c.slots.invariant.1) at c.add_entry.ensures.skipped) (rw (c.in-Ok-None.ensures.same, c.slots.invariant.1) at c.add_entry.ensures.unmapped) _ _ (c.slots.invariant.5 k)),
     )
 
 pub returns-in-Err-clause-strictly : goal.returns-in-Err-clause-strictly

@@ -12,6 +12,7 @@ returns g c =
       fault = given-fault g.T.Bitfield.format c.args.self.now.walk c.next_within.new.self
           c.next_within.result given.steps;
       over = (given.bytes, ap map_of given.finder);
+      passed = given.passed;
       spent = given.spent;
       looked = given.looked;
       ended = given.ended;

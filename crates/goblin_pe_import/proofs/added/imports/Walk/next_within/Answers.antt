@@ -4,6 +4,7 @@ use Rattle.goblin_pe_import.specs.added.StepsAhead.{later_ahead, walk_ahead}
 use Rattle.goblin_pe_import.specs.Steps.{slots_ahead}
 use Rattle.goblin_pe_import.proofs.added.ImportSteps.{ended-cause, next-fault, next-library, next-none, next-refused}
 use Rattle.goblin_pe_import.proofs.SlotSteps.{grown_spent}
+use Rattle.goblin_pe_import.proofs.added.PassedLibraries.{ended-passes, passes-kept, passes-library}
 use Rattle.goblin_pe_import.proofs.added.StepsAhead.{ended-ahead, grown_then, place-ended, steps-kept, steps-library}
 use Rattle.goblin_pe_import.proofs.added.imports.Walk.next_within.Goals as goal
 
@@ -42,7 +43,34 @@ libraries-preserved g c =
           (slots_ahead f s.bytes.now place + rest) c.in-Some-Ok-next_library.count (walk_ahead f t) steps has
           (omega (arith, counted.0, ahead)) (omega (arith, counted.1, long))),
       rw c.spend.ensures (grown_spent _ _ _ (grown_then _ _ _ c.libraries.invariant.2 kept.spent)),
+      λ k. passes-library f c.args.self.now s c.libraries.invariant.3 k place _ _ _ (kept.passed k) none (rw (is, kept.same) at library.passed k),
     )
+
+pub returns-in-Some-Ok-clause-passed : goal.returns-in-Some-Ok-clause-passed
+returns-in-Some-Ok-clause-passed g c k =
+    let f = g.T.Bitfield.format in
+    let s = c.libraries.self in
+    let is = c.in-Some-Ok.field-0-is in
+    rw c.in-Some-Ok.ensures.same
+    (passes-kept f c.args.self.now s c.libraries.invariant.3 k c.next_kept_within.new.place _ (rw is at c.in-Some-Ok.ensures.passed k))
+
+pub returns-then-are_out-clause-passed : goal.returns-then-are_out-clause-passed
+returns-then-are_out-clause-passed g c k =
+    let f = g.T.Bitfield.format in
+    let s = c.libraries.self in
+    rw c.in-None.ensures.same
+    (passes-kept f c.args.self.now s c.libraries.invariant.3 k c.next_kept_within.new.place _ (c.in-None.ensures.passed k))
+
+pub returns-in-None-next_library-clause-passed : goal.returns-in-None-next_library-clause-passed
+returns-in-None-next_library-clause-passed g c k =
+    let f = g.T.Bitfield.format in
+    let s = c.libraries.self in
+    let kept = c.in-None.ensures in
+    let place = c.next_kept_within.new.place in
+    let none = place-ended place c.next_kept_within.new.steps (kept.ended refl) (c.are_out.ensures.no c.if-are_out.false) in
+    let t = c.end-in-None-next_library.new.self in
+    rw (ended-passes f t c.end-in-None-next_library.ensures.at k, c.end-in-None-next_library.ensures.passed)
+    (passes-library f c.args.self.now s c.libraries.invariant.3 k place _ _ 0 (kept.passed k) none (rw kept.same at c.in-None-next_library.ensures.passed k))
 
 pub returns-in-Some-Err-next_library-clause-steps : goal.returns-in-Some-Err-next_library-clause-steps
 returns-in-Some-Err-next_library-clause-steps g c =
