@@ -1,11 +1,11 @@
 -- A text that is cut behind its first character that reaches past a limit.
-use Rattle.std.proofs.Common.{◌≡◌, ◌<◌, ◌≤◌, ℕ, ◌+◌, ◌-◌, min, List, length, drop, take, take_all, refl, inl, inr, add-zero, ap, sym, ◌∙◌, arith, slice_range, position, Some, None, nat_lt, length-drop, length-take, Bool, true, false, cond, Option, option_and_then, take-take, get_or-take}
+use Rattle.std.proofs.Common.{◌≡◌, ◌<◌, ◌≤◌, ℕ, ◌+◌, ◌-◌, List, length, drop, take, take_all, refl, inl, inr, ap, sym, ◌∙◌, arith, slice_range, position, Some, None, nat_lt, length-drop, length-take, Bool, true, false, cond, Option, option_and_then, take-take, get_or-take}
 use Rattle.std.specs.{List.position_or_len, Str.is_utf8}
 use Rattle.std.proofs.lemmas.Bool.{lt-ltb, ltb-false, ltb-true}
 use Rattle.std.proofs.{lemmas.Option.cond_some, lemmas.List.nil_from_length}
 use Rattle.goblin_base.specs.Bytes.{IsTextTo, before_nul, begins_character, cut_text, cut_window, stretch, stretch_at, text_at, text_of, text_within}
-use Rattle.goblin_base.specs.Footprints.{positions, stretch_footprint, Agree}
-use Rattle.goblin_base.specs.{Parts.moved_by, Parts.text_footprint, declared.error.ErrorOf.ErrorOf}
+use Rattle.goblin_base.specs.Footprints.{stretch_footprint, Agree}
+use Rattle.goblin_base.specs.{Parts.text_footprint, declared.error.ErrorOf.ErrorOf}
 use Rattle.goblin_base.proofs.{Numbers.rest_is_drop, Texts.test_fails}
 use Rattle.goblin_base.proofs.{TextEnds.stretch_ends, Inside.AreInside, Inside.stretch-in}
 use Rattle.goblin_base.proofs.Parts.{agree-moved_slice, slice-moved-in}

@@ -8,10 +8,10 @@ mod layout;
 
 pub use file_imports::FileImports;
 pub use goblin_pe_export::added::{Exports, WalkedExport};
-pub use goblin_pe_head::added::{HeaderParts, section_records_at, unnamed_records};
+pub use goblin_pe_head::added::{HeaderParts, unnamed_records};
 pub use goblin_pe_import::added::{
     AsciiImports, ImportCursor, Imports, Libraries, Passed, WalkedImport, WalkedLibrary,
 };
-pub use goblin_pe_sect::added::{MOST_WITHOUT_INDEX, find_rva, offset_by_records, rva_in};
+pub use goblin_pe_sect::added::{MOST_WITHOUT_INDEX, offset_by_records, rva_in};
 pub use image_checksum::checksum;
 pub use layout::{Layout, section_records_of};

@@ -48,7 +48,7 @@ pub(crate) fn text_within(bytes: &[u8], offset: Option<usize>, longest: Option<u
 // The forwarder at an offset, its text cut at a limit if there is one. `None` if there is no
 // offset, or no forwarder there.
 #[inline(always)]
-pub(crate) fn forwarder_at(
+pub(crate) fn forwarder_within(
     bytes: &[u8],
     offset: Option<usize>,
     longest: Option<u32>,
@@ -71,7 +71,7 @@ fn forwarded_at(
         ≡ option_map (λ f. Some f)
         (option_and_then (λ p. (forwarder_within longest p).value bytes.now) offset) }
 {
-    let forwarder = forwarder_at(bytes, offset, longest)?;
+    let forwarder = forwarder_within(bytes, offset, longest)?;
     Some(Some(forwarder))
 }
 

@@ -1,3 +1,2 @@
 pub mod SectionRecords
-pub mod SectionsThere
 pub mod WholeParts

@@ -3,4 +3,4 @@
 mod parts;
 mod section_records;
 
-pub use parts::{HeaderParts, section_records_at, unnamed_records};
+pub use parts::{HeaderParts, unnamed_records};

@@ -1,2 +1,1 @@
-pub mod Backward
 pub mod UnnamedMaps

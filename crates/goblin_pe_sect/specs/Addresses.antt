@@ -2,7 +2,6 @@
 use Rattle.std.specs.Prelude.{⊤, ℕ, ◌==◌, ◌≡◌, ◌<◌, Bool, false, true, if◌then◌else◌, List, Option}
 use Rattle.std.specs.Prelude.{None, length}
 use Rattle.std.specs.Option.{is_some}
-use Rattle.goblin_base.specs.declared.permissive.ParseMode.TheVariants.{Strict}
 use Rattle.goblin_pe_sect.specs.declared.options.Mapping.{Mapping}
 use Rattle.goblin_pe_sect.specs.{declared.options.ParseOptions.ParseOptions, Mapping.file_offset}
 use Rattle.goblin_pe_sect.specs.declared.address_map.AddressMap.{AddressMap}
@@ -110,7 +109,3 @@ offset_of m = m.addressing.offset
 -- the mode is strict: a part that can't be read is refused, and not passed over
 abbrev pub reads_strictly : MapOfAddresses → Bool
 reads_strictly m = is_strict m.opts.parse_mode
-
--- the same map in strict mode
-abbrev pub strict_map : MapOfAddresses → MapOfAddresses
-strict_map m = record m { opts = record m.opts { parse_mode = Strict } }

@@ -4,4 +4,4 @@ mod record_map;
 mod rva;
 
 pub use record_map::{MOST_WITHOUT_INDEX, offset_by_records};
-pub use rva::{find_rva, rva_in};
+pub use rva::rva_in;

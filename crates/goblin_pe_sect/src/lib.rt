@@ -1,6 +1,5 @@
 //! The sections of a PE file, its data directories and relocations, the mapping of addresses to
-//! file offsets, and tables of entries. `goblin_pe` re-exports the modules of this crate, except
-//! `footprint`.
+//! file offsets, and tables of entries. `goblin_pe` re-exports the modules of this crate.
 #![tactic(auto)]
 
 pub mod added;

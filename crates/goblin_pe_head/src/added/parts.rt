@@ -125,13 +125,10 @@ fn data_directories(bytes: &[u8], offset: usize, size: u16) -> Result<Option<Dat
     Ok(Some(directories))
 }
 
-/// The `count` section headers at the file offset `offset`. The call tests only that the file has
-/// them. If `count` is 0, the offset does not matter.
-///
-/// # Errors
-/// [`Error::Read`] if they run past the end of the file.
+// The `count` section headers at the file offset `offset`. If `count` is 0, the offset does not
+// matter.
 #[tactic(auto, using(goblin_pe_sect::proofs::SectionRecords::sections_none))]
-pub fn section_records_at<'a, 'e>(
+fn section_records_at<'a, 'e>(
     bytes: &'a [u8],
     offset: usize,
     count: u16,

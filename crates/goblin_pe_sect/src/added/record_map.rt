@@ -4,14 +4,14 @@
 ghost use Rattle.std.specs.Prelude.{◌≡◌, IfErr, IfOk, length};
 ghost use Rattle.goblin_base.specs.Answers.{GivesOrMemory};
 ghost use Rattle.goblin_pe_sect.specs.Addresses.{Walked, AreMany, WalksFew, map_in, map_of};
-ghost use Rattle.goblin_pe_sect.specs.Addresses.{map_with, strict_map, with_longest};
+ghost use Rattle.goblin_pe_sect.specs.Addresses.{map_with, with_longest};
 ghost use Rattle.goblin_pe_sect.specs.{Mapping.file_offset, WindowIndex.HasPieces};
 ghost use Rattle.goblin_pe_sect.specs.SectionTable.{mapped_of, mapped_sections, recorded_sections};
 
 use crate::address_map::run::Run;
 use crate::address_map::walk::find_by_sections;
 use crate::address_map::{AddressMap, MappedRecords, Windows, index_of};
-use crate::options::{Mapping, ParseMode, ParseOptions, View};
+use crate::options::{Mapping, ParseOptions, View};
 use crate::section_table::SectionTable;
 use goblin_base::ResultOf;
 use std::alloc::Global;
@@ -120,17 +120,6 @@ impl<'s> AddressMap<'s> {
             windows,
             longest: None,
         })
-    }
-
-    /// The same map in strict mode: damaged parts are refused, and not passed over.
-    pub fn strictly(self) -> AddressMap<'s>
-        ensures { map_of result ≡ strict_map (map_of self.entry) }
-    {
-        AddressMap {
-            opts: self.opts.with_parse_mode(ParseMode::Strict),
-            windows: self.windows,
-            longest: self.longest,
-        }
     }
 
     /// Sets the length, in bytes, above which names that are read by this map are cut.
