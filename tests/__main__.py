@@ -13,7 +13,7 @@ import time
 import unittest
 
 from tests.bindings import library
-from tests.programs import build_pe_audit, build_pe_list, build_pe_replay, shared_folder
+from tests.programs import build_pe_list, build_pe_replay, shared_folder
 
 
 class Counts(unittest.TestResult):
@@ -37,7 +37,7 @@ class Counts(unittest.TestResult):
 
 def build_for_all():
     """Builds what several modules use, once, before they start. A module fails if it needs what could not be built."""
-    for build in (library, build_pe_list, build_pe_replay, build_pe_audit):
+    for build in (library, build_pe_list, build_pe_replay):
         with contextlib.suppress(AssertionError, OSError):
             build()
 

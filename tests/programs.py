@@ -14,7 +14,6 @@ CRATES = TOP / "crates"
 SAMPLES = TOP / "samples"
 PE_LIST = CRATES / "pe_list/out/pe_list"
 PE_REPLAY = CRATES / "pe_replay/out/pe_replay"
-PE_AUDIT = CRATES / "pe_audit/out/pe_audit"
 IMAGES = sorted(it for it in SAMPLES.iterdir() if it.suffix in (".dll", ".exe", ".efi"))
 OBJECTS = sorted(SAMPLES.glob("*.obj"))
 TERSE = sorted(SAMPLES.glob("*.te"))
@@ -107,10 +106,6 @@ def build(program):
 
 def build_pe_replay():
     build(PE_REPLAY)
-
-
-def build_pe_audit():
-    build(PE_AUDIT)
 
 
 @functools.cache

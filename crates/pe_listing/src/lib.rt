@@ -32,6 +32,3 @@
 mod lines;
 pub mod listing;
 mod text;
-
-pub use lines::shown_name;
-pub use text::push_name_bytes;
