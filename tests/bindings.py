@@ -68,7 +68,7 @@ WALKS = {"sections": ("Section", "SectionCursor"), "rich_entries": ("RichEntry",
          "libraries": ("Library", "ImportCursor"), "exports": ("Export", "ExportCursor"),
          "export_addresses": ("ExportAddress", "ExportAddressCursor"),
          "relocation_blocks": ("RelocationBlock", "RelocationBlockCursor"), "symbols": ("Symbol", "SymbolCursor")}
-COUNTED = ("imports", "exports")
+COUNTED = ("imports", "libraries", "exports")
 # The walks over a table of a row, from the cursor that the row holds.
 OF_ROWS = {"base_relocations": ("BaseRelocation", "BaseRelocationCursor"), "coff_relocations": ("CoffRelocation", "CoffRelocationCursor")}
 

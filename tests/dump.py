@@ -136,7 +136,7 @@ def tables(out, image):
         out.put(some(image.section_by_name(section.name)))
     out.rows("rich_entries", image.rich_entries(), 100)
     out.rows("imports", image.imports(budget(300)))
-    for it in out.rows("libraries", image.libraries(budget(20))):
+    for it in out.rows("libraries", image.libraries(budget(300))):
         out.rows("imports", it.imports(image, budget(100)))
     out.put(result(image.export_directory, to=some))
     for export in out.rows("exports", image.exports(budget(300)))[:20]:

@@ -42,7 +42,7 @@ fn tables(image: &Image) {
     rows(entries.by_ref().take(100));
     println!("rich_entries skipped={} unmapped={}", entries.skipped(), entries.unmapped());
     walked("imports", image.imports(), 300);
-    for library in walked("libraries", image.libraries(), 20) {
+    for library in walked("libraries", image.libraries(), 300) {
         walked("imports", library.imports(image), 100);
     }
     println!("{:?}", image.export_directory());

@@ -161,8 +161,8 @@ ROWS = {
         walked("imports", permissive=True, steps=STEPS), lambda: in_one_section(IMPORTS, libraries_of_left_out_entries, MIB), 50, OUT, 0),
     "libraries that are all left out": (
         walked("imports", permissive=True, steps=STEPS), lambda: in_one_section(IMPORTS, libraries_of_no_address_table, MIB), 50, OUT, 0),
-    "twenty libraries of left out entries": (
-        walked("libraries", 20, permissive=True, room=20), lambda: in_one_section(IMPORTS, libraries_of_left_out_entries, MIB), 500, 0, 20),
+    "libraries of left out entries": (
+        walked("libraries", permissive=True, steps=STEPS), lambda: in_one_section(IMPORTS, libraries_of_left_out_entries, MIB), 500, OUT, 48),
     "name pointers without an export": (
         walked("exports", steps=STEPS), lambda: in_one_section(EXPORTS, dead_name_pointers, MIB), 50, OUT, 0),
     "imports in one text, of names that are cut": (

@@ -47,11 +47,6 @@ def opened(data):
             yield permissive, image
 
 
-def slots(image):
-    """More steps than a look at one address table takes. (It may be the whole file.)"""
-    return image.bytes.length // 4 + 1
-
-
 def objects():
     return [image_of(it.read_bytes(), None, "read_object")[0] for it in OBJECTS]
 
@@ -98,33 +93,29 @@ class Walks(unittest.TestCase):
         self.assertTrue(all(most[word] > 1 for word in OF_ROWS), most)
 
     def test_rows_and_steps_by_any_limit_are_those_of_one_call(self):
-        """The steps add up to the same, except that those beyond a limit, in an address table, are not counted."""
+        """The steps add up to the same."""
         for index, data in enumerate(files()):
             for permissive, image in opened(data):
                 for word, each in itertools.product(COUNTED, (1, 2, 3, 10, 1000)):
                     with self.subTest(file=index, permissive=permissive, word=word, steps=each):
-                        *wanted, taken = self.cut(image, word, 1 << 40)
-                        *found, cut_taken = self.cut(image, word, each)
-                        self.assertEqual(found, wanted)
-                        self.assertTrue(cut_taken == taken or word == "imports" and cut_taken < taken)
+                        self.assertEqual(self.cut(image, word, each), self.cut(image, word, 1 << 40))
 
     def cut(self, image, word, each):
         """A walk by calls with a limit of steps: its rows, what it counts, why it ends, and how many steps it took."""
         walk, steps, taken = Walk(image, word), c.c_size_t(0), 0
         for _ in range(1 << 20):
             before = bytes(walk.cursor), len(walk.rows)
-            steps.value = each
+            steps.value = given = each + max(image.section_count - 96, 0)
             fault = walk.call(5, steps)
-            self.assertLessEqual(steps.value, each)
+            self.assertLessEqual(steps.value, given)
             taken += each - steps.value
             if fault.status == STEPS:
                 self.assertEqual((bytes(walk.cursor), len(walk.rows)), before)
-                each += slots(image)  # (A call looks at an address table in one go.)
             elif walk.batch.is_done:
                 return walk.rows, walk.counts, (fault.status, fault.cause), taken
         raise AssertionError(f"{word} have no end")
 
-    def test_a_limit_is_passed_by_no_more_than_an_address_table(self):
+    def test_a_limit_is_not_passed(self):
         """A call without a limit that gives the same rows takes no more steps than that."""
         for index, data in enumerate(files()):
             for permissive, image in opened(data):
@@ -135,7 +126,18 @@ class Walks(unittest.TestCase):
                     again.call(len(walk.rows), more)
                     with self.subTest(file=index, permissive=permissive, word=word, steps=limit):
                         self.assertEqual(again.rows, walk.rows)
-                        self.assertLessEqual((1 << 40) - more.value, limit + slots(image))
+                        self.assertLessEqual((1 << 40) - more.value, limit)
+
+    def test_64_entries_of_an_address_table_are_a_step(self):
+        """A table of 32,768 imports: its last piece, in which it ends, is the step of its library. In strict mode the imports come
+        first."""
+        for permissive, word, libraries, rows in (
+                (True, "imports", 1, 1000 - 513), (False, "imports", 1, 999), (True, "libraries", 30, 1), (False, "libraries", 30, 1)):
+            with self.subTest(permissive=permissive, word=word):
+                image, _ = image_of(images.shared_image(libraries, 32768), options(permissive))
+                walk, steps = Walk(image, word), c.c_size_t(1000)
+                self.assertEqual((walk.call(2000, steps).status, len(walk.rows), steps.value, walk.batch.is_done), (0, rows, 0, False))
+                self.assertEqual(walk.call(2000, steps).status, STEPS)
 
     def test_without_steps_a_call_is_a_fault_and_changes_nothing(self):
         image, _ = image_of(BY_NAME.read_bytes())

@@ -110,7 +110,7 @@ static void check_imports(const struct goblin_pe_image *image)
     struct goblin_pe_library library;
     struct goblin_pe_batch batch;
     size_t all = imports_from(image, cursor), count = 0;
-    WALK(goblin_pe_next_libraries, cursor, library, &batch) {
+    WALK(goblin_pe_next_libraries, cursor, library, NULL, &batch) {
         libraries++;
         count += imports_from(image, library.imports);
     }

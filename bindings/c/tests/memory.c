@@ -72,7 +72,7 @@ static struct goblin_pe_fault called(const char *name, struct records *r)
     if (!strcmp(name, "imports"))
         return goblin_pe_next_imports(&image, &r->import, r->imports, 4, &r->steps, &batch);
     if (!strcmp(name, "libraries"))
-        return goblin_pe_next_libraries(&image, &r->import, r->libraries, 4, &batch);
+        return goblin_pe_next_libraries(&image, &r->import, r->libraries, 4, &r->steps, &batch);
     if (!strcmp(name, "exports"))
         return goblin_pe_next_exports(&image, &r->export, r->exports, 4, &r->steps, &batch);
     if (!strcmp(name, "export_addresses"))

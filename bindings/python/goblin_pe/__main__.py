@@ -11,8 +11,6 @@ from . import Budget, DirectoryType, Image, Kind, Mapping, Options, Pe, PeError,
 
 # What is written about each file before its tables.
 HEADERS = ("refusal", "header_faults", "dos_header", "coff_header", "optional_header", "directories", "te_header", "rich_header")
-# How many libraries are written at most: each can take long.
-LIBRARIES = 500
 MAPPINGS = {it.name.lower().replace("_", "-"): it for it in Mapping}
 
 
@@ -90,7 +88,7 @@ def tables(image: Image, budget: Budget) -> Iterator[Tuple[str, Iterable[Any]]]:
     """The tables of a file, with a walk over each."""
     yield "sections", image.section_headers(budget)
     if image.kind is Kind.IMAGE:
-        yield "libraries", image.libraries(Budget(min(budget.left or 0, LIBRARIES)))
+        yield "libraries", image.libraries(budget)
         yield "export_directory", filter(None, map(Image.export_directory, [image]))
         for name in ("rich_entries", "imports", "exports", "export_addresses", "relocation_blocks"):
             yield name, getattr(image, name)(budget)

@@ -325,8 +325,7 @@ class Image:
 
     def libraries(self, budget: Budget | None = None) -> Walk[Library]:
         """The DLLs that the image imports from: a row for each import descriptor, also for one that is
-        skipped. Each row takes one step, but reads the whole address table of its DLL: 5,000 rows of
-        a hostile file of a megabyte can take a second."""
+        skipped. A step is one look at a descriptor, or at 64 entries of an address table."""
         return Walk(self, LIBRARIES, None, budget)
 
     def exports(self, budget: Budget | None = None) -> Walk[Export]:

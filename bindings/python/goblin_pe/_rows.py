@@ -433,7 +433,7 @@ def _coff_relocation(it: Any, text: Texts) -> CoffRelocation:
 SECTIONS = Kind(LIB.goblin_pe_next_sections, _records.Section, _records.SectionCursor, Table.HEADER, _section)
 RICH_ENTRIES = Kind(LIB.goblin_pe_next_rich_entries, _records.RichEntry, _records.RichCursor, Table.RICH_HEADER, _rich_entry)
 IMPORTS = Kind(LIB.goblin_pe_next_imports, _records.Import, _records.ImportCursor, Table.IMPORTS, _import, counts_steps=True)
-LIBRARIES = Kind(LIB.goblin_pe_next_libraries, _records.Library, _records.ImportCursor, Table.IMPORTS, _library)
+LIBRARIES = Kind(LIB.goblin_pe_next_libraries, _records.Library, _records.ImportCursor, Table.IMPORTS, _library, counts_steps=True)
 EXPORTS = Kind(LIB.goblin_pe_next_exports, _records.Export, _records.ExportCursor, Table.EXPORTS, _export, counts_steps=True)
 EXPORT_ADDRESSES = Kind(
     LIB.goblin_pe_next_export_addresses, _records.ExportAddress, _records.ExportAddressCursor, Table.EXPORTS, _export_address)

@@ -332,9 +332,8 @@ impl<'a> Image<'a> {
 
     /// A walk over the libraries: one for each entry of the import directory, also the skipped ones.
     ///
-    /// A row is one step of a budget. But libraries may share one long address table, which is read
-    /// for each of them. Then 5,000 rows of a file of a megabyte cost a second, and 100,000 rows of a
-    /// file of 16 megabytes three minutes. If you don't trust the file, stop after some hundreds.
+    /// A step of a budget is one look at an entry of the import directory, or at 64 entries of an
+    /// address table. Libraries may share one long address table, which is read for each of them.
     pub fn libraries(&self) -> Walk<'a, Library<'a>> {
         Walk::of(self)
     }

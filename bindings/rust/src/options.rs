@@ -128,8 +128,7 @@ pub struct Budget {
 
 impl Budget {
     /// A budget with this number of steps. If the options limit the length of names, 100,000 steps
-    /// need 10 to 200 milliseconds, depending on that length. Only
-    /// [`Image::libraries`](crate::Image::libraries) can need longer.
+    /// need 10 to 200 milliseconds, depending on that length.
     pub const fn steps(steps: usize) -> Budget {
         Budget { steps }
     }

@@ -47,7 +47,7 @@ walked! {
         |it, _| RichEntry { build: it.build, product: it.product, use_count: it.use_count };
     Import<'a>, ffi::Import<'a>, ffi::ImportCursor, Imports, goblin_pe_next_imports(counted),
         |it, _| Import::of(it);
-    Library<'a>, ffi::Library<'a>, ffi::ImportCursor, Imports, goblin_pe_next_libraries(),
+    Library<'a>, ffi::Library<'a>, ffi::ImportCursor, Imports, goblin_pe_next_libraries(counted),
         |it, _| Library::of(it);
     Export<'a>, ffi::Export<'a>, ffi::ExportCursor, Exports, goblin_pe_next_exports(counted),
         |it, _| Export::of(it);
