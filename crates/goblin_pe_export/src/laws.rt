@@ -2,4 +2,4 @@
 
 mod exports;
 
-pub use exports::{ExportRead, read_exports, twin_exports};
+pub use exports::{ExportRead, read_exports, read_exports_by, twin_exports};

@@ -4,7 +4,6 @@ ghost use Rattle.std.specs.Prelude.{◌≡◌, ◌<◌, IfOk, Some};
 ghost use Rattle.goblin_base.specs.{Answers.AnswersOrMemory, Reading.ReadsOrMemory};
 ghost use Rattle.readings.specs.Reads.{mapped};
 ghost use Rattle.goblin_pe_sect.specs.Addresses.{IsIndexed, map_of, reads_strictly};
-ghost use Rattle.goblin_pe_export.specs.ExportReadings.{export_read};
 ghost use Rattle.goblin_pe_export.specs.ExportRecords.{export_read_model, read_rows};
 ghost use Rattle.goblin_pe_import.specs.ImportReadings.{import_data};
 ghost use Rattle.goblin_pe_import.specs.Imports.{IsImportListFault, imports_of};
@@ -18,6 +17,7 @@ use crate::import::{Import, ImportData};
 use crate::whole::Part;
 use crate::whole::places::{EXPORT_TABLE, IMPORT_TABLE, Places, part_of};
 use goblin_base::Result;
+use goblin_pe_export::laws::{ExportRead, read_exports_by};
 use goblin_pe_sect::address_map::AddressMap;
 use goblin_pe_sect::relocation::RelocationData;
 use goblin_pe_sect::{DataDirectory, ParseOptions, SectionTable};
@@ -149,7 +149,7 @@ impl Places {
             return Ok(Part::Absent);
         };
         part_of(
-            exports_of(alloc, bytes, directory, address_map),
+            read_exports_by(alloc, bytes, directory, address_map),
             address_map.opts(),
         )
     }
@@ -187,29 +187,10 @@ impl Places {
 // Import data, and the imports made from it.
 pub(crate) type ImportRead<'a> = (Part<ImportData<'a>>, Part<Vec<Import<'a>>>);
 
-// Export data, and the exports that it lists.
-pub(crate) type ExportRead<'a> = (ExportData<'a>, Vec<Export<'a>>);
-
 pub(crate) struct ListedTables<'a> {
     pub(crate) imports: ImportRead<'a>,
     pub(crate) exports: Part<ExportRead<'a>>,
     pub(crate) relocations: Part<RelocationData<'a>>,
-}
-
-// The export data of a directory, and the exports that it lists.
-#[tactic(auto, unfolding(goblin_pe_export::specs::ExportReadings::export_read, goblin_pe_export::specs::ExportReadings::exports, goblin_pe_export::specs::ExportReadings::numbered_read, goblin_pe_export::specs::ExportReadings::numbered_rows))]
-fn exports_of<'a>(
-    alloc: Global,
-    bytes: &'a [u8],
-    directory: DataDirectory,
-    address_map: &AddressMap,
-) -> Result<ExportRead<'a>>
-    ensures { let m = map_of address_map.now in
-        ReadsOrMemory export_read_model result (export_read m.addressing directory) bytes.now }
-{
-    let data = ExportData::parse_by(alloc, bytes, directory, address_map)?;
-    let exports = Export::parse_by(alloc, bytes, &data, address_map)?;
-    Ok((data, exports))
 }
 
 // Export data and the exports that it lists, each as a part of its own.

@@ -1,7 +1,7 @@
 //! The exports of two files.
 
 ghost use Rattle.goblin_base.specs.Reading.{ReadsOrMemory, TwinsOrMemory};
-ghost use Rattle.goblin_pe_sect.specs.Addresses.{map_by};
+ghost use Rattle.goblin_pe_sect.specs.Addresses.{map_by, map_of};
 ghost use Rattle.goblin_pe_export.specs.{ExportReadings.export_read, Exports.export_read_model};
 
 use crate::export::{Export, ExportData};
@@ -18,8 +18,26 @@ pub type ExportRead<'a> = (ExportData<'a>, Vec<Export<'a>>);
 /// The export data of a directory, and the exports that it lists.
 ///
 /// # Errors
-/// As [`ExportData::parse_with_opts`] and [`Export::parse_with_opts`].
+/// As [`ExportData::parse_by`] and [`Export::parse_by`].
 #[tactic(auto, unfolding(crate::specs::ExportReadings::export_read, crate::specs::ExportReadings::exports, crate::specs::ExportReadings::numbered_read, crate::specs::ExportReadings::numbered_rows))]
+pub fn read_exports_by<'a>(
+    alloc: Global,
+    bytes: &'a [u8],
+    directory: DataDirectory,
+    address_map: &AddressMap,
+) -> Result<ExportRead<'a>>
+    ensures { let m = map_of address_map.now in
+        ReadsOrMemory export_read_model result (export_read m.addressing directory) bytes.now }
+{
+    let tables = ExportData::parse_by(alloc, bytes, directory, address_map)?;
+    let exports = Export::parse_by(alloc, bytes, &tables, address_map)?;
+    Ok((tables, exports))
+}
+
+/// The export data of a directory, and the exports that it lists.
+///
+/// # Errors
+/// As [`ExportData::parse_with_opts`] and [`Export::parse_with_opts`].
 pub fn read_exports<'a>(
     alloc: Global,
     bytes: &'a [u8],
@@ -32,9 +50,7 @@ pub fn read_exports<'a>(
         ReadsOrMemory export_read_model result (export_read m.addressing directory) bytes.now }
 {
     let address_map = AddressMap::prepare(alloc, sections, file_alignment, opts)?;
-    let tables = ExportData::parse_by(alloc, bytes, directory, &address_map)?;
-    let exports = Export::parse_by(alloc, bytes, &tables, &address_map)?;
-    Ok((tables, exports))
+    read_exports_by(alloc, bytes, directory, &address_map)
 }
 
 /// The export data of one directory, with the exports that it lists, in two files.
