@@ -94,7 +94,7 @@ FillsNext table IsCut Holds old new batch =
     × (TellsEnd IsCut (drop batch.count left) (length old.records) batch.count batch.is_done
     × Holds left))
 
--- A table of which no entry is skipped, nor leads nowhere: its batches count records alone.
+-- A table in which no entry is skipped or leads nowhere: its batches count records alone.
 abbrev pub FillsRows : {P R A B : Type 0} → Table P R A B → Type 0
     → Batch P R → Batch P R → PeBatch → Type 0
 FillsRows table Holds old new batch =
