@@ -14,7 +14,7 @@ use Rattle.goblin_pe_import.specs.Passed.{as_skipped, table_counts}
 use Rattle.goblin_pe_import.specs.Passed.Count.{Skipped}
 use Rattle.goblin_pe_import.specs.TableSums.{amount_of, sum_below, sum_of_slots}
 use Rattle.goblin_pe_import.specs.added.ImportWalks.{ImportCursor, is_skipped, leads_to_none}
-use Rattle.goblin_pe_import.specs.added.Libraries.{AreLibrariesAt, LibraryValue, cursor_libraries, libraries_ahead, libraries_bytes, libraries_cursor, libraries_format, libraries_left, libraries_map, libraries_next, library_at, rows_ahead}
+use Rattle.goblin_pe_import.specs.added.Libraries.{AreLibrariesAt, LibraryValue, libraries_ahead, libraries_bytes, libraries_cursor, libraries_format, libraries_left, libraries_map, libraries_next, library_at}
 use Rattle.goblin_pe_import.specs.added.WholeReads.{SkipsLeftOut}
 use Rattle.goblin_pe_import.specs.declared.added.library_walk.Libraries.{Libraries}
 
@@ -89,22 +89,15 @@ module _ (format : Format EntryValue) (addressing : Addressing) (bytes : List �
       rw (walked p true, walked p false)
       (by-end (is_some (slot p (n p))) (all_of (rows p (n p))) _ (counted p (n p) (omega arith)))
 
-by-modes : (s t : Bool) (a b : Addressing) → s ≡ true → t ≡ false → b ≡ a → (format : Format EntryValue) (bytes : List ℕ)
-    (first : ℕ) (place : Option ℕ)
+by-parts : (s t : Bool) (a b : Addressing) (f g : Format EntryValue) (xs ys : List ℕ) (c d : ImportCursor)
+    → s ≡ true → t ≡ false → b ≡ a → g ≡ f → ys ≡ xs → d ≡ c
     → SkipsLeftOut
-    (amount_of (table_counts import_slots (λ r. if is_skipped t format b bytes r then as_skipped Skipped else 0) Skipped bytes) place)
-    (all_of (libraries_next s format a bytes first place)) (all_of (libraries_next t format b bytes first place))
-by-modes s t a b strict permissive same format bytes first place =
-    rw (strict, permissive, same) (skipped format a bytes first place)
-
--- what is made of the parts of a walk
-at-cursor : {X : Type 0} (of : MapOfAddresses → Format EntryValue → List ℕ → ImportCursor → X) (m : MapOfAddresses)
-    (format : Format EntryValue) (bytes : List ℕ) (c : ImportCursor) (it : Libraries) → AreLibrariesAt m format bytes c it
-    → of (libraries_map it) (libraries_format it) (libraries_bytes it) (libraries_cursor it) ≡ of m format bytes c
-at-cursor of m format bytes c it h =
-    ap (λ (k : MapOfAddresses). of k (libraries_format it) (libraries_bytes it) (libraries_cursor it)) h.0.map_is
-    ∙ ap (λ (f : Format EntryValue). of m f (libraries_bytes it) (libraries_cursor it)) h.0.format_is
-    ∙ ap (λ (b : List ℕ). of m format b (libraries_cursor it)) h.0.bytes_are ∙ ap (of m format bytes) h.1
+    (amount_of (table_counts import_slots (λ r. if is_skipped t g b ys r then as_skipped Skipped else 0) Skipped ys)
+    d.next_record)
+    (all_of (libraries_next s f a xs c.first_record c.next_record))
+    (all_of (libraries_next t g b ys d.first_record d.next_record))
+by-parts s t a b f g xs ys c d strict permissive same format bytes at =
+    rw (strict, permissive, same, format, bytes, at) (skipped f a xs c.first_record c.next_record)
 
 -- Two walks over libraries at a cursor, one in each mode.
 pub rows-whole : (m k : MapOfAddresses) (format : Format EntryValue) (bytes : List ℕ) (c : ImportCursor)
@@ -112,13 +105,11 @@ pub rows-whole : (m k : MapOfAddresses) (format : Format EntryValue) (bytes : Li
     → AreLibrariesAt m format bytes c first → AreLibrariesAt k format bytes c second
     → SkipsLeftOut (libraries_ahead second Skipped) (all_of (libraries_left first)) (all_of (libraries_left second))
 rows-whole m k format bytes c strict permissive same first second one other =
-    let all : SkipsLeftOut (rows_ahead k format bytes Skipped c) (all_of (cursor_libraries m format bytes c))
-    (all_of (cursor_libraries k format bytes c)) =
-    by-modes (reads_strictly m) (reads_strictly k) m.addressing k.addressing strict permissive same format bytes
-    c.first_record c.next_record in
-    subst (λ (ahead : ℕ). SkipsLeftOut ahead (all_of (libraries_left first)) (all_of (libraries_left second)))
-    (sym (at-cursor (λ m format bytes c. rows_ahead m format bytes Skipped c) k format bytes c second other))
-    (subst (λ (left : List (Option LibraryValue)). SkipsLeftOut (rows_ahead k format bytes Skipped c) (all_of left) (all_of (libraries_left second)))
-    (sym (at-cursor cursor_libraries m format bytes c first one))
-    (subst (λ (left : List (Option LibraryValue)). SkipsLeftOut (rows_ahead k format bytes Skipped c) (all_of (cursor_libraries m format bytes c)) (all_of left))
-    (sym (at-cursor cursor_libraries k format bytes c second other)) all))
+    let of_first = ap (λ (m : MapOfAddresses). m.addressing) one.0.map_is in
+    let of_second = ap (λ (m : MapOfAddresses). m.addressing) other.0.map_is in
+    by-parts (reads_strictly (libraries_map first)) (reads_strictly (libraries_map second)) (libraries_map first).addressing
+    (libraries_map second).addressing (libraries_format first) (libraries_format second) (libraries_bytes first)
+    (libraries_bytes second) (libraries_cursor first) (libraries_cursor second)
+    (ap reads_strictly one.0.map_is ∙ strict) (ap reads_strictly other.0.map_is ∙ permissive)
+    (of_second ∙ same ∙ sym of_first) (other.0.format_is ∙ sym one.0.format_is) (other.0.bytes_are ∙ sym one.0.bytes_are)
+    (other.1 ∙ sym one.1)

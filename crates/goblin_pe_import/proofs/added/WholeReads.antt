@@ -1,11 +1,11 @@
 -- Strict mode refuses nothing of imports exactly if permissive mode skips nothing, and every name is there.
-use Rattle.std.proofs.Common.{◌≡◌, ◌≢◌, ◌↔◌, ◌<◌, ◌+◌, ◌-◌, ◌*◌, ◌^◌, ℕ, zero, suc, Bool, true, false, not, ◌&&◌, if◌then◌else◌, cond, List, [], ◌∷◌, length, Option, Some, None, IsSome, IfSome, IsSomeAnd, is_some, is_none, refl, ap, sym, subst, ◌∙◌, arith, inl, inr, ◌==◌, ne_eqb, option_map, Result, Ok, Err, IsOkAnd}
+use Rattle.std.proofs.Common.{◌≡◌, ◌≢◌, ◌↔◌, ◌<◌, ◌≤◌, ◌+◌, ◌-◌, ◌*◌, ◌^◌, ℕ, zero, suc, Bool, true, false, not, ◌&&◌, if◌then◌else◌, cond, List, [], ◌∷◌, length, Option, Some, None, IsSome, IfSome, IsSomeAnd, is_some, is_none, refl, ap, sym, subst, ◌∙◌, arith, inl, inr, ◌==◌, ne_eqb, option_map, Result, Ok, Err, IsOkAnd}
 use Rattle.std.proofs.lemmas.Bool.{cases_lt}
 use Rattle.std.specs.{Int.from_bool, List.flat_map}
 use Rattle.goblin_base.specs.{Answers.◌>>=◌, Answers.all_of, Reading.Reading, Tables.Format}
 use Rattle.goblin_base.specs.declared.{endian.Endian.TheVariants.Little, error.ErrorOf.ErrorOf}
-use Rattle.goblin_base.specs.Tables.{SlotFormat, each_below, ends_table, made_of, or_left_out, slot_at, slot_table, stop}
-use Rattle.goblin_base.proofs.Below.{each_below-missing, each_below-there, least-before}
+use Rattle.goblin_base.specs.Tables.{SlotFormat, each_below, ends_table, join, made_of, or_left_out, slot_at, slot_table, stop}
+use Rattle.goblin_base.proofs.Below.{least-before}
 use Rattle.goblin_base.proofs.{Numbers.slice_at-past, SlotTables.going}
 use Rattle.readings.specs.Reads.{given, in_its_place, mapped, pair_of, text_within, with_slots}
 use Rattle.readings.{specs.Walks.Walks, proofs.Pairs.strict_in_its_place}
@@ -23,146 +23,74 @@ use Rattle.goblin_pe_import.specs.added.ImportWalks.{ImportCursor, Imports, IsIm
 use Rattle.goblin_pe_import.specs.Imports.{NumberedImport, numbered_imports}
 use Rattle.goblin_pe_import.specs.added.WholeReads.{AllHaveNames, AreWhole, HasImportName, HasNames, OfEach}
 
--- ---- sums that are 0
+-- ---- a table
 
-sum-none : (f : ℕ → ℕ) (n : ℕ) → sum_below f n ≡ 0 → (i : ℕ) → i < n → f i ≡ 0
-unfolding sum_below
-sum-none f zero none i below = absurd (omega (arith, below))
-sum-none f (suc n) none i below =
-    elim (cases_lt i n) [
-      | inl before ↦ sum-none f n (omega (arith, none)) i before
-      | inr last ↦ let here : i ≡ n = omega arith in ap f here ∙ omega (arith, none)
-    ]
-
-none-sum : (f : ℕ → ℕ) (n : ℕ) → ((i : ℕ) → i < n → f i ≡ 0) → sum_below f n ≡ 0
-unfolding sum_below
-none-sum f zero none = refl
-none-sum f (suc n) none =
-    omega (arith, none-sum f n (λ i below. none i (omega (arith, below))), none n (omega arith))
-
--- ---- values that are there
-
-there : {A : Type 0} (x : Option A) → x ≢ None → IsSome x
-there None some = absurd (some refl)
-there (Some x) some = refl
-
-some≢none : {A : Type 0} (x : Option A) → IsSome x → x ≢ None
-some≢none None some none = absurd cc
-some≢none (Some x) some none = absurd cc
-
-by-end : {A : Type 0} (end : Bool) (x : Option A) → IsSome (cond (not end) None x) → (end ≡ true) × IsSome x
-by-end true x is = (refl, is)
-by-end false x is = absurd cc
-
-end-by : {A : Type 0} (end : Bool) (x : Option A) → end ≡ true → IsSome x → IsSome (cond (not end) None x)
-end-by true x ended is = is
-end-by false x ended is = absurd cc
+both : {A : Type 0} (xs ys : Option (List A)) → IsSome (join xs ys) ↔ (IsSome xs × IsSome ys)
+both None ys = (λ is. absurd cc, λ h. absurd cc)
+both (Some xs) None = (λ is. absurd cc, λ h. absurd cc)
+both (Some xs) (Some ys) = (λ is. (refl, refl), λ h. refl)
 
 -- how much the end of a table counts
 abbrev lacks : Bool → ℕ
 lacks end = if end then 0 else 1
 
-ends : (end : Bool) → lacks end ≡ 0 → end ≡ true
-ends true none = refl
-ends false none = absurd cc
+by-end : {A : Type 0} (end : Bool) (x : Option A) (sum : ℕ) (Holds : Type 0)
+    → IsSome x ↔ ((sum ≡ 0) × Holds)
+    → IsSome (cond (not end) None x) ↔ ((sum + lacks end ≡ 0) × Holds)
+by-end true x sum Holds same =
+    (λ is. let h = same.0 is in (omega (arith, h.0), h.1), λ h. same.1 (omega (arith, h.0), h.1))
+by-end false x sum Holds same = (λ is. absurd cc, λ h. absurd (omega (arith, h.0)))
 
--- ---- a table
-
-module _ {V : Type 0} (slots : SlotFormat V) (bytes : List ℕ) (o : ℕ) where
-  abbrev n : ℕ
-  n = stop slots bytes o
-
+-- Strict mode reads a table exactly if it counts nothing, and this holds of each of its entries.
+module _ {V A : Type 0} (slots : SlotFormat V) (piece : V → Option (List A)) (amount : V → ℕ) (Holds : V → Type 0)
+    (same : (v : V) → IsSome (piece v) ↔ ((amount v ≡ 0) × Holds v)) (bytes : List ℕ) (o : ℕ) where
   abbrev slot : ℕ → Option V
   slot = slot_at slots bytes o
 
-  -- what holds of each slot before the stop, all of which are in the file
-  each-is : (P : V → Type 0) → ((i : ℕ) → i < n → (v : V) → slot i ≡ Some v → P v)
-      → OfEach slots P bytes o
-  unfolding stop
-  each-is P h i below =
-      let in_file =
-      going slots.is_last (slot i) (least-before (λ i. ends_table slots.is_last (slot i)) _ i below) in
-      subst (λ (x : Option V). IsSomeAnd x P) (sym in_file.1) (h i below in_file.0 in_file.1)
+  in-slot : (x : Option V) → ends_table slots.is_last x ≡ false
+      → IsSome (x >>= piece) ↔ ((amount_of amount x ≡ 0) × IsSomeAnd x Holds)
+  in-slot None going = absurd cc
+  in-slot (Some v) going = same v
 
-  each-at : (P : V → Type 0) → OfEach slots P bytes o → (i : ℕ) → i < n → (v : V)
-      → slot i ≡ Some v → P v
-  each-at P h i below v is = subst (λ (x : Option V). IsSomeAnd x P) is (h i below)
+  below : (k : ℕ) → k ≤ stop slots bytes o
+      → IsSome (each_below (made_of slots piece bytes o) k)
+      ↔ ((sum_below (λ i. amount_of amount (slot i)) k ≡ 0) × ((i : ℕ) → i < k → IsSomeAnd (slot i) Holds))
+  unfolding stop sum_below
+  below zero within = (λ is. (refl, λ i before. absurd (omega (arith, before))), λ h. refl)
+  below (suc k) within =
+      let so_far = below k (omega (arith, within)) in
+      let here =
+      in-slot (slot k) (least-before (λ i. ends_table slots.is_last (slot i)) (length bytes) k (omega (arith, within))) in
+      let joined = both (each_below (made_of slots piece bytes o) k) (made_of slots piece bytes o k) in (
+        λ is.
+            let parts = joined.0 is in
+            let before = so_far.0 parts.0 in
+            let last = here.0 parts.1 in (
+              omega (arith, before.0, last.0),
+              λ i less. elim (cases_lt i k) [
+                | inl earlier ↦ before.1 i earlier
+                | inr later ↦ let is : k ≡ i = omega arith in subst (λ (i : ℕ). IsSomeAnd (slot i) Holds) is last.1
+              ],
+            ),
+        λ h.
+            joined.1 (
+              so_far.1 (omega (arith, h.0), λ i less. h.1 i (omega (arith, less))),
+              here.1 (omega (arith, h.0), h.1 k (omega arith)),
+            ),
+      )
 
-  -- it counts nothing
-  pub counts-none : (amount : V → ℕ)
-      → (table_counts slots amount Skipped bytes o ≡ 0)
-      ↔ (IsSome (slot n) × OfEach slots (λ v. amount v ≡ 0) bytes o)
-  unfolding table_counts sum_of_slots
-  counts-none amount = (
-    λ none.
-        let sum : sum_below (λ i. amount_of amount (slot i)) n ≡ 0 = omega (arith, none) in (
-          ends (is_some (slot n)) (omega (arith, none)),
-          each-is (λ v. amount v ≡ 0)
-              (λ i below v is.
-              ap (amount_of amount) (sym is) ∙ sum-none (λ i. amount_of amount (slot i)) n sum i below),
-        ),
-    λ h.
-        let sum = none-sum (λ i. amount_of amount (slot i)) n (λ i below. none (slot i) (h.1 i below)) in
-        let end = ap lacks h.0 in
-        omega (arith, sum, end),
-  )
-    where
-      none : (x : Option V) → IsSomeAnd x (λ v. amount v ≡ 0) → amount_of amount x ≡ 0
-      none None h = absurd h
-      none (Some v) h = h
-
-  -- strict mode reads it
-  pub piece-made : {A : Type 0} (piece : V → Option (List A))
-      → IsSome (slot_table slots true piece bytes o)
-      ↔ (IsSome (slot n) × OfEach slots (λ v. IsSome (piece v)) bytes o)
-  unfolding slot_table
-  piece-made {A} piece = (
-    λ is.
-        let both = by-end (is_some (slot n)) (each_below (made_of slots piece bytes o) n) is in (
-          both.0,
-          each-is (λ v. IsSome (piece v))
-              (λ i below v at.
-              subst (λ (x : Option V). IsSome (x >>= piece)) at
-              (there (made_of slots piece bytes o i)
-              (λ none.
-              some≢none (each_below (made_of slots piece bytes o) n) both.1
-              (each_below-missing (made_of slots piece bytes o) n i below none)))),
-        ),
-    λ h.
-        end-by (is_some (slot n)) (each_below (made_of slots piece bytes o) n) h.0
-        (each_below-there (made_of slots piece bytes o) n (λ i below. some (slot i) (h.1 i below))),
-  )
-    where
-      some : (x : Option V) → IsSomeAnd x (λ v. IsSome (piece v)) → IsSome (x >>= piece)
-      some None h = absurd h
-      some (Some v) h = h
-
-  -- strict mode reads it, exactly if it counts nothing, and this holds of each of its entries
-  pub table-whole : {A : Type 0} (piece : V → Option (List A)) (amount : V → ℕ) (Holds : V → Type 0)
-      → ((v : V) → IsSome (piece v) ↔ ((amount v ≡ 0) × Holds v))
-      → IsSome (slot_table slots true piece bytes o)
+  table-whole : IsSome (slot_table slots true piece bytes o)
       ↔ ((table_counts slots amount Skipped bytes o ≡ 0) × OfEach slots Holds bytes o)
-  table-whole piece amount Holds same = (
-    λ is.
-        let read = (piece-made piece).0 is in
-        let each : (i : ℕ) → i < n → (v : V) → slot i ≡ Some v → (amount v ≡ 0) × Holds v =
-        λ i below v at. (same v).0 (each-at (λ v. IsSome (piece v)) read.1 i below v at) in (
-          (counts-none amount).1
-              (read.0, each-is (λ v. amount v ≡ 0) (λ i below v at. (each i below v at).0)),
-          each-is Holds (λ i below v at. (each i below v at).1),
-        ),
-    λ h.
-        let none = (counts-none amount).0 h.0 in
-        (piece-made piece).1 (
-          none.0,
-          each-is (λ v. IsSome (piece v))
-              (λ i below v at.
-              (same v).1
-              (each-at (λ v. amount v ≡ 0) none.1 i below v at, each-at Holds h.1 i below v at)),
-        ),
-  )
+  unfolding slot_table table_counts sum_of_slots
+  table-whole =
+      by-end (is_some (slot (stop slots bytes o))) (each_below (made_of slots piece bytes o) (stop slots bytes o)) _ _
+      (below (stop slots bytes o) (omega arith))
 
 -- ---- imports
+
+some-mapped : {A B : Type 0} (f : A → B) (x : Option A) → is_some (option_map f x) ≡ is_some x
+some-mapped f None = refl
+some-mapped f (Some x) = refl
 
 -- a table with its slots
 with-slots : {A B : Type 0} (made : A × List ℕ → B) (kept : List ℕ) (x : Option A)
@@ -178,27 +106,27 @@ module _ (format : Format EntryValue) (addressing : Addressing) (bytes : List �
   unfolding kept_entry hint_name
   entry-whole v = by v.is_ordinal (addressing.offset v.rva)
     where
-      named : {H : Type 0} (hinted : ℕ × List ℕ → H) (entry : H → LookupEntry) (hint : Option ℕ)
+      kept : Bool → Bool → Option ℕ → Option (List LookupEntry)
+      kept strict is_ordinal place =
+          (cond is_ordinal (given (ByOrdinal v.ordinal ∷ []))
+          (kept_name strict addressing.longest v.rva place)).value bytes
+
+      named : {H : Type 0} (made : ℕ × List ℕ → H) (entry : H → LookupEntry) (hint : Option ℕ)
           (text : Option (List ℕ))
-          → IsSome (or_left_out true (option_map entry (option_map hinted (pair_of hint (in_its_place true [] text)))))
+          → IsSome (or_left_out true (option_map entry (option_map made (pair_of hint (in_its_place true [] text)))))
           ↔ ((from_bool
-          (is_left_out (or_left_out false (option_map entry (option_map hinted (pair_of hint (in_its_place false [] text)))))
+          (is_left_out (or_left_out false (option_map entry (option_map made (pair_of hint (in_its_place false [] text)))))
           && true)
           ≡ 0)
           × (false ≡ false → IsSome text))
-      named hinted entry None None = (λ is. absurd cc, λ h. absurd cc)
-      named hinted entry None (Some name) = (λ is. absurd cc, λ h. absurd cc)
-      named hinted entry (Some x) None = (λ is. absurd cc, λ h. let named = h.1 refl in absurd cc)
-      named hinted entry (Some x) (Some name) = (λ is. (refl, λ by_name. refl), λ h. refl)
+      named made entry None None = (λ is. absurd cc, λ h. absurd cc)
+      named made entry None (Some name) = (λ is. absurd cc, λ h. absurd cc)
+      named made entry (Some x) None = (λ is. absurd cc, λ h. let named = h.1 refl in absurd cc)
+      named made entry (Some x) (Some name) = (λ is. (refl, λ by_name. refl), λ h. refl)
 
       by : (is_ordinal : Bool) (place : Option ℕ)
-          → IsSome ((cond is_ordinal (given (ByOrdinal v.ordinal ∷ []))
-          (kept_name true addressing.longest v.rva place)).value bytes)
-          ↔ ((from_bool
-          (is_left_out ((cond is_ordinal (given (ByOrdinal v.ordinal ∷ []))
-          (kept_name false addressing.longest v.rva place)).value bytes)
-          && not (not is_ordinal && is_none place))
-          ≡ 0)
+          → IsSome (kept true is_ordinal place)
+          ↔ ((from_bool (is_left_out (kept false is_ordinal place) && not (not is_ordinal && is_none place)) ≡ 0)
           × (is_ordinal ≡ false
           → IfSome place (λ p. IsSome ((text_within addressing.longest (p + 2)).value bytes))))
       by true place = (λ is. (refl, λ by_name. absurd cc), λ h. refl)
@@ -214,8 +142,8 @@ module _ (format : Format EntryValue) (addressing : Addressing) (bytes : List �
   lookup-whole None = (λ is. (refl, tt), λ h. refl)
   lookup-whole (Some o) =
       let whole =
-      table-whole (entry_slots format) bytes o (λ v. (kept_entry true addressing v).value bytes)
-      (λ v. from_bool (counts false addressing bytes Skipped v)) (HasImportName addressing bytes) entry-whole in
+      table-whole (entry_slots format) (λ v. (kept_entry true addressing v).value bytes)
+      (λ v. from_bool (counts false addressing bytes Skipped v)) (HasImportName addressing bytes) entry-whole bytes o in
       (λ is. whole.0 (sym (with-slots _ _ _) ∙ is), λ h. with-slots _ _ _ ∙ whole.1 h)
 
   -- what a descriptor leads to
@@ -229,18 +157,12 @@ module _ (format : Format EntryValue) (addressing : Addressing) (bytes : List �
       (lookup-whole (lookup_offset addressing r))
     where
       by : {L B : Type 0} (made : ((List ℕ × L) × List ℕ) → B) (name : Option (List ℕ)) (lookup : Option L)
-          (addresses : Option (List ℕ)) (ahead : ℕ) (Named : Type 0)
-          → (IsSome lookup ↔ ((ahead ≡ 0) × Named))
+          (addresses : Option (List ℕ)) (ahead : ℕ) (Named : Type 0) → (IsSome lookup ↔ ((ahead ≡ 0) × Named))
           → IsSome (or_left_out true (option_map made (pair_of (pair_of (in_its_place true [] name) lookup) addresses)))
           ↔ (((if not false && is_none addresses then 1 else ahead) ≡ 0) × (IsSome name × Named))
       by made None lookup addresses ahead Named same = (λ is. absurd cc, λ h. let name = h.1.0 in absurd cc)
-      by made (Some name) None addresses ahead Named same = (λ is. absurd cc, none addresses)
-        where
-          none : (addresses : Option (List ℕ))
-              → ((if not false && is_none addresses then 1 else ahead) ≡ 0) × (true ≡ true × Named)
-              → false ≡ true
-          none None h = absurd cc
-          none (Some x) h = same.1 (h.0, h.1.1)
+      by made (Some name) None None ahead Named same = (λ is. absurd cc, λ h. absurd cc)
+      by made (Some name) None (Some addresses) ahead Named same = (λ is. absurd cc, λ h. same.1 (h.0, h.1.1))
       by made (Some name) (Some x) None ahead Named same = (λ is. absurd cc, λ h. absurd cc)
       by made (Some name) (Some x) (Some addresses) ahead Named same =
           (λ is. let both = same.0 refl in (both.0, (refl, both.1)), λ h. refl)
@@ -253,15 +175,11 @@ module _ (format : Format EntryValue) (addressing : Addressing) (bytes : List �
   unfolding numbered_libraries_at
   imports-whole o =
       let whole =
-      table-whole import_slots bytes o (λ r. (kept_library true format addressing r).value bytes)
-      (record_counts false format addressing bytes Skipped) (HasNames addressing bytes format) library-whole in
+      table-whole import_slots (λ r. (kept_library true format addressing r).value bytes)
+      (record_counts false format addressing bytes Skipped) (HasNames addressing bytes format) library-whole bytes o in
       (λ is. whole.0 (sym (with-slots _ _ _) ∙ is), λ h. with-slots _ _ _ ∙ whole.1 h)
 
 -- ---- a walk over them, from their address on
-
-some-mapped : {A B : Type 0} (f : A → B) (x : Option A) → is_some (option_map f x) ≡ is_some x
-some-mapped f None = refl
-some-mapped f (Some x) = refl
 
 module _ (format : Format EntryValue) (m n : MapOfAddresses) (bytes : List ℕ) (strict : reads_strictly m ≡ true)
     (permissive : reads_strictly n ≡ false) (same : n.addressing ≡ m.addressing) (short : length bytes < 2 ^ 63) where
@@ -273,14 +191,14 @@ module _ (format : Format EntryValue) (m n : MapOfAddresses) (bytes : List ℕ) 
 
   -- nothing lies behind the file, so the end of the directory is skipped there
   behind : cursor_passes n format bytes (before_record (2 ^ 64 - 1)) Skipped ≢ 0
+  unfolding table_counts
   behind none =
       let o = 2 ^ 64 - 1 in
       let i = stop import_slots bytes o in
-      let end : IsSome (slot_at import_slots bytes o i) =
-      ((counts-none import_slots bytes o (record_counts false format m.addressing bytes Skipped)).0
-      (sym (skips o) ∙ none)).0 in
-      some≢none (slot_at import_slots bytes o i) end
-      (ap (option_map (import_record Little)) (slice_at-past bytes (o + 20 * i) 20 (omega (arith, short))))
+      let end : lacks (is_some (slot_at import_slots bytes o i)) ≡ 1 =
+      ap (λ (x : Option (List ℕ)). lacks (is_some (option_map (import_record Little) x)))
+      (slice_at-past bytes (o + 20 * i) 20 (omega (arith, short))) in
+      absurd (omega (arith, sym (skips o) ∙ none, end))
 
   by-place : (place : Option ℕ)
       → (IsSome (place >>= (λ o. (numbered_libraries_at true format m.addressing o).value bytes)) × (place ≢ Some 0))
@@ -328,7 +246,7 @@ module _ (format : Format EntryValue) (m n : MapOfAddresses) (bytes : List ℕ) 
   first-there gather read (Ok it) h =
       let same = sym (some-mapped gather (all_of (imports_left format it))) ∙ ap is_some h.value in
       (λ is. sym same ∙ is, λ is. same ∙ is)
-  first-there gather read (Err e) h = (λ is. absurd is, λ is. absurd (some≢none (read.value bytes) is h.0))
+  first-there gather read (Err e) h = (λ is. absurd is, λ is. let none = ap is_some h.0 in absurd cc)
 
   data-is : (rva : ℕ) → (numbered_data (reads_strictly m) format m.addressing rva).value bytes
       ≡ (m.addressing.offset rva >>= (λ o. (numbered_libraries_at true format m.addressing o).value bytes))
