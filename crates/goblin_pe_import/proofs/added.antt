@@ -8,3 +8,5 @@ pub mod ImportsWalk
 pub mod LibrariesWalk
 pub mod PassedLibraries
 pub mod StepsAhead
+pub mod WholeLibraries
+pub mod WholeReads

@@ -4,8 +4,10 @@
 mod ascii;
 mod imports;
 mod library_walk;
+mod modes;
 mod tested;
 
 pub use crate::import::passed::Passed;
 pub use imports::{AsciiImports, ImportCursor, Imports, WalkedImport};
 pub use library_walk::{Libraries, WalkedLibrary};
+pub use modes::{mode_imports, mode_libraries};
