@@ -41,15 +41,15 @@ module _ (m : MapOfAddresses) (places : TablePlaces) (bytes : List ℕ) (first p
   library = library_at format m.addressing bytes first p r
 
   abbrev items : List (Option NumberedImport)
-  items = library_items strict format m.addressing bytes library.index r
+  items = library_items strict format m.addressing bytes None library.index r
 
-  out-is : (library.is_left_out && not strict) ≡ is_skipped strict format m.addressing bytes r
+  out-is : (library.is_left_out && not strict) ≡ is_skipped strict format m.addressing bytes None r
   unfolding leads_to_none
   out-is = out-same strict (is_none ((addresses_of format m.addressing r).value bytes))
 
   -- what a row and a walk from its cursor count
   by-sum : (k : Count) (out : Bool) → (library.is_left_out && not strict) ≡ out
-      → record_counts strict format m.addressing bytes k r
+      → record_counts strict format m.addressing bytes k None r
       ≡ row_counts m format bytes k r + file_cursor_passes m places.magic bytes (inside_library strict m.addressing library) k
   unfolding record_counts
   by-sum k true out = rw (out, sym out-is ∙ out) (omega arith)
@@ -61,7 +61,7 @@ module _ (m : MapOfAddresses) (places : TablePlaces) (bytes : List ℕ) (first p
   by-out true out there = rw (out, sym out-is ∙ out) refl
   by-out false out there =
       let name = named strict ((name_at m.addressing r.name_rva).value bytes) there in
-      let addresses = pending_table strict format m.addressing (Some (address_table_rva r)) in
+      let addresses = pending_table strict format m.addressing None (Some (address_table_rva r)) in
       rw (out, sym out-is ∙ out, name, append-nil (refusal_of (addresses.value bytes))) refl
 
 pub libraries_end : LibrariesEnd

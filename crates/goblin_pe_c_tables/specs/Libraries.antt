@@ -1,6 +1,6 @@
 -- The records of libraries, and batches of them.
-use Rattle.std.specs.Prelude.{◌≡◌, ◌+◌, if◌then◌else◌, IsSome, Some, ℕ, Bool, List, [], ◌∷◌, take}
-use Rattle.std.specs.Prelude.{option_map, unwrap_or}
+use Rattle.std.specs.Prelude.{None, ◌≡◌, ◌+◌, if◌then◌else◌, IsSome, Some, ℕ, Bool, List, []}
+use Rattle.std.specs.Prelude.{◌∷◌, option_map, take, unwrap_or}
 use Rattle.std.specs.Result.{result_ok}
 use Rattle.goblin_pe_import.specs.declared.import.directory_entry as directory
 use directory.ImportDirectoryEntry.{ImportDirectoryEntry}
@@ -108,7 +108,7 @@ LibrariesEnd =
     let library = library_at format m.addressing bytes first p r in
     IsSome ((library_name strict m.addressing r).value bytes)
     → (import_table m places bytes).from (library_for_c m library).imports
-    ≡ Some (until_refused (library_items strict format m.addressing bytes library.index r))
+    ≡ Some (until_refused (library_items strict format m.addressing bytes None library.index r))
 
 -- Of each entry of the directory, a walk over all imports counts what the row of its library and a
 -- walk from the row's cursor count together.
@@ -118,6 +118,6 @@ LibrariesSum =
     (r : ImportDirectoryEntry)
     → let format = entry_format places.magic in
     let library = library_at format m.addressing bytes first p r in
-    record_counts (reads_strictly m) format m.addressing bytes k r
+    record_counts (reads_strictly m) format m.addressing bytes k None r
     ≡ row_counts m format bytes k r
     + position_passes m places bytes (library_for_c m library).imports k

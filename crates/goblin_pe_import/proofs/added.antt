@@ -8,3 +8,4 @@ pub mod ImportsWalk
 pub mod LibrariesWalk
 pub mod PassedLibraries
 pub mod StepsAhead
+pub mod TestedPieces

@@ -2,3 +2,4 @@ pub mod ImportCursors
 pub mod ImportWalks
 pub mod Libraries
 pub mod StepsAhead
+pub mod TestedTables

@@ -1,6 +1,6 @@
 -- What a walk over imports passes over, library by library.
-use Rattle.std.proofs.Common.{◌≡◌, ◌≤◌, ◌+◌, ◌-◌, ℕ, if◌then◌else◌, ◌&&◌, not, true, false, List, Option, Some, None, refl, ap, ◌∙◌, sym, arith, lit≤, Bool}
-use Rattle.goblin_base.specs.Tables.{Format}
+use Rattle.std.proofs.Common.{◌≡◌, ◌≤◌, ◌+◌, ◌-◌, ℕ, if◌then◌else◌, ◌&&◌, not, is_some, true, false, List, Option, Some, None, refl, ap, ◌∙◌, sym, arith, lit≤, Bool}
+use Rattle.goblin_base.specs.{Bytes.slice_at, Tables.Format, Tables.ends_table}
 use Rattle.goblin_base.proofs.SlotTables.{reads}
 use Rattle.goblin_pe_sect.specs.Addresses.{Addressing, MapOfAddresses, map_of, reads_strictly}
 use Rattle.goblin_pe_import.specs.ImportEntries.{EntryValue}
@@ -10,7 +10,9 @@ use Rattle.goblin_pe_import.specs.Passed.Count.{Skipped, Unmapped}
 use Rattle.goblin_pe_import.specs.added.ImportWalks.{is_skipped, leads_to_none, no_imports, record_counts, records_ahead, walk_passes, Walk}
 use Rattle.std.specs.Int.{from_bool}
 use Rattle.goblin_pe_import.specs.added.Libraries.{row_counts}
-use Rattle.goblin_pe_import.proofs.PassedSlots.{counts-next, risen-by, risen-same, risen-start, risen-then}
+use Rattle.goblin_pe_import.proofs.PassedSlots.{counts-end, counts-next, risen-by, risen-same, risen-start, risen-then}
+use Rattle.goblin_pe_import.proofs.added.TestedPieces.{in_permissive, in_strict, resumed-end, resumed-first}
+use Rattle.goblin_pe_import.specs.{Passed.table_counts, added.TestedTables.in_next}
 
 -- nothing more is passed over by a walk that has ended
 pub ended-passes : (format : Format EntryValue) (t : Walk) → t.at ≡ no_imports → (k : Count)
@@ -26,28 +28,74 @@ module _ (strict : Bool) (format : Format EntryValue) (addressing : Addressing) 
   abbrev entries : Count → Option ℕ → ℕ
   entries = entries_ahead strict format addressing bytes
 
-  abbrev records : Count → Option ℕ → ℕ
+  abbrev records : Count → Option ℕ → Option ℕ → ℕ
   records k = records_ahead strict format addressing bytes k
 
-  module _ (p : ℕ) (v : ImportDirectoryEntry) (r : reads import_slots bytes p ≡ Some v)
-      (going : is_last_record v ≡ false) where
-    first : (k : Count)
-        → records k (Some p) ≡ record_counts strict format addressing bytes k v + records k (Some (p + 20))
-    first k = counts-next import_slots (record_counts strict format addressing bytes k) k bytes p (lit≤ tt) v r going
+  -- the directory ends here
+  pub records-end : (p : ℕ) (tested : Option ℕ) (end : Option ImportDirectoryEntry)
+      → reads import_slots bytes p ≡ end → ends_table is_last_record end ≡ true → (now new : Passed)
+      → new.skipped ≡ risen now.skipped (from_bool (not (is_some (slice_at bytes p 20))))
+      → new.unmapped ≡ now.unmapped → (k : Count)
+      → HasRisen (count_of k now) (count_of k new) (records k (Some p) tested) 0
+  records-end p tested end r z now new skipped unmapped k =
+      counts-end import_slots (record_counts strict format addressing bytes k None) k bytes p (lit≤ tt)
+      (rw r z) now new skipped unmapped (count_of k now) (records k (Some p) tested)
+      (risen-same (count_of k now) (count_of k now) (records k (Some p) tested) (records k (Some p) tested)
+      (records k (Some p) None) (risen-start (count_of k now) (records k (Some p) tested))
+      (resumed-end import_slots
+      (table_counts import_slots (record_counts strict format addressing bytes k None) k bytes)
+      (record_counts strict format addressing bytes k) bytes p tested end r z))
+
+  -- a piece was tested of an address table, after its library's entries
+  pub records-tested : (next tested after : Option ℕ) → strict ≡ true → (old : ℕ) (k : Count)
+      → HasRisen old old (records k next (in_next strict tested))
+      (entries k None + records k next (in_next strict after))
+  records-tested next tested after is old k =
+      rw (in_strict strict tested is, in_strict strict after is)
+      (risen-same old old (records k next None) (records k next None) _ (risen-start old (records k next None))
+      (omega arith))
+
+  module _ (p : ℕ) (tested : Option ℕ) (v : ImportDirectoryEntry)
+      (r : reads import_slots bytes p ≡ Some v) (going : is_last_record v ≡ false) where
+    first : (k : Count) (tested : Option ℕ)
+        → records k (Some p) tested
+        ≡ record_counts strict format addressing bytes k tested v + records k (Some (p + 20)) None
+    first k tested =
+        let counts = record_counts strict format addressing bytes k in
+        resumed-first import_slots (table_counts import_slots (counts None) k bytes) counts bytes p tested
+        v r going (counts-next import_slots (counts None) k bytes p (lit≤ tt) v r going)
+
+    -- a piece was tested of its address table, before its library's entries
+    pub records-piece : (place : ℕ) → strict ≡ false
+        → is_skipped strict format addressing bytes tested v
+        ≡ is_skipped strict format addressing bytes (Some place) v
+        → (old : ℕ) (k : Count)
+        → HasRisen old old (records k (Some p) tested)
+        (entries k None + records k (Some p) (in_next strict (Some place)))
+    unfolding record_counts
+    records-piece place permissive same old k =
+        rw (in_permissive strict (Some place) permissive)
+        (risen-same old old (records k (Some p) tested) (records k (Some p) tested) _
+        (risen-start old (records k (Some p) tested))
+        (omega (arith, first k tested, first k (Some place), counts)))
+      where
+        counts : record_counts strict format addressing bytes k tested v
+            ≡ record_counts strict format addressing bytes k (Some place) v
+        counts = rw same refl
 
     -- its library is skipped
-    pub records-skip : is_skipped strict format addressing bytes v ≡ true → (now new : Passed)
+    pub records-skip : is_skipped strict format addressing bytes tested v ≡ true → (now new : Passed)
         → new.skipped ≡ risen now.skipped 1 → new.unmapped ≡ now.unmapped → (k : Count)
-        → HasRisen (count_of k now) (count_of k new) (records k (Some p))
-        (entries k None + records k (Some (p + 20)))
+        → HasRisen (count_of k now) (count_of k new) (records k (Some p) tested)
+        (entries k None + records k (Some (p + 20)) None)
     unfolding record_counts
     records-skip out now new skipped unmapped k =
-        risen-by (count_of k now) (count_of k now) (count_of k new) (records k (Some p)) (records k (Some p))
-        (as_skipped k) (entries k None + records k (Some (p + 20)))
-        (risen-start (count_of k now) (records k (Some p)))
-        (omega (arith, first k, counts k)) (more k)
+        risen-by (count_of k now) (count_of k now) (count_of k new) (records k (Some p) tested) (records k (Some p) tested)
+        (as_skipped k) (entries k None + records k (Some (p + 20)) None)
+        (risen-start (count_of k now) (records k (Some p) tested))
+        (omega (arith, first k tested, counts k)) (more k)
       where
-        counts : (k : Count) → record_counts strict format addressing bytes k v ≡ as_skipped k
+        counts : (k : Count) → record_counts strict format addressing bytes k tested v ≡ as_skipped k
         counts k = rw out refl
 
         more : (k : Count) → count_of k new ≡ risen (count_of k now) (as_skipped k)
@@ -55,15 +103,15 @@ module _ (strict : Bool) (format : Format EntryValue) (addressing : Addressing) 
         more Unmapped = omega (arith, unmapped)
 
     -- it is walked over
-    pub records-enter : is_skipped strict format addressing bytes v ≡ false → (old : ℕ) (k : Count)
-        → HasRisen old old (records k (Some p))
-        (entries k (lookup_offset addressing v) + records k (Some (p + 20)))
+    pub records-enter : is_skipped strict format addressing bytes tested v ≡ false → (old : ℕ) (k : Count)
+        → HasRisen old old (records k (Some p) tested)
+        (entries k (lookup_offset addressing v) + records k (Some (p + 20)) None)
     unfolding record_counts
     records-enter kept old k =
-        risen-same old old (records k (Some p)) (records k (Some p)) _ (risen-start old (records k (Some p)))
-        (omega (arith, first k, counts))
+        risen-same old old (records k (Some p) tested) (records k (Some p) tested) _ (risen-start old (records k (Some p) tested))
+        (omega (arith, first k tested, counts))
       where
-        counts : record_counts strict format addressing bytes k v ≡ entries k (lookup_offset addressing v)
+        counts : record_counts strict format addressing bytes k tested v ≡ entries k (lookup_offset addressing v)
         counts = rw kept refl
 
 -- ---- a walk over libraries
@@ -72,12 +120,12 @@ module _ (m : MapOfAddresses) (format : Format EntryValue) (bytes : List ℕ) (p
     (v : ImportDirectoryEntry) (r : reads import_slots bytes p ≡ Some v) (going : is_last_record v ≡ false) where
   -- a row whose library permissive mode leaves out
   pub is-skipped : (strictly left_out : Bool) → strictly ≡ reads_strictly m → left_out ≡ leads_to_none format m.addressing bytes v
-      → (not strictly && left_out) ≡ is_skipped (reads_strictly m) format m.addressing bytes v
+      → (not strictly && left_out) ≡ is_skipped (reads_strictly m) format m.addressing bytes None v
   unfolding leads_to_none
   is-skipped strictly left_out mode out = rw (mode, out) refl
 
   -- a row counts if its library is skipped
-  pub rows-more : (skipped : Bool) → skipped ≡ is_skipped (reads_strictly m) format m.addressing bytes v
+  pub rows-more : (skipped : Bool) → skipped ≡ is_skipped (reads_strictly m) format m.addressing bytes None v
       → (now new : Passed) → new.skipped ≡ risen now.skipped (from_bool skipped) → new.unmapped ≡ now.unmapped
       → (k : Count)
       → HasRisen (count_of k now) (count_of k new)
@@ -114,7 +162,8 @@ module _ (format : Format EntryValue) (start s : Walk)
   slots = entries_ahead strict format places s.bytes.now k
 
   abbrev later : ℕ
-  later = records_ahead strict format places s.bytes.now k s.at.next_record
+  later =
+      records_ahead strict format places s.bytes.now k s.at.next_record (in_next strict s.at.tested)
 
   -- entries of the library were passed over
   pub passes-kept : (place : Option ℕ) (passed : ℕ)

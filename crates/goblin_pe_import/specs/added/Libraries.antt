@@ -180,7 +180,7 @@ module _ (m : MapOfAddresses) (format : Format EntryValue) (bytes : List ℕ) (k
   -- how much a descriptor counts: its library, if a walk over imports skips it
   abbrev pub row_counts : ImportDirectoryEntry → ℕ
   row_counts r =
-      if is_skipped (reads_strictly m) format m.addressing bytes r then as_skipped k else 0
+      if is_skipped (reads_strictly m) format m.addressing bytes None r then as_skipped k else 0
 
   -- how much the descriptors count that come next at a cursor
   abbrev pub rows_ahead : ImportCursor → ℕ
