@@ -1,4 +1,3 @@
-pub mod AddressTables
 pub mod AsciiEntries
 pub mod ImportCursors
 pub mod ImportFaults

@@ -7,12 +7,12 @@ use Rattle.goblin_pe_import.specs.ImportEntries.{EntryValue}
 use Rattle.goblin_pe_import.specs.ImportRecords.{import_slots, is_last_record, lookup_offset, ImportDirectoryEntry}
 use Rattle.goblin_pe_import.specs.Passed.{Count, HasRisen, Passed, as_skipped, count_of, entries_ahead, risen, table_counts}
 use Rattle.goblin_pe_import.specs.Passed.Count.{Skipped, Unmapped}
-use Rattle.goblin_pe_import.specs.added.ImportWalks.{is_skipped, leads_to_none, no_imports, record_counts, records_ahead, walk_passes, Walk}
+use Rattle.goblin_pe_import.specs.added.ImportWalks.{is_skipped, lacks_table, no_imports, record_counts, records_ahead, walk_passes, Walk}
 use Rattle.std.specs.Int.{from_bool}
 use Rattle.goblin_pe_import.specs.added.Libraries.{row_counts}
 use Rattle.goblin_pe_import.proofs.PassedSlots.{counts-end, counts-next, risen-by, risen-same, risen-start, risen-then}
 use Rattle.goblin_pe_import.proofs.added.TestedPieces.{in_permissive, in_strict, resumed-end, resumed-first}
-use Rattle.goblin_pe_import.specs.{Passed.table_counts, added.TestedTables.in_next}
+use Rattle.goblin_pe_import.specs.added.TestedTables.{counts_resumed, in_next}
 
 -- nothing more is passed over by a walk that has ended
 pub ended-passes : (format : Format EntryValue) (t : Walk) → t.at ≡ no_imports → (k : Count)
@@ -23,6 +23,45 @@ ended-passes format t ended k = rw ended refl
 pub risen-beside : (old new before after rest : ℕ) → HasRisen old new before after
     → HasRisen old new (before + rest) (after + rest)
 risen-beside old new before after rest h = (omega (arith, h.0), omega (arith, h.0, h.1))
+
+-- ---- the descriptors of a directory, by how much each counts
+
+module _ (counts : Count → Option ℕ → ImportDirectoryEntry → ℕ) (bytes : List ℕ) (p : ℕ) where
+  abbrev pub from : Count → Option ℕ → Option ℕ → ℕ
+  from k = counts_resumed import_slots (counts k) k bytes
+
+  abbrev whole : Count → ℕ → ℕ
+  whole k = table_counts import_slots (counts k None) k bytes
+
+  -- the directory ends here
+  pub counted-end : (tested : Option ℕ) (end : Option ImportDirectoryEntry)
+      → reads import_slots bytes p ≡ end → ends_table is_last_record end ≡ true → (now new : Passed)
+      → new.skipped ≡ risen now.skipped (from_bool (not (is_some (slice_at bytes p 20))))
+      → new.unmapped ≡ now.unmapped → (k : Count)
+      → HasRisen (count_of k now) (count_of k new) (from k (Some p) tested) 0
+  counted-end tested end r z now new skipped unmapped k =
+      counts-end import_slots (counts k None) k bytes p (lit≤ tt) (rw r z) now new skipped unmapped
+      (count_of k now) (from k (Some p) tested)
+      (risen-same (count_of k now) (count_of k now) (from k (Some p) tested) (from k (Some p) tested)
+      (whole k p) (risen-start (count_of k now) (from k (Some p) tested))
+      (resumed-end import_slots (whole k) (counts k) bytes p tested end r z))
+
+  module _ (v : ImportDirectoryEntry) (r : reads import_slots bytes p ≡ Some v)
+      (going : is_last_record v ≡ false) where
+    pub counted-first : (k : Count) (tested : Option ℕ)
+        → from k (Some p) tested ≡ counts k tested v + from k (Some (p + 20)) None
+    counted-first k tested =
+        resumed-first import_slots (whole k) (counts k) bytes p tested v r going
+        (counts-next import_slots (counts k None) k bytes p (lit≤ tt) v r going)
+
+    -- a piece was tested of its address table
+    pub counted-piece : (tested : Option ℕ) (place : ℕ) (k : Count)
+        → counts k tested v ≡ counts k (Some place) v → (old : ℕ)
+        → HasRisen old old (from k (Some p) tested) (from k (Some p) (Some place))
+    counted-piece tested place k same old =
+        risen-same old old (from k (Some p) tested) (from k (Some p) tested) _
+        (risen-start old (from k (Some p) tested))
+        (omega (arith, counted-first k tested, counted-first k (Some place), same))
 
 module _ (strict : Bool) (format : Format EntryValue) (addressing : Addressing) (bytes : List ℕ) where
   abbrev entries : Count → Option ℕ → ℕ
@@ -37,14 +76,7 @@ module _ (strict : Bool) (format : Format EntryValue) (addressing : Addressing) 
       → new.skipped ≡ risen now.skipped (from_bool (not (is_some (slice_at bytes p 20))))
       → new.unmapped ≡ now.unmapped → (k : Count)
       → HasRisen (count_of k now) (count_of k new) (records k (Some p) tested) 0
-  records-end p tested end r z now new skipped unmapped k =
-      counts-end import_slots (record_counts strict format addressing bytes k None) k bytes p (lit≤ tt)
-      (rw r z) now new skipped unmapped (count_of k now) (records k (Some p) tested)
-      (risen-same (count_of k now) (count_of k now) (records k (Some p) tested) (records k (Some p) tested)
-      (records k (Some p) None) (risen-start (count_of k now) (records k (Some p) tested))
-      (resumed-end import_slots
-      (table_counts import_slots (record_counts strict format addressing bytes k None) k bytes)
-      (record_counts strict format addressing bytes k) bytes p tested end r z))
+  records-end p tested = counted-end (record_counts strict format addressing bytes) bytes p tested
 
   -- a piece was tested of an address table, after its library's entries
   pub records-tested : (next tested after : Option ℕ) → strict ≡ true → (old : ℕ) (k : Count)
@@ -60,10 +92,7 @@ module _ (strict : Bool) (format : Format EntryValue) (addressing : Addressing) 
     first : (k : Count) (tested : Option ℕ)
         → records k (Some p) tested
         ≡ record_counts strict format addressing bytes k tested v + records k (Some (p + 20)) None
-    first k tested =
-        let counts = record_counts strict format addressing bytes k in
-        resumed-first import_slots (table_counts import_slots (counts None) k bytes) counts bytes p tested
-        v r going (counts-next import_slots (counts None) k bytes p (lit≤ tt) v r going)
+    first k tested = counted-first (record_counts strict format addressing bytes) bytes p v r going k tested
 
     -- a piece was tested of its address table, before its library's entries
     pub records-piece : (place : ℕ) → strict ≡ false
@@ -117,29 +146,33 @@ module _ (strict : Bool) (format : Format EntryValue) (addressing : Addressing) 
 -- ---- a walk over libraries
 
 module _ (m : MapOfAddresses) (format : Format EntryValue) (bytes : List ℕ) (p : ℕ)
-    (v : ImportDirectoryEntry) (r : reads import_slots bytes p ≡ Some v) (going : is_last_record v ≡ false) where
-  -- a row whose library permissive mode leaves out
-  pub is-skipped : (strictly left_out : Bool) → strictly ≡ reads_strictly m → left_out ≡ leads_to_none format m.addressing bytes v
-      → (not strictly && left_out) ≡ is_skipped (reads_strictly m) format m.addressing bytes None v
-  unfolding leads_to_none
-  is-skipped strictly left_out mode out = rw (mode, out) refl
+    (v : ImportDirectoryEntry) (r : reads import_slots bytes p ≡ Some v) (going : is_last_record v ≡ false)
+    (tested : Option ℕ) where
+  abbrev counts : Count → Option ℕ → ImportDirectoryEntry → ℕ
+  counts = row_counts m format bytes
+
+  -- a piece was tested of its library's address table
+  pub rows-piece : (place : ℕ)
+      → lacks_table format m.addressing bytes tested v ≡ lacks_table format m.addressing bytes (Some place) v
+      → (old : ℕ) (k : Count)
+      → HasRisen old old (from counts bytes p k (Some p) tested) (from counts bytes p k (Some p) (Some place))
+  rows-piece place same old k =
+      counted-piece counts bytes p v r going tested place k
+      (ap (λ (out : Bool). if not (reads_strictly m) && out then as_skipped k else 0) same) old
 
   -- a row counts if its library is skipped
-  pub rows-more : (skipped : Bool) → skipped ≡ is_skipped (reads_strictly m) format m.addressing bytes None v
+  pub rows-more : (skipped : Bool) → skipped ≡ is_skipped (reads_strictly m) format m.addressing bytes tested v
       → (now new : Passed) → new.skipped ≡ risen now.skipped (from_bool skipped) → new.unmapped ≡ now.unmapped
       → (k : Count)
-      → HasRisen (count_of k now) (count_of k new)
-      (table_counts import_slots (row_counts m format bytes k) k bytes p)
-      (table_counts import_slots (row_counts m format bytes k) k bytes (p + 20))
+      → HasRisen (count_of k now) (count_of k new) (from counts bytes p k (Some p) tested)
+      (from counts bytes p k (Some (p + 20)) None)
   rows-more skipped is now new counted same k =
-      risen-by (count_of k now) (count_of k now) (count_of k new) (ahead k p) (ahead k p)
-      (if skipped then as_skipped k else 0) (ahead k (p + 20)) (risen-start (count_of k now) (ahead k p))
-      (rw is (counts-next import_slots (row_counts m format bytes k) k bytes p (lit≤ tt) v r going))
-      (more k skipped counted)
+      let ahead = from counts bytes p k (Some p) tested in
+      risen-by (count_of k now) (count_of k now) (count_of k new) ahead ahead
+      (if skipped then as_skipped k else 0) (from counts bytes p k (Some (p + 20)) None)
+      (risen-start (count_of k now) ahead)
+      (rw is (counted-first counts bytes p v r going k tested)) (more k skipped counted)
     where
-      ahead : Count → ℕ → ℕ
-      ahead k = table_counts import_slots (row_counts m format bytes k) k bytes
-
       more : (k : Count) (skipped : Bool) → new.skipped ≡ risen now.skipped (from_bool skipped)
           → count_of k new ≡ risen (count_of k now) (if skipped then as_skipped k else 0)
       more Skipped true counted = counted

@@ -1,33 +1,15 @@
 -- The steps that a walk over imports takes.
 use Rattle.std.proofs.Common.{◌≡◌, ◌⊎◌, ◌+◌, ◌-◌, ◌/◌, ℕ, suc, if◌then◌else◌, Bool, true, false, List, Option, Some, None, refl, sym, subst, ap, ◌∙◌, arith, inl, inr, lit≤}
-use Rattle.goblin_base.specs.Tables.{Format, ends_table, stop}
-use Rattle.goblin_base.proofs.SlotTables.{reach-stop, reads}
-use Rattle.readings.proofs.Loops.{AtRead}
-use Rattle.goblin_pe_import.specs.ImportEntries.{EntryValue, entry_slots}
-use Rattle.goblin_pe_import.specs.LookupReadings.{entry_number}
-use Rattle.goblin_pe_import.proofs.{LookupWalk.in_slot, SlotSteps.sum-first, SlotSteps.sum-here}
-use Rattle.goblin_pe_import.proofs.added.TestedPieces.{in_permissive, in_strict, resumed-end, resumed-first}
+use Rattle.goblin_base.specs.Tables.{Format, ends_table}
+use Rattle.goblin_base.proofs.SlotTables.{reads}
+use Rattle.goblin_pe_import.specs.ImportEntries.{EntryValue}
+use Rattle.goblin_pe_import.proofs.added.TestedPieces.{in_permissive, in_strict, summed-end, summed-first}
 use Rattle.goblin_pe_import.specs.added.TestedTables.{in_next, pieces, sum_resumed, tested_slots}
 use Rattle.goblin_pe_import.specs.Steps.{AreCounted, HasNotGrown, HasRefused, HasSteps, IsOut, slots_ahead}
-use Rattle.goblin_pe_import.specs.TableSums.{sum_of_slots}
 use Rattle.goblin_pe_import.specs.added.StepsAhead.{later_ahead, pending_ahead, pieces_ahead, record_steps, walk_ahead}
 use Rattle.goblin_pe_import.specs.ImportRecords.{address_table_rva, import_slots, is_last_record, lookup_offset, ImportDirectoryEntry}
 use Rattle.goblin_pe_import.specs.added.ImportWalks.{is_skipped, no_imports, Walk}
 use Rattle.goblin_pe_sect.specs.Addresses.{map_of, reads_strictly, Addressing}
-
--- ---- an address table
-
--- its slots, where a loop has reached the last one
-pub stop-reached : (format : Format EntryValue) (bytes : List ℕ) (o place : ℕ) (numbers : List ℕ)
-    → AtRead (entry_slots format) entry_number bytes o place numbers → (slot : Option EntryValue)
-    → reads (entry_slots format) bytes place ≡ slot
-    → ends_table (entry_slots format).is_last slot ≡ true → (size : ℕ) → size ≡ format.width
-    → (place - o) / size ≡ stop (entry_slots format) bytes o
-stop-reached format bytes o place numbers h slot r z size is =
-    ap (λ (n : ℕ). (place - o) / n) is
-    ∙ ap (λ (p : ℕ). (p - o) / format.width) (sym h.at.here)
-    ∙ in_slot format.width o h.at.index h.wide
-    ∙ sym (reach-stop (entry_slots format) bytes o place _ h.at slot r h.wide z)
 
 -- ---- a record
 
@@ -135,22 +117,17 @@ module _ (format : Format EntryValue) (s : Walk) where
       → reads import_slots s.bytes.now p ≡ end → ends_table is_last_record end ≡ true
       → pending tested left ≡ 0 → later tested left (Some p) ≡ 0
   later-few p tested left end r z done =
-      let steps = record_steps strict format places s.bytes.now in
-      let at =
-      resumed-end import_slots (sum_of_slots import_slots (steps None) s.bytes.now) steps s.bytes.now p
-      (in_next strict tested) end r z in
-      let none = sum-here import_slots (steps None) s.bytes.now p (lit≤ tt) end r z in
-      omega (arith, done, at, none)
+      let none =
+      summed-end (record_steps strict format places s.bytes.now) s.bytes.now p (in_next strict tested) end r z
+      in
+      omega (arith, done, none)
 
   module _ (p : ℕ) (tested left : Option ℕ) (v : ImportDirectoryEntry)
       (r : reads import_slots s.bytes.now p ≡ Some v) (going : is_last_record v ≡ false)
       (done : pending tested left ≡ 0) where
     first : (from : Option ℕ)
         → sum (Some p) from ≡ record_steps strict format places s.bytes.now from v + sum (Some (p + 20)) None
-    first from =
-        let steps = record_steps strict format places s.bytes.now in
-        resumed-first import_slots (sum_of_slots import_slots (steps None) s.bytes.now) steps s.bytes.now
-        p from v r going (sum-first import_slots s.bytes.now p (lit≤ tt) v r going (steps None))
+    first from = summed-first (record_steps strict format places s.bytes.now) s.bytes.now p from v r going
 
     -- a piece was tested of its library's address table, and there is more of it
     pub library-piece : (place : ℕ) → strict ≡ false
@@ -205,6 +182,23 @@ refused-then None now new before x rest grown h refused =
 refused-then (Some a) None new before x rest grown h refused = absurd h
 refused-then (Some a) (Some b) None before x rest grown h refused = absurd refused
 refused-then (Some a) (Some b) (Some d) before x rest grown h refused =
+    (omega (arith, grown, refused.0), omega (arith, h, refused.1))
+
+-- the same with nothing beside it
+pub counted-over : (old now new : Option ℕ) (before x y : ℕ) → AreCounted old now before x
+    → AreCounted now new x y → AreCounted old new before y
+counted-over None now new before x y h more = subst (λ (s : Option ℕ). AreCounted s new x y) h more
+counted-over (Some a) None new before x y h more = absurd h
+counted-over (Some a) (Some b) None before x y h more = absurd more
+counted-over (Some a) (Some b) (Some d) before x y h more = omega (arith, h, more)
+
+pub refused-over : (old now new : Option ℕ) (before x : ℕ) → HasNotGrown old now
+    → AreCounted old now before x → HasRefused now new x → HasRefused old new before
+refused-over None now new before x grown h refused =
+    subst (λ (s : Option ℕ). HasRefused s new x) h refused
+refused-over (Some a) None new before x grown h refused = absurd h
+refused-over (Some a) (Some b) None before x grown h refused = absurd refused
+refused-over (Some a) (Some b) (Some d) before x grown h refused =
     (omega (arith, grown, refused.0), omega (arith, h, refused.1))
 
 -- where a limit has steps left, a table's end is reached

@@ -1,5 +1,5 @@
 -- An address table that is tested in pieces.
-use Rattle.std.proofs.Common.{◌≡◌, ◌≤◌, ◌+◌, ℕ, zero, suc, Bool, true, false, not, if◌then◌else◌, is_none, is_some, IsSomeAnd, List, [], length, Option, Some, None, option_map, refl, sym, ap, ◌∙◌, arith}
+use Rattle.std.proofs.Common.{◌≡◌, ◌≤◌, ◌+◌, ℕ, zero, suc, Bool, true, false, not, if◌then◌else◌, is_none, is_some, IsSomeAnd, List, [], length, Option, Some, None, option_map, refl, sym, ap, ◌∙◌, arith, lit≤}
 use Rattle.goblin_base.specs.{declared.error.ErrorOf.ErrorOf, Answers.FirstFault}
 use Rattle.goblin_base.specs.Tables.{Format, SlotFormat, each_below, ends_table, join, made_of, slot_at, slot_table, stop}
 use Rattle.goblin_base.proofs.Below.{least-before}
@@ -9,7 +9,10 @@ use Rattle.readings.proofs.Loops.{read-end, read-missing, read-start, value_of}
 use Rattle.readings.proofs.Walks.{cause-slot, shifted, stop-first, stop-next}
 use Rattle.goblin_pe_import.specs.ImportEntries.{EntryValue, entry_slots}
 use Rattle.goblin_pe_import.specs.LookupReadings.{address_table, entry_number, entry_value_at}
-use Rattle.goblin_pe_import.specs.added.TestedTables.{in_next, resumed}
+use Rattle.goblin_pe_import.specs.added.TestedTables.{in_next, resumed, sum_resumed}
+use Rattle.goblin_pe_import.specs.ImportRecords.{ImportDirectoryEntry, import_slots, is_last_record}
+use Rattle.goblin_pe_import.specs.TableSums.{sum_of_slots}
+use Rattle.goblin_pe_import.proofs.SlotSteps.{sum-first, sum-here}
 
 pub some-of : {A : Type 0} {P : A → Type 0} (o : Option A) → IsSomeAnd o P
     → (x : A) × (o ≡ Some x) × P x
@@ -127,6 +130,14 @@ none-same None (Some y) h = absurd cc
 none-same (Some x) None h = absurd cc
 none-same (Some x) (Some y) h = refl
 
+pub is-there : (x : Option (List ℕ)) → is_read x ≡ Some (tt {0}) → is_none x ≡ false
+is-there None h = absurd cc
+is-there (Some x) h = refl
+
+pub is-missing : (x : Option (List ℕ)) → is_read x ≡ None → is_none x ≡ true
+is-missing None h = refl
+is-missing (Some x) h = absurd cc
+
 -- ---- a sum whose first descriptor is tested from a place on
 
 pub in_strict : (strict : Bool) (tested : Option ℕ) → strict ≡ true → in_next strict tested ≡ None
@@ -154,3 +165,20 @@ module _ {V : Type 0} (slots : SlotFormat V) (whole : ℕ → ℕ) (amount : Opt
   resumed-end None end r z = refl
   resumed-end (Some place) None r z = rw r refl
   resumed-end (Some place) (Some v) r z = rw (r, z) refl
+
+-- as a sum over import descriptors
+module _ (amount : Option ℕ → ImportDirectoryEntry → ℕ) (bytes : List ℕ) (p : ℕ) where
+  pub summed-first : (tested : Option ℕ) (v : ImportDirectoryEntry) → reads import_slots bytes p ≡ Some v
+      → is_last_record v ≡ false
+      → sum_resumed import_slots amount bytes (Some p) tested
+      ≡ amount tested v + sum_resumed import_slots amount bytes (Some (p + 20)) None
+  summed-first tested v r z =
+      resumed-first import_slots (sum_of_slots import_slots (amount None) bytes) amount bytes p tested v r z
+      (sum-first import_slots bytes p (lit≤ tt) v r z (amount None))
+
+  pub summed-end : (tested : Option ℕ) (end : Option ImportDirectoryEntry)
+      → reads import_slots bytes p ≡ end → ends_table is_last_record end ≡ true
+      → sum_resumed import_slots amount bytes (Some p) tested ≡ 0
+  summed-end tested end r z =
+      resumed-end import_slots (sum_of_slots import_slots (amount None) bytes) amount bytes p tested end r z
+      ∙ sum-here import_slots (amount None) bytes p (lit≤ tt) end r z

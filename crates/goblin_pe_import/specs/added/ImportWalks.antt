@@ -78,9 +78,11 @@ no_imports = record {
   tested = None;
 }
 
--- whether a descriptor leads to no library, because its address table cannot be read
-unfoldable pub leads_to_none : Format EntryValue → Addressing → List ℕ → ImportDirectoryEntry → Bool
-leads_to_none format addressing bytes r = is_none ((addresses_of format addressing r).value bytes)
+-- whether the address table of a descriptor cannot be read, or what is yet to be tested of it
+abbrev pub lacks_table : Format EntryValue → Addressing → List ℕ → Option ℕ → ImportDirectoryEntry
+    → Bool
+lacks_table format addressing bytes tested r =
+    is_none ((tested_table format addressing tested (address_table_rva r)).value bytes)
 
 module _ (strict : Bool) (format : Format EntryValue) (addressing : Addressing)
     (bytes : List ℕ) where
@@ -93,9 +95,7 @@ module _ (strict : Bool) (format : Format EntryValue) (addressing : Addressing)
   -- whether a walk skips a library, as it does in permissive mode if its address table cannot be
   -- read, or what is yet to be tested of it
   abbrev pub is_skipped : Option ℕ → ImportDirectoryEntry → Bool
-  is_skipped tested r =
-      not strict
-      && is_none ((tested_table format addressing tested (address_table_rva r)).value bytes)
+  is_skipped tested r = not strict && lacks_table format addressing bytes tested r
 
   -- What comes of the library of the descriptor with an index: its name is needed (without it, only
   -- a refusal comes), then its imports come, then strict mode needs its address table. Permissive

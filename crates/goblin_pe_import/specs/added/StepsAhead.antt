@@ -22,10 +22,6 @@ use Rattle.goblin_pe_import.specs.added.TestedTables.{TestsPiece, tested_table}
 
 -- ---- what is ahead
 
--- how many slots the table at an address has
-abbrev pub slots_at_address : Format EntryValue → Addressing → List ℕ → ℕ → ℕ
-slots_at_address format addressing bytes rva = slots_ahead format bytes (addressing.offset rva)
-
 module _ (strict : Bool) (format : Format EntryValue) (addressing : Addressing)
     (bytes : List ℕ) where
   -- in how many pieces an address table is tested
