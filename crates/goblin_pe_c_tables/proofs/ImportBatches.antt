@@ -133,16 +133,16 @@ filled-more old records first count x r within says values h = (
 -- ---- steps
 
 -- what a limit has left
-limit-left : (left : ℕ) (limit : Option ℕ) (before after : ℕ) → AreCounted (Some left) limit before after
+pub limit-left : (left : ℕ) (limit : Option ℕ) (before after : ℕ) → AreCounted (Some left) limit before after
     → before + unwrap_or limit 0 ≡ after + left
 limit-left left None before after h = absurd h
 limit-left left (Some b) before after h = h
 
-limit-out : (limit : Option ℕ) → IsOut limit → unwrap_or limit 0 ≡ 0
+pub limit-out : (limit : Option ℕ) → IsOut limit → unwrap_or limit 0 ≡ 0
 limit-out None out = absurd out
 limit-out (Some b) out = out
 
-steps-then : (steps left : ℕ) (limit : Option ℕ) (before ahead after : ℕ) → before + left ≡ ahead + steps
+pub steps-then : (steps left : ℕ) (limit : Option ℕ) (before ahead after : ℕ) → before + left ≡ ahead + steps
     → AreCounted (Some left) limit ahead after → AreCounted (Some steps) (Some (unwrap_or limit 0)) before after
 steps-then steps left None before ahead after h counted = absurd counted
 steps-then steps left (Some b) before ahead after h counted = omega (arith, h, counted)

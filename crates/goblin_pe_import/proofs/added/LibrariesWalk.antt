@@ -1,5 +1,5 @@
 -- The walk over the libraries of an import directory, look by look.
-use Rattle.std.proofs.Common.{◌≡◌, ◌≤◌, ◌+◌, ◌-◌, ℕ, suc, Bool, true, false, not, ◌&&◌, List, [], ◌∷◌, length, Option, Some, None, refl, sym, ap, subst, ◌∙◌, lit≤, arith, is_some, inl, inr, IsSomeAnd, Result, Ok, Err}
+use Rattle.std.proofs.Common.{◌≡◌, ◌≤◌, ◌+◌, ℕ, suc, Bool, true, false, not, ◌&&◌, List, [], ◌∷◌, length, Option, Some, None, refl, sym, ap, subst, ◌∙◌, lit≤, arith, is_some, inl, inr, IsSome, IsSomeAnd, Result, Ok, Err}
 use Rattle.std.specs.Int.{from_bool}
 use Rattle.goblin_base.specs.{declared.error.ErrorOf.ErrorOf, Answers.IsMemory, Bytes.slice_at, Tables.ends_table}
 use Rattle.goblin_base.proofs.{Records.record_at-some, SlotTables.reads}
@@ -8,15 +8,15 @@ use Rattle.readings.specs.Walks.{from_slot, table_walk, until_refused}
 use Rattle.readings.proofs.Walks.{IsSlotCause, cause-slot, slot-end, slot-going, slot-missing, until_refused-later, walk-slot}
 use Rattle.goblin_pe_sect.specs.Addresses.{reads_strictly}
 use Rattle.goblin_pe_import.specs.declared.import.passed.Passed.{Passed}
-use Rattle.goblin_pe_import.specs.{ImportReadings.import_record_at, KeptEntries.slots_bound}
+use Rattle.goblin_pe_import.specs.{ImportReadings.import_record_at}
 use Rattle.goblin_pe_import.specs.declared.added.library_walk.Libraries.{Libraries}
 use Rattle.goblin_pe_import.specs.declared.added.library_walk.WalkedLibrary.{WalkedLibrary}
 use Rattle.goblin_pe_import.specs.ImportRecords.{address_table_rva, import_slots, is_last_record, ImportDirectoryEntry}
-use Rattle.goblin_pe_import.specs.Passed.{Count, HasRisen, count_of, risen}
-use Rattle.goblin_pe_import.specs.Steps.{AreCounted, HasNotGrown, HasSteps, IsOut, spent}
-use Rattle.goblin_pe_import.specs.added.ImportWalks.{ImportCursor, is_skipped, lacks_table, no_imports}
+use Rattle.goblin_pe_import.specs.Passed.{Count, count_of, risen}
+use Rattle.goblin_pe_import.specs.Steps.{HasSteps, IsOut, spent}
+use Rattle.goblin_pe_import.specs.added.ImportWalks.{ImportCursor, lacks_table, no_imports}
 use Rattle.goblin_pe_import.specs.added.TestedTables.{pieces, tested_slots}
-use Rattle.goblin_pe_import.specs.added.Libraries.{AreLibrariesOver, GivesLibraryWithin, GivesNextLibrary, IsLibrariesCause, LibraryValue, MovesWithin, after_library, at_record, directory_records, libraries_ahead, libraries_bytes, libraries_cursor, libraries_format, libraries_left, libraries_map, libraries_next, libraries_passed, libraries_steps, library_at, library_row, library_value, row_counts, row_steps, tested_at}
+use Rattle.goblin_pe_import.specs.added.Libraries.{AreLibrariesOver, Awaits, GivesLibraryWithin, GivesNextLibrary, IsLibrariesCause, LibraryValue, MovesTo, MovesWithin, after_library, at_record, directory_records, libraries_ahead, libraries_bytes, libraries_format, libraries_left, libraries_map, libraries_next, libraries_steps, library_at, library_row, library_value, row_counts, row_steps, tested_at}
 use Rattle.goblin_pe_import.proofs.PassedSlots.{risen-start, risen-then}
 use Rattle.goblin_pe_import.proofs.SlotSteps.{counted-one, counted-start, grown_none, grown_spent, refused-one}
 use Rattle.goblin_pe_import.proofs.added.PassedLibraries.{counted-end, rows-more, rows-piece}
@@ -73,7 +73,7 @@ module _ (s : Libraries) (steps : Option ℕ) where
     steps = (refl, λ e fault. fault);
     fault = tt;
     over = same-over s;
-    after = tt;
+    after = inr (inl refl);
     passed = λ k. risen-start (count_of k s.passed) (libraries_ahead s k);
     spent = grown_none steps;
     looked = counted-start steps (libraries_steps s);
@@ -90,7 +90,7 @@ module _ (s : Libraries) (steps : Option ℕ) where
         steps = (rw is refl, λ e fault. absurd fault);
         fault = tt;
         over = record { bytes_are = refl; map_is = refl; format_is = refl };
-        after = tt;
+        after = inl refl;
         passed = λ k. rw is (risen-start (count_of k s.passed) 0);
         spent = grown_none steps;
         looked = rw is (counted-start steps 0);
@@ -156,7 +156,7 @@ module _ (s : Libraries) (steps : Option ℕ) where
           );
           fault = tt;
           over = record { bytes_are = refl; map_is = refl; format_is = refl };
-          after = tt;
+          after = inl refl;
           passed = λ k. rw is (counted-end counts bytes p tested entry r z s.passed passed skipped unmapped k);
           spent = grown_none steps;
           looked = rw (is, none) (counted-start steps 0);
@@ -228,7 +228,7 @@ module _ (s : Libraries) (steps : Option ℕ) where
             );
             fault = tt;
             over = rw after (record { bytes_are = refl; map_is = refl; format_is = refl });
-            after = tt;
+            after = rw (after, is) (inr (inr (refl, (place, refl))));
             passed = λ k. rw (after, is) (rows-piece (libraries_map s) (libraries_format s) bytes p v r going tested place same (count_of k s.passed) k);
             spent = grown_spent steps steps 1 (grown_none steps);
             looked = counted-one steps steps (libraries_steps s) (libraries_steps s) (libraries_steps t) has one
@@ -273,6 +273,28 @@ module _ (s : Libraries) (steps : Option ℕ) where
 
 -- ---- a call
 
+abbrev in_table : ImportCursor → ℕ → ImportCursor
+in_table c place = record no_imports {
+  first_record = c.first_record;
+  next_record = c.next_record;
+  tested = Some place;
+}
+
+awaits-then : (c d e : ImportCursor) → Awaits c d → Awaits d e → Awaits c e
+awaits-then c d e (inl same) (inl is) = inl (is ∙ same)
+awaits-then c d e (inr at) (inl is) = inr (at.0, (at.1.0, is ∙ at.1.1))
+awaits-then c d e (inl same) (inr to) =
+    subst (λ (x : ImportCursor). Awaits x e) same (inr to)
+awaits-then c d e (inr at) (inr to) =
+    inr (at.0, (to.1.0, to.1.1 ∙ ap (λ (x : ImportCursor). in_table x to.1.0) at.1.1))
+
+moves-on : (c d e : ImportCursor) → MovesTo c None d → MovesTo d None e → MovesTo c None e
+moves-on c d e h (inl ended) = inl ended
+moves-on c d e (inr at) (inr to) = inr (awaits-then c d e at to)
+moves-on c d e (inl ended) (inr (inl is)) = inl (is ∙ ended)
+moves-on c d e (inl ended) (inr (inr to)) =
+    absurd (cc (subst (λ (x : ImportCursor). IsSome x.next_record) ended to.0))
+
 -- looks that gave nothing, and one more
 pub moves-then : (s now t : Libraries) (old mid new : Option ℕ)
     (result : Option (Result WalkedLibrary ErrorOf)) → MovesWithin s old None now mid
@@ -281,7 +303,7 @@ moves-then s now t old mid new None h more = record {
   steps = (h.steps.0 ∙ more.steps.0, λ e fault. h.steps.1 e (more.steps.1 e fault));
   fault = tt;
   over = over-then s now t h.over more.over;
-  after = tt;
+  after = moves-on s.at now.at t.at h.after more.after;
   passed = λ k. risen-then _ _ _ _ _ _ (h.passed k) (more.passed k);
   spent = grown_then old mid new h.spent more.spent;
   looked = counted-over old mid new (libraries_steps s) (libraries_steps now) (libraries_steps t) h.looked more.looked;

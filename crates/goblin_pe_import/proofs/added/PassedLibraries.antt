@@ -1,5 +1,5 @@
 -- What a walk over imports passes over, library by library.
-use Rattle.std.proofs.Common.{◌≡◌, ◌≤◌, ◌+◌, ◌-◌, ℕ, if◌then◌else◌, ◌&&◌, not, is_some, true, false, List, Option, Some, None, refl, ap, ◌∙◌, sym, arith, lit≤, Bool}
+use Rattle.std.proofs.Common.{◌≡◌, ◌+◌, ℕ, if◌then◌else◌, ◌&&◌, not, is_some, true, false, List, Option, Some, None, refl, ap, arith, lit≤, Bool}
 use Rattle.goblin_base.specs.{Bytes.slice_at, Tables.Format, Tables.ends_table}
 use Rattle.goblin_base.proofs.SlotTables.{reads}
 use Rattle.goblin_pe_sect.specs.Addresses.{Addressing, MapOfAddresses, map_of, reads_strictly}

@@ -1,5 +1,5 @@
 -- The steps that a walk over imports takes.
-use Rattle.std.proofs.Common.{◌≡◌, ◌⊎◌, ◌+◌, ◌-◌, ◌/◌, ℕ, suc, if◌then◌else◌, Bool, true, false, List, Option, Some, None, refl, sym, subst, ap, ◌∙◌, arith, inl, inr, lit≤}
+use Rattle.std.proofs.Common.{◌≡◌, ◌⊎◌, ◌+◌, ℕ, suc, if◌then◌else◌, Bool, true, false, List, Option, Some, None, refl, sym, subst, ap, ◌∙◌, arith, inl, inr}
 use Rattle.goblin_base.specs.Tables.{Format, ends_table}
 use Rattle.goblin_base.proofs.SlotTables.{reads}
 use Rattle.goblin_pe_import.specs.ImportEntries.{EntryValue}

@@ -1,7 +1,7 @@
 -- The walk over the libraries of an import directory: what is still to come.
 use Rattle.std.specs.Prelude.{◌≡◌, ℕ, Bool, ◌&&◌, not, if◌then◌else◌, List, [], ◌∷◌, Option}
 use Rattle.std.specs.Prelude.{Some, None, unwrap_or, Result, Ok, Err, IfErr, IfOk, IfSome}
-use Rattle.std.specs.Prelude.{◌+◌, ◌<◌, ◌≤◌, IsSomeAnd, MatchOption, is_none}
+use Rattle.std.specs.Prelude.{◌+◌, ◌<◌, ◌≤◌, ◌⊎◌, IsSome, IsSomeAnd, MatchOption, ⊤, is_none}
 use Rattle.std.specs.{Option.ok_or, Result.result_map_both}
 use Rattle.goblin_base.specs.declared.error.ErrorOf.{ErrorOf}
 use Rattle.goblin_base.specs.{declared.error.ErrorOf.TheVariants.Malformed, Answers.IsMemory}
@@ -245,6 +245,23 @@ given_of (Some (Ok None)) = None
 given_of (Some (Ok (Some x))) = Some (Ok x)
 given_of (Some (Err e)) = Some (Err e)
 
+-- A walk stands at the cursor c, or in the address table of the descriptor that comes next there.
+abbrev pub Awaits : ImportCursor → ImportCursor → Type 0
+Awaits c d =
+    (d ≡ c)
+    ⊎ (IsSome c.next_record × ((place : ℕ) × (d ≡ record no_imports {
+      first_record = c.first_record;
+      next_record = c.next_record;
+      tested = Some place;
+    })))
+
+-- Where a call that is not refused moves the walk from a cursor: past the library that it gives. Or
+-- to the end; or the next library is yet to come.
+abbrev pub MovesTo : ImportCursor → Option (Result WalkedLibrary ErrorOf) → ImportCursor → Type 0
+MovesTo c None d = (d ≡ no_imports) ⊎ Awaits c d
+MovesTo c (Some (Ok x)) d = d ≡ after_library (library_value x)
+MovesTo c (Some (Err e)) d = ⊤
+
 -- A call with a budget of steps moves the walk s to t, and gives the next library, or none, or an
 -- error. It keeps the bytes and the map.
 pub record MovesWithin (s : Libraries) (old : Option ℕ)
@@ -252,8 +269,7 @@ pub record MovesWithin (s : Libraries) (old : Option ℕ)
   pub steps : GivesWithin library_value libraries_left IsLibrariesCause s result t
   pub fault : IfSome result (λ r. IfErr r (λ e. ¬ IsMemory e))
   pub over : AreLibrariesOver (libraries_map s) (libraries_format s) (libraries_bytes s) t
-  pub after : IfSome result (λ r. IfOk r (λ x. libraries_cursor t
-      ≡ after_library (library_value x)))
+  pub after : MovesTo (libraries_cursor s) result (libraries_cursor t)
   pub passed : CountsRowsOf s result t
   pub spent : HasNotGrown old new
   pub looked : LooksAt result old new (libraries_steps s) (libraries_steps t)
