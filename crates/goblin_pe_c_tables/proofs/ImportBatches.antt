@@ -6,11 +6,10 @@ use Rattle.goblin_base.specs.declared.error.ErrorOf.{ErrorOf}
 use Rattle.goblin_pe_import.specs.declared.added.imports.ImportCursor.{ImportCursor}
 use Rattle.goblin_pe_import.specs.declared.added.imports.WalkedImport.{WalkedImport}
 use Rattle.goblin_pe_import.specs.{Imports.NumberedImport, KeptEntries.entries_from}
-use Rattle.goblin_pe_import.specs.Steps.{AreCounted}
+use Rattle.goblin_pe_import.specs.Steps.{AreCounted, IsOut}
 use Rattle.goblin_pe_sect.specs.Addresses.{MapOfAddresses, reads_strictly}
 use Rattle.goblin_pe_import.specs.added.ImportWalks.{imports_next, walked_value}
 use Rattle.goblin_pe.specs.added.Layouts.{GivesFileWithin, IsImportWalk, file_ahead, file_bytes, file_cursor, file_cursor_ahead, file_cursor_left, file_cursor_passes, file_imports_left, file_passed, file_passes}
-use Rattle.goblin_pe_import.specs.added.StepsAhead.{AtSteps, HaveRunOut}
 use Rattle.goblin_pe.proofs.added.ImportStarts.{walk-ahead, walk-left, walk-passes}
 use Rattle.goblin_pe.specs.{Whole.TablePlaces, declared.added.file_imports.FileImports.FileImports}
 use Rattle.goblin_pe.specs.declared.added.file_imports.FileImports.TheVariants.{Narrow, Wide}
@@ -30,7 +29,7 @@ option-from_for None = refl
 option-from_for (Some n) = refl
 
 pub cursor-from_for : (c : ImportCursor) → cursor_from_c (cursor_for_c c) ≡ c
-cursor-from_for c = rw (option-from_for c.next_record, option-from_for c.place, option-from_for c.pending) refl
+cursor-from_for c = rw (option-from_for c.next_record, option-from_for c.place, option-from_for c.pending, option-from_for c.tested) refl
 
 pub none-is : {A : Type 0} (o : Option A) → is_none o ≡ true → o ≡ None
 none-is None is = refl
@@ -134,23 +133,19 @@ filled-more old records first count x r within says values h = (
 -- ---- steps
 
 -- what a limit has left
-limit-left : (left : ℕ) (limit : Option ℕ) (before after : ℕ) → AreCounted (Some left) limit before after
+pub limit-left : (left : ℕ) (limit : Option ℕ) (before after : ℕ) → AreCounted (Some left) limit before after
     → before + unwrap_or limit 0 ≡ after + left
 limit-left left None before after h = absurd h
 limit-left left (Some b) before after h = h
 
-limit-out : (n left : ℕ) (limit : Option ℕ) (before after : ℕ) → HaveRunOut n (Some left) limit before after
-    → unwrap_or limit 0 ≡ 0
-limit-out n left None before after out = absurd out
-limit-out n left (Some b) before after out = out.0
+pub limit-out : (limit : Option ℕ) → IsOut limit → unwrap_or limit 0 ≡ 0
+limit-out None out = absurd out
+limit-out (Some b) out = out
 
-steps-then : (n steps left : ℕ) (limit : Option ℕ) (before ahead after : ℕ) → before + left ≡ ahead + steps
-    → AtSteps n (Some left) limit ahead after → AtSteps n (Some steps) (Some (unwrap_or limit 0)) before after
-steps-then n steps left None before ahead after h (inl counted) = absurd counted
-steps-then n steps left None before ahead after h (inr out) = absurd out
-steps-then n steps left (Some b) before ahead after h (inl counted) = inl (omega (arith, h, counted))
-steps-then n steps left (Some b) before ahead after h (inr out) =
-    inr (out.0, omega (arith, h, out.1), omega (arith, h, out.2))
+pub steps-then : (steps left : ℕ) (limit : Option ℕ) (before ahead after : ℕ) → before + left ≡ ahead + steps
+    → AreCounted (Some left) limit ahead after → AreCounted (Some steps) (Some (unwrap_or limit 0)) before after
+steps-then steps left None before ahead after h counted = absurd counted
+steps-then steps left (Some b) before ahead after h counted = omega (arith, h, counted)
 
 -- the bytes that a walk is over
 pub over-bytes : (m : MapOfAddresses) (magic : ℕ) (bytes : List ℕ) (imports : FileImports) → IsImportWalk m magic bytes imports
@@ -213,7 +208,7 @@ module _ {m : MapOfAddresses} {places : TablePlaces} {bytes : List ℕ} {steps :
   abbrev Says : PeImportCursor → ℕ → Passed → Bool → List (Option NumberedImport) → Type 0
   Says q rest counts is_done items =
       TellsEnd (rest ≡ 0) (drop count items) (length old) count is_done
-      × (AtSteps (length bytes) (Some steps) (Some rest) (position_ahead m places bytes from) (position_ahead m places bytes q)
+      × (AreCounted (Some steps) (Some rest) (position_ahead m places bytes from) (position_ahead m places bytes q)
       × (is_done ≡ true → position_ahead m places bytes q ≡ 0)
       × ((k : Count) → HasRisen 0 (batch_count k (passed_batch count counts is_done)) (position_passes m places bytes from k) (position_passes m places bytes q k)))
 
@@ -231,8 +226,8 @@ module _ {m : MapOfAddresses} {places : TablePlaces} {bytes : List ℕ} {steps :
       by Unmapped r = r
 
   -- what was looked at up to the last import
-  kept : AtSteps (length bytes) (Some steps) (Some left) (position_ahead m places bytes from) (position_ahead m places bytes p)
-  kept = inl (h.counted ∙ ap (λ (n : ℕ). n + steps) (sym h.goes.ahead))
+  kept : AreCounted (Some steps) (Some left) (position_ahead m places bytes from) (position_ahead m places bytes p)
+  kept = h.counted ∙ ap (λ (n : ℕ). n + steps) (sym h.goes.ahead)
 
   counts : (k : Count) → HasRisen 0 (batch_count k (passed_batch count passed false)) (position_passes m places bytes from k) (position_passes m places bytes p k)
   counts = in-batch p passed false now h.goes.passes h.passes
@@ -246,10 +241,10 @@ module _ {m : MapOfAddresses} {places : TablePlaces} {bytes : List ℕ} {steps :
     over : file_bytes now ≡ bytes
     over = over-bytes m places.magic bytes now h.goes.walk
 
-    looked : AtSteps (length bytes) (Some steps) (Some rest) (position_ahead m places bytes from) (position_ahead m places bytes q)
+    looked : AreCounted (Some steps) (Some rest) (position_ahead m places bytes from) (position_ahead m places bytes q)
     looked =
-        rw (is, goes.ahead) (steps-then (length bytes) steps left limit (position_ahead m places bytes from) (file_ahead now) (file_ahead next) h.counted
-        (subst (λ (b : List ℕ). AtSteps (length b) (Some left) limit (file_ahead now) (file_ahead next)) over given.looked))
+        rw (is, goes.ahead) (steps-then steps left limit (position_ahead m places bytes from) (file_ahead now) (file_ahead next) h.counted
+        given.looked)
 
     counts-all : (is_done : Bool) (k : Count) → HasRisen 0 (batch_count k (passed_batch count (file_passed next) is_done)) (position_passes m places bytes from k) (position_passes m places bytes q k)
     counts-all is_done = in-batch q (file_passed next) is_done next goes.passes (more next given.passed)
@@ -270,7 +265,7 @@ module _ {m : MapOfAddresses} {places : TablePlaces} {bytes : List ℕ} {steps :
     imports-end false ends = elim given.ended [
       | inl ended ↦ absurd (cc (ends ∙ ap is_over ended))
       | inr run ↦
-          let out : rest ≡ 0 = is ∙ limit-out (length (file_bytes now)) left limit (file_ahead now) (file_ahead next) run in
+          let out : rest ≡ 0 = is ∙ limit-out limit run in
           items-gives h.at (Says q rest (file_passed next) false) q
           (items-cut h.at q out (goes.left ∙ ap (λ (items : List (Option NumberedImport)). Some items) (sym given.steps.0)) stays)
           (done-cut h.at out, (looked, (λ done. absurd (cc done)), counts-all false))

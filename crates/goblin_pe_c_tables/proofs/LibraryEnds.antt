@@ -7,7 +7,7 @@ use Rattle.goblin_pe_sect.specs.Addresses.{MapOfAddresses, reads_strictly}
 use Rattle.goblin_pe_import.specs.ImportEntries.{EntryValue}
 use Rattle.goblin_pe_import.specs.ImportRecords.{address_table_rva}
 use Rattle.goblin_pe_import.specs.Imports.{NumberedImport}
-use Rattle.goblin_pe_import.specs.added.ImportWalks.{addresses_of, imports_next, is_skipped, leads_to_none, library_items, record_counts, library_name, pending_table}
+use Rattle.goblin_pe_import.specs.added.ImportWalks.{imports_next, is_skipped, library_items, record_counts, library_name, pending_table}
 use Rattle.goblin_pe_import.specs.KeptEntries.{entries_from}
 use Rattle.goblin_pe_import.specs.added.Libraries.{LibraryValue, inside_library, library_at, row_counts}
 use Rattle.goblin_pe_import.specs.declared.import.directory_entry.ImportDirectoryEntry.{ImportDirectoryEntry}
@@ -30,7 +30,7 @@ out-same true false = refl
 out-same false true = refl
 out-same false false = refl
 
-module _ (m : MapOfAddresses) (places : TablePlaces) (bytes : List ℕ) (first p : ℕ) (r : ImportDirectoryEntry) where
+module _ (m : MapOfAddresses) (places : TablePlaces) (bytes : List ℕ) (first p : ℕ) (tested : Option ℕ) (r : ImportDirectoryEntry) where
   abbrev strict : Bool
   strict = reads_strictly m
 
@@ -38,19 +38,18 @@ module _ (m : MapOfAddresses) (places : TablePlaces) (bytes : List ℕ) (first p
   format = entry_format places.magic
 
   abbrev library : LibraryValue
-  library = library_at format m.addressing bytes first p r
+  library = library_at format m.addressing bytes first p tested r
 
   abbrev items : List (Option NumberedImport)
-  items = library_items strict format m.addressing bytes library.index r
+  items = library_items strict format m.addressing bytes tested library.index r
 
-  out-is : (library.is_left_out && not strict) ≡ is_skipped strict format m.addressing bytes r
-  unfolding leads_to_none
-  out-is = out-same strict (is_none ((addresses_of format m.addressing r).value bytes))
+  out-is : (library.is_left_out && not strict) ≡ is_skipped strict format m.addressing bytes tested r
+  out-is = out-same strict library.is_left_out
 
   -- what a row and a walk from its cursor count
   by-sum : (k : Count) (out : Bool) → (library.is_left_out && not strict) ≡ out
-      → record_counts strict format m.addressing bytes k r
-      ≡ row_counts m format bytes k r + file_cursor_passes m places.magic bytes (inside_library strict m.addressing library) k
+      → record_counts strict format m.addressing bytes k tested r
+      ≡ row_counts m format bytes k tested r + file_cursor_passes m places.magic bytes (inside_library strict m.addressing library) k
   unfolding record_counts
   by-sum k true out = rw (out, sym out-is ∙ out) (omega arith)
   by-sum k false out = rw (out, sym out-is ∙ out) (omega arith)
@@ -61,20 +60,20 @@ module _ (m : MapOfAddresses) (places : TablePlaces) (bytes : List ℕ) (first p
   by-out true out there = rw (out, sym out-is ∙ out) refl
   by-out false out there =
       let name = named strict ((name_at m.addressing r.name_rva).value bytes) there in
-      let addresses = pending_table strict format m.addressing (Some (address_table_rva r)) in
+      let addresses = pending_table strict format m.addressing None (Some (address_table_rva r)) in
       rw (out, sym out-is ∙ out, name, append-nil (refusal_of (addresses.value bytes))) refl
 
 pub libraries_end : LibrariesEnd
 unfolding LibrariesEnd
-libraries_end m places bytes first p r there =
-    let c = inside_library (reads_strictly m) m.addressing (library m places bytes first p r) in
+libraries_end m places bytes first p tested r there =
+    let c = inside_library (reads_strictly m) m.addressing (library m places bytes first p tested r) in
     ap (λ (at : ImportCursor). Some (file_cursor_left m places.magic bytes at)) (cursor-from_for c)
-    ∙ ap (λ (items : List (Option NumberedImport)). Some items) (by-out m places bytes first p r _ refl there)
+    ∙ ap (λ (items : List (Option NumberedImport)). Some items) (by-out m places bytes first p tested r _ refl there)
 
 pub libraries_sum : LibrariesSum
 unfolding LibrariesSum
-libraries_sum m places bytes k first p r =
-    let c = inside_library (reads_strictly m) m.addressing (library m places bytes first p r) in
-    by-sum m places bytes first p r k _ refl
-    ∙ ap (λ (at : ImportCursor). row_counts m (entry_format places.magic) bytes k r + file_cursor_passes m places.magic bytes at k)
+libraries_sum m places bytes k first p tested r =
+    let c = inside_library (reads_strictly m) m.addressing (library m places bytes first p tested r) in
+    by-sum m places bytes first p tested r k _ refl
+    ∙ ap (λ (at : ImportCursor). row_counts m (entry_format places.magic) bytes k tested r + file_cursor_passes m places.magic bytes at k)
     (sym (cursor-from_for c))

@@ -10,7 +10,7 @@ use Rattle.goblin_pe_sect.specs.BaseRelocations.{Block, block_at, block_items}
 use Rattle.goblin_pe_import.specs.ImportLookup.{entries_32, entries_64}
 use Rattle.goblin_pe_import.specs.declared.added.imports.ImportCursor.{ImportCursor}
 use Rattle.goblin_pe_import.specs.{Imports.NumberedImport, TableSums.amount_of}
-use Rattle.goblin_pe_import.specs.added.StepsAhead.{AtSteps}
+use Rattle.goblin_pe_import.specs.Steps.{AreCounted}
 use Rattle.goblin_pe_sect.specs.Addresses.{MapOfAddresses}
 use Rattle.goblin_pe_export.specs.ExportRecords.{ExportTables}
 use Rattle.goblin_pe_export.specs.added.ExportWalks.{NumberedExport, numbered_from}
@@ -86,6 +86,7 @@ cursor_from_c p = record {
   table_offset = p.table_offset;
   place = then_some p.has_place p.place;
   pending = then_some p.has_address_table p.address_table;
+  tested = then_some p.has_tested p.tested;
 }
 
 abbrev pub cursor_for_c : ImportCursor → PeImportCursor
@@ -95,6 +96,7 @@ cursor_for_c c = record {
   library = c.library;
   table_offset = c.table_offset;
   place = unwrap_or c.place 0;
+  tested = unwrap_or c.tested 0;
   name_rva = c.name_rva;
   rva = c.rva;
   address_table = unwrap_or c.pending 0;
@@ -102,6 +104,7 @@ cursor_for_c c = record {
   has_next = is_some c.next_record;
   has_place = is_some c.place;
   has_address_table = is_some c.pending;
+  has_tested = is_some c.tested;
 }
 
 -- the cursor at a position: the one that it says, or else where the imports begin
@@ -141,13 +144,13 @@ abbrev pub batch_count : Count → PeBatch → ℕ
 batch_count Skipped batch = batch.skipped
 batch_count Unmapped batch = batch.unmapped
 
--- A step looks at a slot or a record. Of the steps are gone as many as are no longer ahead; or all,
--- and at most n more, as the slots of an address table are looked at in one go. At the end none is
--- ahead. What is no longer ahead of what is passed over is counted.
+-- A step looks at a slot, at a record, or at 64 slots of an address table. Of the steps are gone as
+-- many as are no longer ahead. At the end none is ahead. What is no longer ahead of what is passed
+-- over is counted.
 abbrev pub GivesImports : ℕ → ℕ → SaysBatch PeImportCursor PeImport
 GivesImports before after m places bytes old new batch =
     FillsNext (import_table m places bytes) (after ≡ 0)
-    (λ left. AtSteps (length bytes) (Some before) (Some after)
+    (λ left. AreCounted (Some before) (Some after)
     (position_ahead m places bytes old.position) (position_ahead m places bytes new.position)
     × ((batch.is_done ≡ true) → (position_ahead m places bytes new.position ≡ 0))
     × ((k : Count) → HasRisen 0 (batch_count k batch)

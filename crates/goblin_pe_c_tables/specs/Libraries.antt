@@ -1,6 +1,6 @@
 -- The records of libraries, and batches of them.
-use Rattle.std.specs.Prelude.{◌≡◌, ◌+◌, if◌then◌else◌, IsSome, Some, ℕ, Bool, List, [], ◌∷◌, take}
-use Rattle.std.specs.Prelude.{option_map, unwrap_or}
+use Rattle.std.specs.Prelude.{◌≡◌, ◌+◌, ◌⊎◌, IsSome, IsSomeAnd, Option, Some, ℕ, Bool, true, false}
+use Rattle.std.specs.Prelude.{List, [], ◌∷◌, option_map, take, unwrap_or}
 use Rattle.std.specs.Result.{result_ok}
 use Rattle.goblin_pe_import.specs.declared.import.directory_entry as directory
 use directory.ImportDirectoryEntry.{ImportDirectoryEntry}
@@ -8,7 +8,9 @@ use Rattle.goblin_pe_sect.specs.Addresses.{MapOfAddresses, reads_strictly}
 use Rattle.goblin_pe_import.specs.added.ImportWalks.{library_items, library_name, no_imports}
 use Rattle.goblin_pe_import.specs.{added.ImportWalks.record_counts, TableSums.amount_of}
 use Rattle.goblin_pe_import.specs.Passed.{Count, HasRisen}
-use Rattle.goblin_pe_import.specs.added.Libraries.{row_counts, rows_ahead}
+use Rattle.goblin_pe_import.specs.added.Libraries.{Awaits, row_counts, rows_ahead, rows_steps}
+use Rattle.goblin_pe_import.specs.declared.added.imports.ImportCursor.{ImportCursor}
+use Rattle.goblin_pe_import.specs.Steps.{AreCounted}
 use Rattle.readings.specs.Walks.{until_refused}
 use Rattle.goblin_pe_import.specs.added.Libraries.{IsCursorEndCause, LibraryValue, after_library}
 use Rattle.goblin_pe_import.specs.added.Libraries.{cursor_libraries, inside_library, library_at}
@@ -78,14 +80,34 @@ position_rows m places bytes p k =
     amount_of (rows_ahead m (entry_format places.magic) bytes k)
     ((import_cursor m places p).value bytes)
 
--- The new position is the end if the call is done, or else after the libraries that are given. What
--- is no longer ahead of what counts is counted.
-abbrev pub GivesLibraries : SaysBatch PeImportCursor PeLibrary
-GivesLibraries m places bytes old new batch =
-    FillsNext (library_table m places bytes) ⊥
-    (λ left. (new.position
-    ≡ (if batch.is_done then cursor_for_c no_imports
-    else position_after old.position (take batch.count (values_before left))))
+-- how many steps the libraries take that come from a position on
+abbrev pub position_steps : MapOfAddresses → TablePlaces → List ℕ → PeImportCursor → ℕ
+position_steps m places bytes p =
+    amount_of (rows_steps m (entry_format places.magic) bytes)
+    ((import_cursor m places p).value bytes)
+
+-- A walk goes on at the position q. Or its steps have run out, and it stands at the cursor there, or
+-- in the address table of the entry that comes next.
+abbrev pub GoesOnAt : MapOfAddresses → TablePlaces → List ℕ → (IsCut : Type 0) → PeImportCursor
+    → PeImportCursor → Type 0
+GoesOnAt m places bytes IsCut q p =
+    (p ≡ q)
+    ⊎ (IsCut × IsSomeAnd ((import_cursor m places q).value bytes)
+    (λ c. (d : ImportCursor) × (Awaits c d × (p ≡ cursor_for_c d))))
+
+-- A step looks at 64 slots of an address table; the last one of a table looks at its library's entry,
+-- too. Of the steps are gone as many as are no longer ahead. At the end none is ahead. The new
+-- position is the end if the call is done, or else after the libraries that are given. What is no
+-- longer ahead of what counts is counted.
+abbrev pub GivesLibraries : ℕ → ℕ → SaysBatch PeImportCursor PeLibrary
+GivesLibraries before after m places bytes old new batch =
+    FillsNext (library_table m places bytes) (after ≡ 0)
+    (λ left. AreCounted (Some before) (Some after)
+    (position_steps m places bytes old.position) (position_steps m places bytes new.position)
+    × ((batch.is_done ≡ true) → (position_steps m places bytes new.position ≡ 0))
+    × ((batch.is_done ≡ true) → (new.position ≡ cursor_for_c no_imports))
+    × ((batch.is_done ≡ false) → GoesOnAt m places bytes (after ≡ 0)
+    (position_after old.position (take batch.count (values_before left))) new.position)
     × ((k : Count) → HasRisen 0 (batch_count k batch) (position_rows m places bytes old.position k)
     (position_rows m places bytes new.position k))) old new batch
 
@@ -97,27 +119,27 @@ IsLibrariesFault m places bytes old e =
     (cursor_libraries m (entry_format places.magic) bytes) (IsCursorEndCause m bytes) old e
 
 -- From the cursor of a library come its imports, and nothing else: what a walk over all imports
--- gives of its entry. Where that needs the name of the library and can't read it, this one does not
--- need it.
+-- gives of its entry, wherever the test of its address table began. Where that needs the name of the
+-- library and can't read it, this one does not need it.
 unfoldable pub LibrariesEnd : Type 0
 LibrariesEnd =
     (m : MapOfAddresses) (places : TablePlaces) (bytes : List ℕ) (first p : ℕ)
-    (r : ImportDirectoryEntry)
+    (tested : Option ℕ) (r : ImportDirectoryEntry)
     → let strict = reads_strictly m in
     let format = entry_format places.magic in
-    let library = library_at format m.addressing bytes first p r in
+    let library = library_at format m.addressing bytes first p tested r in
     IsSome ((library_name strict m.addressing r).value bytes)
     → (import_table m places bytes).from (library_for_c m library).imports
-    ≡ Some (until_refused (library_items strict format m.addressing bytes library.index r))
+    ≡ Some (until_refused (library_items strict format m.addressing bytes tested library.index r))
 
 -- Of each entry of the directory, a walk over all imports counts what the row of its library and a
 -- walk from the row's cursor count together.
 unfoldable pub LibrariesSum : Type 0
 LibrariesSum =
     (m : MapOfAddresses) (places : TablePlaces) (bytes : List ℕ) (k : Count) (first p : ℕ)
-    (r : ImportDirectoryEntry)
+    (tested : Option ℕ) (r : ImportDirectoryEntry)
     → let format = entry_format places.magic in
-    let library = library_at format m.addressing bytes first p r in
-    record_counts (reads_strictly m) format m.addressing bytes k r
-    ≡ row_counts m format bytes k r
+    let library = library_at format m.addressing bytes first p tested r in
+    record_counts (reads_strictly m) format m.addressing bytes k tested r
+    ≡ row_counts m format bytes k tested r
     + position_passes m places bytes (library_for_c m library).imports k

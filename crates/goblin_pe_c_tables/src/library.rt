@@ -5,18 +5,17 @@ ghost use Rattle.goblin_base.specs.Answers.{IsMemory};
 ghost use Rattle.goblin_pe_sect.specs.Addresses.{map_of};
 ghost use Rattle.goblin_pe.specs.added.Layouts.{layout_bytes, layout_map, layout_places};
 ghost use Rattle.goblin_pe_import.specs.added.Libraries.{AreLibrariesOver, IsLibrariesCause};
-ghost use Rattle.goblin_pe_import.specs.added.Libraries.{libraries_ahead, libraries_left};
+ghost use Rattle.goblin_pe_import.specs.added.Libraries.{libraries_cursor, libraries_left};
 ghost use Rattle.goblin_pe_import.specs.added.Libraries.{libraries_passed, library_value};
-ghost use Rattle.goblin_pe_import.specs.Passed.{Count, nothing_passed};
-ghost use Rattle.goblin_pe_c_tables.specs.Libraries.{position_rows};
+ghost use Rattle.goblin_pe_import.specs.Passed.{nothing_passed};
+ghost use Rattle.goblin_pe_c_tables.specs.Batches.{import_cursor};
 ghost use Rattle.goblin_pe.specs.Whole.{entry_format};
 ghost use Rattle.goblin_pe_c_headers.specs.Onward.{batch_at, IsRefusedNext};
 ghost use Rattle.goblin_pe_c_tables.specs.Libraries.{GivesLibraries, IsLibrariesFault};
-ghost use Rattle.goblin_pe_c_tables.specs.Libraries.{library_for_c, library_model, library_table};
+ghost use Rattle.goblin_pe_c_tables.specs.Libraries.{library_for_c, library_model};
 
 use crate::batch::Batched;
 use crate::next::{PeImportCursor, cursor_at, cursor_for_c, passed_batch};
-use goblin_base::answer_for;
 use goblin_pe::added::{ImportCursor, Layout, Libraries, WalkedLibrary};
 use goblin_pe::import::ImportDirectoryEntry;
 use goblin_pe::{Result, ResultOf};
@@ -74,71 +73,86 @@ fn library_record<'a>(
     }
 }
 
-// Fills records with the libraries that come next, as far as there is room, and answers what it
-// did.
+// Fills records with the libraries that come next, as far as room and steps reach, and answers what
+// it did and how many steps are left. What was looked at before a refusal does not count.
 fn fill_libraries<'a>(
     layout: &Layout<'a>,
     mut libraries: Libraries<'a, '_>,
     position: &mut PeImportCursor,
+    steps: usize,
     records: &mut [PeLibrary<'a>],
-) -> Result<PeBatch>
+) -> Result<(PeBatch, usize)>
     requires over { let m = layout_map layout.now in
         AreLibrariesOver m (entry_format (layout_places layout.now).magic) (layout_bytes layout.now)
         libraries }
-    requires left { let m = layout_map layout.now in
-        (library_table m (layout_places layout.now) (layout_bytes layout.now)).from position.old
-        ≡ Some (libraries_left libraries) }
-    requires ahead { let m = layout_map layout.now in
-        (k : Count) → position_rows m (layout_places layout.now) (layout_bytes layout.now)
-        position.old k ≡ libraries_ahead libraries k }
+    requires at { let m = layout_map layout.now in
+        (import_cursor m (layout_places layout.now) position.old).value (layout_bytes layout.now)
+        ≡ Some (libraries_cursor libraries) }
     requires fresh { libraries_passed libraries ≡ nothing_passed }
     ensures filled { let m = layout_map layout.now in
         let old = batch_at position.old records.old in
         let new = batch_at position.new records.new in
-        MatchResult result
-        (GivesLibraries m (layout_places layout.now) (layout_bytes layout.now) old new)
+        let places = layout_places layout.now in
+        let bytes = layout_bytes layout.now in
+        MatchResult result (λ r. GivesLibraries steps r.1 m places bytes old new r.0)
         (λ e. IsRefusedNext (libraries_left libraries.entry) × IsLibrariesCause libraries.entry e
         × (0 < length old.records) × (new ≡ old)) }
     ensures refused { IfErr result (λ e. ¬ IsMemory e) }
 {
     let mut finder = layout.finder();
+    let mut left = steps;
     let mut passed = libraries.passed();
     let mut count = 0;
     'libraries: while count < records.len() {
-        match libraries.next() {
+        let mut limit = Some(left);
+        match libraries.next_within(&mut limit) {
             Some(Ok(library)) => {
                 records[count] = library_record(layout.bytes(), &library, &mut finder);
                 *position = cursor_for_c(libraries.cursor());
+                left = limit.unwrap_or(0);
                 passed = libraries.passed();
                 count += 1;
             }
             Some(Err(error)) if count == 0 => return Err(error),
             Some(Err(_)) => {
-                return Ok(passed_batch(count, passed, false));
+                return Ok((passed_batch(count, passed, false), left));
             }
             None => {
-                *position = cursor_for_c(ImportCursor::end());
-                return Ok(passed_batch(count, libraries.passed(), true));
+                let at = libraries.cursor();
+                let left = limit.unwrap_or(0);
+                if at.next_record.is_none() {
+                    *position = cursor_for_c(ImportCursor::end());
+                    return Ok((passed_batch(count, libraries.passed(), true), left));
+                }
+                *position = cursor_for_c(at);
+                return Ok((passed_batch(count, libraries.passed(), false), left));
             }
         }
     }
-    Ok(passed_batch(count, passed, false))
+    Ok((passed_batch(count, passed, false), left))
 }
 
 impl<'a> Batched<'a> for PeLibrary<'a> {
     type Position = PeImportCursor;
 
-    ghost gives = { λ before after. GivesLibraries };
+    ghost gives = { GivesLibraries };
 
     ghost is_fault = { IsLibrariesFault };
 
     fn next<'e>(
         layout: &Layout<'a>,
         position: &mut PeImportCursor,
-        _steps: &mut usize,
+        steps: &mut usize,
         records: &mut [PeLibrary<'a>],
     ) -> ResultOf<'e, PeBatch> {
         let at = cursor_at(layout, position)?;
-        answer_for(fill_libraries(layout, layout.libraries_at(at), position, records))
+        let libraries = layout.libraries_at(at);
+        match fill_libraries(layout, libraries, position, *steps, records) {
+            Ok((batch, left)) => {
+                *steps = left;
+                Ok(batch)
+            }
+            Err(error) => Err(error),
+        }
     }
 }

@@ -39,6 +39,8 @@ pub struct PeImportCursor {
     pub table_offset: usize,
     /// The file offset of the next entry of that table, in a library.
     pub place: usize,
+    /// The file offset of the next entry to test, where a part of an address table has been tested.
+    pub tested: usize,
     /// The RVA of the library's name.
     pub name_rva: u32,
     /// The RVA of its address table.
@@ -53,6 +55,8 @@ pub struct PeImportCursor {
     pub has_place: bool,
     /// Whether the address table is to be tested.
     pub has_address_table: bool,
+    /// Whether a part of an address table has been tested.
+    pub has_tested: bool,
 }
 
 // The cursor that these numbers say.
@@ -69,6 +73,7 @@ fn cursor_from_c(position: &PeImportCursor) -> ImportCursor
         table_offset: at.table_offset,
         place: at.has_place.then_some(at.place),
         pending: at.has_address_table.then_some(at.address_table),
+        tested: at.has_tested.then_some(at.tested),
     }
 }
 
@@ -82,6 +87,7 @@ pub(crate) fn cursor_for_c(at: ImportCursor) -> PeImportCursor
         library: at.library,
         table_offset: at.table_offset,
         place: at.place.unwrap_or(0),
+        tested: at.tested.unwrap_or(0),
         name_rva: at.name_rva,
         rva: at.rva,
         address_table: at.pending.unwrap_or(0),
@@ -89,6 +95,7 @@ pub(crate) fn cursor_for_c(at: ImportCursor) -> PeImportCursor
         has_next: at.next_record.is_some(),
         has_place: at.place.is_some(),
         has_address_table: at.pending.is_some(),
+        has_tested: at.tested.is_some(),
     }
 }
 

@@ -1,14 +1,14 @@
 //! The calls that walk over imports and libraries.
 
 ghost use Rattle.std.specs.Prelude.{◌≡◌, ◌≢◌, ◌-◌, length};
-ghost use Rattle.goblin_pe_c_headers.specs.{Faults.options_fault, Onward.batch_at};
+ghost use Rattle.goblin_pe_c_headers.specs.{Onward.batch_at};
 ghost use Rattle.goblin_pe_c_tables.specs.Batches.{GivesImports, IsImportsFault, WalksOver};
 ghost use Rattle.goblin_pe_c_tables.specs.Libraries.{GivesLibraries, IsLibrariesFault};
 ghost use Rattle.goblin_pe_c_tables.specs.Libraries.{LibrariesEnd, LibrariesSum};
 ghost use Rattle.goblin_pe_c_tables.specs.Steps.{section_steps, walk_fault};
 
 use goblin_pe_c_headers::batch::PeBatch;
-use goblin_pe_c_headers::fault::{PeFault, refused_call};
+use goblin_pe_c_headers::fault::PeFault;
 use goblin_pe_c_headers::image::PeImage;
 use goblin_pe_c_tables::batch::walk;
 use goblin_pe_c_tables::import::PeImport;
@@ -48,10 +48,10 @@ pub extern "C" fn goblin_pe_raw_next_imports<'a>(
 /// Gives the next libraries: one for each entry of the import directory, also the skipped ones,
 /// which `skipped` counts. A walk over the imports of such a library does not count it again. So
 /// this walk and those over the imports of its rows count together what one walk over all imports
-/// counts.
+/// counts. Counts steps.
 ///
-/// Faults: as `goblin_pe_next_imports`, but no STEPS. In strict mode the walk ends with a fault
-/// where the file ends before the import directory does.
+/// Faults: as `goblin_pe_next_imports`. In strict mode the walk ends with a fault where the file
+/// ends before the import directory does.
 #[unsafe(no_mangle)]
 #[tactic(auto, using(goblin_pe_c_tables::proofs::LibraryEnds::libraries_end, goblin_pe_c_tables::proofs::LibraryEnds::libraries_sum))]
 pub extern "C" fn goblin_pe_raw_next_libraries<'a>(
@@ -59,15 +59,19 @@ pub extern "C" fn goblin_pe_raw_next_libraries<'a>(
     image: &PeImage<'a>,
     cursor: &mut PeImportCursor,
     libraries: &mut [PeLibrary<'a>],
+    steps: &mut usize,
     batch: &mut PeBatch,
 ) -> PeFault
     ensures given { let old = batch_at cursor.old libraries.old in
         let new = batch_at cursor.new libraries.new in
-        WalksOver (options_fault image.now.options) result image.now GivesLibraries IsLibrariesFault
-        old new batch.new }
+        let room = length libraries.old in
+        let allowed = steps.old - section_steps image.now room in
+        WalksOver (walk_fault image.now room steps.old) result image.now
+        (GivesLibraries allowed steps.new) IsLibrariesFault old new batch.new }
+    ensures kept { result.status ≢ 0 → steps.new ≡ steps.old }
     ensures ends { LibrariesEnd }
     ensures sums { LibrariesSum }
 {
-    let refusal = refused_call(&image.options);
-    walk::<PeLibrary>(alloc, image, refusal, cursor, libraries, &mut 0, batch)
+    let refusal = refused_walk(image, libraries.len(), *steps);
+    walk::<PeLibrary>(alloc, image, refusal, cursor, libraries, steps, batch)
 }

@@ -9,7 +9,7 @@ use Rattle.goblin_pe_import.specs.ImportEntries.{EntryValue, LookupEntry, entry_
 use Rattle.goblin_pe_import.specs.declared.import.lookup_table.SyntheticImportLookupTableEntry.{SyntheticImportLookupTableEntry}
 use Rattle.goblin_pe_import.specs.KeptEntries.{KeptEntry, IsEntriesCause, KeptValue, entries_from, entry_items, kept_at, kept_value, place_after}
 use Rattle.goblin_pe_import.specs.ImportLookup.{entry_model, kept_model}
-use Rattle.goblin_pe_import.specs.Steps.{AreCounted, GivesWithin, IsOut, UnlessErr}
+use Rattle.goblin_pe_import.specs.Steps.{GivesWithin, IsOut, LooksAt}
 use Rattle.readings.specs.Walks.{GivesNext, IsWalkOf, from_slot, end_items, items_at, items_of, table_walk, until_refused}
 use Rattle.readings.proofs.Walked.{AtWalk, walk-all, walk-fault, walk-more, walk-start}
 use Rattle.goblin_pe_import.specs.LookupReadings.{kept_entry, lookup_entry_at, lookup_with_slots}
@@ -59,7 +59,7 @@ module _ (strict : Bool) (format : Format EntryValue) (addressing : Addressing)
   -- without a limit a call that gives nothing is at the end
   pub kept-unlimited : (start place : Option ℕ) (r : Option (Result KeptEntry ErrorOf))
       (steps : Option ℕ) (before after : ℕ) → GivesWithin kept_value comes IsCause start r place
-      → UnlessErr r (AreCounted None steps before after)
+      → LooksAt r None steps before after
       → (r ≡ None → (place ≡ None) ⊎ IsOut steps)
       → IfSome r (λ r. place ≡ place_after format.width (Some r))
       → GivesNext kept_value comes IsCause start r (place_after format.width r)

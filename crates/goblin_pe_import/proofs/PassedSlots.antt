@@ -1,5 +1,5 @@
 -- What is passed over of a lookup table, slot by slot.
-use Rattle.std.proofs.Common.{◌≡◌, ◌≤◌, ◌+◌, ◌-◌, ◌*◌, ◌&&◌, ℕ, if◌then◌else◌, is_some, option_map, Bool, true, false, not, is_none, cond, List, [], ◌∷◌, Option, Some, None, refl, ap, sym, subst, ◌∙◌, arith}
+use Rattle.std.proofs.Common.{◌≡◌, ◌≤◌, ◌+◌, ◌*◌, ◌&&◌, ℕ, if◌then◌else◌, is_some, option_map, Bool, true, false, not, is_none, cond, List, [], ◌∷◌, Option, Some, None, refl, ap, sym, subst, ◌∙◌, arith}
 use Rattle.std.specs.Int.{from_bool}
 use Rattle.goblin_base.specs.{Bytes.slice_at, Tables.Format, Tables.SlotFormat, Tables.ends_table, Tables.slot_at, Tables.stop}
 use Rattle.goblin_base.proofs.SlotTables.{reads}

@@ -1,9 +1,9 @@
 -- The slots before the stop of a table, and what a budget of steps has left.
-use Rattle.std.proofs.Common.{◌≡◌, ◌≤◌, ◌+◌, ℕ, zero, suc, Bool, true, false, List, Option, Some, None, refl, ap, ◌∙◌, arith}
+use Rattle.std.proofs.Common.{◌≡◌, ◌≤◌, ◌+◌, ℕ, zero, suc, true, false, List, Option, Some, None, refl, ap, ◌∙◌, arith}
 use Rattle.goblin_base.specs.Tables.{SlotFormat, ends_table, slot_at, stop}
 use Rattle.goblin_base.proofs.SlotTables.{reads}
 use Rattle.goblin_pe_import.specs.TableSums.{amount_of, sum_below, sum_of_slots}
-use Rattle.goblin_pe_import.specs.Steps.{AreCounted, HasNotGrown, HasSteps, spent}
+use Rattle.goblin_pe_import.specs.Steps.{AreCounted, HasNotGrown, HasRefused, HasSteps, spent}
 use Rattle.readings.proofs.Walks.{here, shifted, stop-first, stop-next}
 
 -- a table that ends at once amounts to nothing
@@ -59,6 +59,14 @@ pub counted-one : (old now : Option ℕ) (before ahead after : ℕ) → HasSteps
 counted-one None now before ahead after has one h = rw h refl
 counted-one (Some a) None before ahead after has one h = absurd h
 counted-one (Some a) (Some b) before ahead after has one h = omega (arith, has, one, h)
+
+-- the look that is refused
+pub refused-one : (old now : Option ℕ) (before ahead : ℕ) → HasSteps now → HasNotGrown old now
+    → AreCounted old now before ahead → HasRefused old (spent now 1) before
+refused-one None now before ahead has grown h = rw h refl
+refused-one (Some a) None before ahead has grown h = absurd h
+refused-one (Some a) (Some b) before ahead has grown h =
+    (omega (arith, has, grown), omega (arith, has, h))
 
 -- a limit has steps left where one is looked at
 pub counted-given : (old now : Option ℕ) (before ahead : ℕ) → HasSteps now → ahead ≤ before

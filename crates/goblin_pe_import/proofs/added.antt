@@ -1,4 +1,3 @@
-pub mod AddressTables
 pub mod AsciiEntries
 pub mod ImportCursors
 pub mod ImportFaults
@@ -8,5 +7,6 @@ pub mod ImportsWalk
 pub mod LibrariesWalk
 pub mod PassedLibraries
 pub mod StepsAhead
+pub mod TestedPieces
 pub mod WholeLibraries
 pub mod WholeReads

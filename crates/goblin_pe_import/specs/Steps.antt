@@ -1,5 +1,5 @@
 -- The slots that are ahead in a table, and a budget of steps: each step looks at one slot.
-use Rattle.std.specs.Prelude.{◌≡◌, ◌≤◌, ℕ, ◌+◌, ◌-◌, List, ⊤}
+use Rattle.std.specs.Prelude.{◌≡◌, ◌<◌, ◌≤◌, ℕ, ◌+◌, ◌-◌, List, ⊤}
 use Rattle.std.specs.Prelude.{Option, Some, None, option_map, Result, Ok, Err}
 use Rattle.goblin_base.specs.{declared.error.ErrorOf.ErrorOf, Tables.Format, Tables.stop}
 use Rattle.readings.specs.Walks.{GivesNext}
@@ -34,6 +34,20 @@ abbrev pub AreCounted : Option ℕ → Option ℕ → ℕ → ℕ → Type 0
 AreCounted None new before after = new ≡ None
 AreCounted (Some a) None before after = ⊥
 AreCounted (Some a) (Some b) before after = before + b ≡ after + a
+
+-- A refused call has taken at least one step, and at most those that were ahead and the look that is
+-- refused.
+abbrev pub HasRefused : Option ℕ → Option ℕ → ℕ → Type 0
+HasRefused None new before = new ≡ None
+HasRefused (Some a) None before = ⊥
+HasRefused (Some a) (Some b) before = (b < a) × (a ≤ b + before + 1)
+
+-- What a call has looked at.
+abbrev pub LooksAt : {X : Type 0} → Option (Result X ErrorOf) → Option ℕ → Option ℕ → ℕ → ℕ
+    → Type 0
+LooksAt None old new before after = AreCounted old new before after
+LooksAt (Some (Ok x)) old new before after = AreCounted old new before after
+LooksAt (Some (Err e)) old new before after = HasRefused old new before
 
 -- A call gives what comes next, as `GivesNext` says. Or it gives nothing, and the same is still to
 -- come.

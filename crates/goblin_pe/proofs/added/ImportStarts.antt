@@ -1,10 +1,11 @@
 -- Where the imports of a file begin, and a walk from there on.
-use Rattle.std.proofs.Common.{◌≡◌, ℕ, List, [], inl, inr, Option, None, Some, Result, Ok, Err, true, ap, refl, ◌∙◌, IfErr, IfSome}
+use Rattle.std.proofs.Common.{subst, ◌≡◌, ℕ, List, [], inl, inr, Option, None, Some, Result, Ok, Err, true, ap, refl, ◌∙◌, IfErr, IfSome}
 use Rattle.goblin_base.specs.{declared.error.ErrorOf.ErrorOf, Answers.IsMemory, Tables.Format}
 use Rattle.goblin_base.specs.Reading.{Reading, Reads}
 use Rattle.readings.specs.Reads.{given}
 use Rattle.goblin_pe_sect.specs.declared.data_directories.DataDirectory.{DataDirectory}
 use Rattle.goblin_pe_sect.specs.Addresses.{MapOfAddresses, reads_strictly}
+use Rattle.goblin_pe_import.specs.Steps.{IsOut}
 use Rattle.goblin_pe_import.specs.{ImportEntries.EntryValue, added.ImportCursors.first_import}
 use Rattle.goblin_pe_import.specs.Steps.{GivesWithin}
 use Rattle.goblin_pe_import.specs.declared.added.imports.ImportCursor.{ImportCursor}
@@ -110,7 +111,7 @@ file_given s t None new given =
       | inl ended ↦
           let none = file-ended t ended in
           ((given.steps.0 ∙ none, none), given.walk, tt, ended, given.over.0, given.over.1, given.passed)
-      | inr out ↦ absurd out
+      | inr out ↦ absurd (subst IsOut given.spent out)
     ]
 file_given s t (Some (Ok x)) new given =
     (given.steps, given.walk, given.fault, tt, given.over.0, given.over.1, given.passed)

@@ -24,7 +24,8 @@ use Rattle.goblin_pe_import.specs.added.ImportWalks.{IsImportsCause, imports_bou
 use Rattle.goblin_pe_import.specs.added.ImportWalks.{AreImportsOver, HasName, IsCursorCause}
 use Rattle.goblin_pe_import.specs.added.ImportWalks.{cursor_left, cursor_of, imports_bytes}
 use Rattle.goblin_pe_import.specs.added.ImportWalks.{imports_map, no_imports, walked_value}
-use Rattle.goblin_pe_import.specs.added.StepsAhead.{EndsWithin, HaveRunOut, LooksAt, cursor_ahead}
+use Rattle.goblin_pe_import.specs.added.StepsAhead.{EndsWithin, cursor_ahead}
+use Rattle.goblin_pe_import.specs.Steps.{IsOut, LooksAt}
 use Rattle.goblin_pe_import.specs.added.StepsAhead.{imports_ahead}
 use Rattle.goblin_pe_import.specs.added.ImportWalks.{cursor_passes, passed_of, walk_passes}
 use Rattle.goblin_pe_import.specs.Passed.{Count, HasRisen, count_of}
@@ -258,9 +259,8 @@ pub record GivesFileWithin (s : FileImports) (old : Option ℕ)
     pub over : (file_bytes t ≡ file_bytes s) × (file_map t ≡ file_map s)
     pub passed : CountsFilePassed s result t
     pub spent : HasNotGrown old new
-    pub looked : LooksAt (length (file_bytes s)) result old new (file_ahead s) (file_ahead t)
-    pub ended : EndsWithin result (file_cursor t)
-        (HaveRunOut (length (file_bytes s)) old new (file_ahead s) (file_ahead t))
+    pub looked : LooksAt result old new (file_ahead s) (file_ahead t)
+    pub ended : EndsWithin result (file_cursor t) (IsOut new)
     pub fewer : IfSome result (λ r. file_imports_bound t < file_imports_bound s)
     pub strictly : IfSome result (λ r. IfErr r (λ e. reads_strictly (file_map s) ≡ true))
 

@@ -1,5 +1,5 @@
 -- The error that ends a walk over imports.
-use Rattle.std.proofs.Common.{ℕ, Bool, List, Option, Some, None, Err, Ok, Result, ◌∙◌, inl, inr, IfErr, IfSome, IsSomeAnd}
+use Rattle.std.proofs.Common.{ℕ, Bool, List, Option, Some, None, Err, Ok, Result, ◌∙◌, inl, inr, subst, IfErr, IfSome, IsSomeAnd}
 use Rattle.goblin_base.specs.{declared.error.ErrorOf.ErrorOf, Tables.Format}
 use Rattle.goblin_base.specs.Answers.{IsMemory, all_of}
 use Rattle.goblin_base.proofs.Readings.{first_no_memory}
@@ -7,7 +7,7 @@ use Rattle.goblin_pe_import.specs.added.ImportWalks.{Imports, Walk, WalkedImport
 use Rattle.goblin_pe_sect.specs.Addresses.{map_of, reads_strictly, Addressing}
 use Rattle.goblin_pe_import.specs.{ImportEntries.EntryValue, ImportReadings.libraries_at}
 use Rattle.goblin_pe_import.specs.{LookupReadings.lookup_table, added.StepsAhead.GivesImportWithin}
-use Rattle.goblin_pe_import.specs.Steps.{GivesWithin}
+use Rattle.goblin_pe_import.specs.Steps.{GivesWithin, IsOut}
 use Rattle.goblin_pe_import.specs.KeptEntries.{IsEntriesCause, entries_from}
 use Rattle.goblin_pe_import.proofs.added.ImportSteps.{ended-left}
 
@@ -30,11 +30,11 @@ walk-not_memory format w e fault =
     let m = map_of w.finder in
     let strict = reads_strictly m in
     let bytes = w.bytes.now in
-    let table = pending_table strict format m.addressing w.at.pending in
+    let table = pending_table strict format m.addressing w.at.tested w.at.pending in
     first_no_memory
     (all_of (entries_from strict format m.addressing bytes w.at.table_offset w.at.place))
     (IsEntriesCause strict format m.addressing bytes w.at.place)
-    (λ _. IsLaterCause strict format m.addressing bytes w.at.pending w.at.next_record) e
+    (λ _. IsLaterCause strict format m.addressing bytes w.at.tested w.at.pending w.at.next_record) e
     (entries-not_memory strict format m.addressing bytes e w.at.place)
     (λ _. first_no_memory (table.value bytes) (table.IsCause bytes)
     (λ _ e. IsSomeAnd w.at.next_record (λ p. IsRecordsCause strict format m.addressing bytes p e)) e
@@ -68,7 +68,7 @@ import-given format s t None new given =
       | inl ended ↦
           let none = ended-left format t.walk ended in
           ((given.steps.0 ∙ none, none), given.named, tt, given.over, ended, given.passed)
-      | inr out ↦ absurd out
+      | inr out ↦ absurd (subst IsOut given.spent out)
     ]
 import-given format s t (Some (Ok import)) new given =
     (given.steps, given.named, given.fault, given.over, tt, given.passed)

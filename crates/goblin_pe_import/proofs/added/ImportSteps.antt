@@ -1,5 +1,6 @@
 -- The loop that looks for the next import.
 use Rattle.std.proofs.Common.{◌≡◌, ◌≤◌, ◌+◌, ℕ, Bool, true, List, [], ◌∷◌, Option, Some, None, refl, sym, subst, ◌∙◌, arith, Err, Ok, Result}
+use Rattle.std.specs.Option.{option_len}
 use Rattle.goblin_base.specs.{declared.error.ErrorOf.ErrorOf, Tables.Format}
 use Rattle.goblin_base.specs.Answers.{FirstFault, ◌>>=◌, all_of}
 use Rattle.readings.specs.Walks.{GivesNext}
@@ -61,7 +62,7 @@ module _ (format : Format EntryValue) (start s : Walk) (h : AtImports format sta
   IsCause = IsEntriesCause strict format places s.bytes.now
 
   abbrev IsLater : ErrorOf → Type 0
-  IsLater = IsLaterCause strict format places s.bytes.now s.at.pending s.at.next_record
+  IsLater = IsLaterCause strict format places s.bytes.now s.at.tested s.at.pending s.at.next_record
 
   abbrev Steps : Option (Result KeptEntry ErrorOf) → Option ℕ → Type 0
   Steps = GivesNext kept_value left IsCause s.at.place
@@ -127,7 +128,8 @@ module _ (format : Format EntryValue) (start s : Walk) (h : AtImports format sta
         → (walk_left format t ≡ later_left format s)
         × ((e : ErrorOf) → IsWalkCause format t e → IsLaterLeftCause format s e)
         → t.bytes.now ≡ s.bytes.now → t.finder ≡ s.finder
-        → walk_bound t ≤ bound_next s.bytes.now s.at.next_record → IsNamed t
+        → walk_bound t ≤ option_len s.at.pending + bound_next s.bytes.now s.at.next_record
+        → IsNamed t
         → AtImports format start t
     next-library t gives same map bound named = record {
       same = same_later ∙ sym gives.0;

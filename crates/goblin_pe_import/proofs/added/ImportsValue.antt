@@ -263,14 +263,14 @@ module _ (strict : Bool) (format : Format EntryValue) (addressing : Addressing)
         low ks e)
 
     -- collecting what comes of a record gives the imports of its library
-    record-value : all_of (library_items strict format addressing bytes index r)
+    record-value : all_of (library_items strict format addressing bytes None index r)
         ≡ option_map (flat_map imports_here) ((kept_library strict format addressing r).value bytes)
     unfolding library_items library_of
     record-value = by_name ((library_name strict addressing r).value bytes) refl
       where
         by_name : (name : Option (List ℕ))
             → (library_name strict addressing r).value bytes ≡ name
-            → all_of (library_items strict format addressing bytes index r)
+            → all_of (library_items strict format addressing bytes None index r)
             ≡ option_map (flat_map imports_here)
             ((kept_library strict format addressing r).value bytes)
         by_name None is = rw is (unnamed imports_here strict _ (name_strict strict _ is))
@@ -316,7 +316,7 @@ module _ (strict : Bool) (format : Format EntryValue) (addressing : Addressing)
     pieces = numbered_at (indexes.kept_at strict format addressing bytes o) (few strict format addressing bytes o)
 
     abbrev items : ℕ → ImportDirectoryEntry → List (Option NumberedImport)
-    items p r = library_items strict format addressing bytes (record_index o p) r
+    items p r = library_items strict format addressing bytes None (record_index o p) r
 
     abbrev comes_of : ℕ → List (Option NumberedImport)
     comes_of i = items_at items (slot_place import_slots o i) (record_at i)
@@ -337,7 +337,7 @@ module _ (strict : Bool) (format : Format EntryValue) (addressing : Addressing)
             subst (λ (r : ImportDirectoryEntry). r.import_address_table_rva < 2 ^ 32) (sym there.is)
             (address-low strict format addressing bytes octets (slot_place import_slots o i)) in
             ap
-            (λ (index : ℕ). all_of (library_items strict format addressing bytes index r))
+            (λ (index : ℕ). all_of (library_items strict format addressing bytes None index r))
             (in_slot 20 o i (lit≤ tt))
             ∙ record-value i r low ∙ indexed-map i ((kept_library strict format addressing r).value bytes)
 
@@ -418,7 +418,7 @@ module _ (m : MapOfAddresses) (format : Format EntryValue) (bytes : List ℕ) (r
   none-at by over dll c same is at permissive short =
       let p = 2 ^ 64 - 1 in
       let strict = reads_strictly m in
-      let items = λ (q : ℕ) (r : ImportDirectoryEntry). library_items strict format m.addressing bytes (record_index p q) r
+      let items = λ (q : ℕ) (r : ImportDirectoryEntry). library_items strict format m.addressing bytes None (record_index p q) r
       in
       let slot = ap (option_map (import_record Little)) (slice_at-past bytes p 20 (omega (arith, short)))
       in

@@ -1,5 +1,5 @@
 -- The walk over all imports: from one library to the next.
-use Rattle.std.proofs.Common.{◌≡◌, ◌≤◌, ◌+◌, ◌-◌, ◌*◌, ℕ, Bool, true, false, not, ◌&&◌, List, [], ◌∷◌, ◌++◌, length, IsSomeAnd, Option, Some, None, refl, sym, ap, ◌∙◌, append_assoc, lit≤, arith, option_map, unwrap_or, mul-le-mul_left, is_some}
+use Rattle.std.proofs.Common.{◌≡◌, ◌≤◌, ◌+◌, ◌-◌, ◌*◌, ℕ, Bool, true, false, not, ◌&&◌, List, [], ◌∷◌, ◌++◌, length, IsSomeAnd, Option, Some, None, refl, sym, ap, subst, ◌∙◌, append_assoc, lit≤, arith, option_map, unwrap_or, mul-le-mul_left, is_some, if◌then◌else◌}
 use Rattle.std.specs.Option.{option_len}
 use Rattle.goblin_base.specs.{declared.error.ErrorOf.ErrorOf, Answers.FirstFault, Answers.all_of}
 use Rattle.goblin_base.specs.{Reading.Reading, Tables.Format, Tables.ends_table, Tables.or_left_out}
@@ -8,7 +8,7 @@ use Rattle.readings.specs.Reads.{pair_of}
 use Rattle.readings.specs.Walks.{from_slot, refusal_of, table_walk, until_refused}
 use Rattle.readings.proofs.Walks.{cause-slot, slot-end, slot-going, slot-missing, until_refused-later, walk-slot}
 use Rattle.goblin_pe_import.specs.ImportRecords.{ImportDirectoryEntry, address_table_rva, import_slots, is_last_record, lookup_offset}
-use Rattle.goblin_pe_import.specs.added.ImportWalks.{Walk, IsLaterCause, IsLaterLeftCause, later_left, IsNamedCause, IsRecordsCause, addresses_of, bound_next, imports_next, is_skipped, imports_from_record, imports_of_entries, record_index, later_items, library_items, library_name, pending_table}
+use Rattle.goblin_pe_import.specs.added.ImportWalks.{ImportCursor, IsCursorCause, Walk, items_left, IsLaterCause, IsLaterLeftCause, later_left, IsNamedCause, IsRecordsCause, addresses_of, bound_next, imports_next, is_skipped, imports_from_record, imports_of_entries, record_index, later_items, library_items, library_name, pending_table}
 use Rattle.goblin_pe_import.specs.ImportEntries.{EntryValue, LookupEntry}
 use Rattle.goblin_pe_import.specs.ImportReadings.{import_record_at, kept_library, library_of, lookup_if}
 use Rattle.goblin_pe_import.specs.Imports.{NumberedImport}
@@ -16,6 +16,9 @@ use Rattle.goblin_pe_import.specs.KeptEntries.{IsEntriesCause, KeptValue, entrie
 use Rattle.goblin_pe_import.proofs.LookupWalk.{in_two, lookup_walked}
 use Rattle.goblin_pe_import.proofs.PermissiveReads.{name_strict}
 use Rattle.goblin_pe_sect.specs.Addresses.{Addressing, map_of, reads_strictly}
+use Rattle.goblin_pe_import.specs.{LookupReadings.address_table, added.TestedTables.in_next}
+use Rattle.goblin_pe_import.specs.added.TestedTables.{tested_table}
+use Rattle.goblin_pe_import.proofs.added.TestedPieces.{fault-same, in_permissive, in_strict, is_read, refusal-same}
 
 -- ---- values that may be missing
 
@@ -72,25 +75,54 @@ module _ (strict : Bool) (format : Format EntryValue) (addressing : Addressing)
     abbrev slots : Option ImportDirectoryEntry
     slots = (import_record_at p).value bytes
 
-    -- what comes of the record at p and of those after it
-    abbrev pub from_record : Option ImportDirectoryEntry → List (Option NumberedImport)
-    from_record entry =
+    -- what comes of the record at p, and of those after it
+    abbrev pub from_record : Option ℕ → Option ImportDirectoryEntry → List (Option NumberedImport)
+    from_record tested entry =
         from_slot strict is_last_record
-        (library_items strict format addressing bytes (record_index first p))
+        (library_items strict format addressing bytes tested (record_index first p))
         (imports_from_record strict format addressing bytes first (p + 20)) entry
 
-    pub imports-slot : imports_from_record strict format addressing bytes first p ≡ from_record slots
+    imports-slot : imports_from_record strict format addressing bytes first p ≡ from_record None slots
     unfolding imports_from_record
     imports-slot =
         walk-slot import_slots
-        (λ p r. library_items strict format addressing bytes (record_index first p) r) bytes strict
+        (λ p r. library_items strict format addressing bytes None (record_index first p) r) bytes strict
         (lit≤ tt) p slots refl
+
+    -- wherever the test of its address table begins
+    pub next-slot : (tested : Option ℕ)
+        → imports_next strict format addressing bytes first (Some p) tested ≡ from_record tested slots
+    unfolding imports_next
+    next-slot None = imports-slot
+    next-slot (Some place) = refl
 
     -- at most the last of them is a refusal
     pub imports-once : until_refused (imports_from_record strict format addressing bytes first p)
         ≡ imports_from_record strict format addressing bytes first p
     unfolding imports_from_record table_walk
     imports-once = until_refused-later [] _
+
+    pub slot-once : (tested : Option ℕ) (entry : Option ImportDirectoryEntry)
+        → until_refused (from_record tested entry) ≡ from_record tested entry
+    slot-once tested None = end-once strict
+      where
+        end-once : (needed : Bool)
+            → until_refused {A = NumberedImport} (if needed then None ∷ [] else [])
+            ≡ (if needed then None ∷ [] else [])
+        end-once true = refl
+        end-once false = refl
+    slot-once tested (Some v) = by (is_last_record v)
+      where
+        items : List (Option NumberedImport)
+        items =
+            library_items strict format addressing bytes tested (record_index first p) v
+            ++ imports_from_record strict format addressing bytes first (p + 20)
+
+        by : (last : Bool)
+            → until_refused (if last then [] else until_refused items)
+            ≡ (if last then [] else until_refused items)
+        by true = refl
+        by false = until_refused-later [] items
 
 -- In strict mode, a cause that is true of the rest of a directory from its first entry on is true of
 -- it.
@@ -135,7 +167,8 @@ module _ (format : Format EntryValue) (addressing : Addressing) (bytes : List �
 -- ---- the library of a record
 
 module _ (strict : Bool) (format : Format EntryValue) (addressing : Addressing)
-    (bytes : List ℕ) (first index : ℕ) (r : ImportDirectoryEntry) (next : ℕ) where
+    (bytes : List ℕ) (first index : ℕ) (r : ImportDirectoryEntry) (next : ℕ)
+    (tested : Option ℕ) where
   abbrev name : Reading (List ℕ)
   name = library_name strict addressing r
 
@@ -146,7 +179,7 @@ module _ (strict : Bool) (format : Format EntryValue) (addressing : Addressing)
   abbrev pub whole : List (Option NumberedImport)
   whole =
       until_refused
-      (library_items strict format addressing bytes index r
+      (library_items strict format addressing bytes tested index r
       ++ imports_from_record strict format addressing bytes first next)
 
   abbrev pub IsWholeCause : ErrorOf → Type 0
@@ -160,16 +193,16 @@ module _ (strict : Bool) (format : Format EntryValue) (addressing : Addressing)
   parts_left i dll rva o at pending =
       until_refused
       (imports_of_entries strict format addressing bytes i dll rva o at
-      ++ later_items strict format addressing bytes pending first (Some next))
+      ++ later_items strict format addressing bytes None pending first (Some next))
 
   abbrev pub IsPartsCause : ℕ → Option ℕ → Option ℕ → ErrorOf → Type 0
   IsPartsCause o at pending e =
       (strict ≡ true)
       × FirstFault (all_of (entries_from strict format addressing bytes o at))
       (IsEntriesCause strict format addressing bytes at)
-      (λ _. IsLaterCause strict format addressing bytes pending (Some next)) e
+      (λ _. IsLaterCause strict format addressing bytes None pending (Some next)) e
 
-  pub walk-left_out : is_skipped strict format addressing bytes r ≡ true
+  pub walk-left_out : is_skipped strict format addressing bytes tested r ≡ true
       → (i : ℕ) (dll : List ℕ) (rva o : ℕ)
       → (parts_left i dll rva o None None ≡ whole)
       × ((e : ErrorOf) → IsPartsCause o None None e → (strict ≡ true) × IsWholeCause e)
@@ -185,7 +218,7 @@ module _ (strict : Bool) (format : Format EntryValue) (addressing : Addressing)
   at = lookup_offset addressing r
 
   module _ (dll : List ℕ) (named : name.value bytes ≡ Some dll)
-      (kept : is_skipped strict format addressing bytes r ≡ false) where
+      (kept : is_skipped strict format addressing bytes tested r ≡ false) where
     -- a library that is walked over
     pub entered : (parts_left index dll r.import_address_table_rva (unwrap_or at 0) at
         (Some (address_table_rva r)) ≡ whole)
@@ -197,7 +230,7 @@ module _ (strict : Bool) (format : Format EntryValue) (addressing : Addressing)
         let imports =
         imports_of_entries strict format addressing bytes index dll r.import_address_table_rva (unwrap_or at 0)
         at in
-        let table = pending_table strict format addressing (Some (address_table_rva r)) in (
+        let table = pending_table strict format addressing None (Some (address_table_rva r)) in (
           rw (kept, named)
               (ap until_refused
               (sym (append_assoc imports (refusal_of (table.value bytes))
@@ -218,7 +251,11 @@ module _ (format : Format EntryValue) (w : Walk) where
   bytes = w.bytes.now
 
   abbrev table : Reading (List ℕ)
-  table = pending_table strict format addressing w.at.pending
+  table = pending_table strict format addressing w.at.tested w.at.pending
+
+  -- where the test of the next record's address table goes on
+  abbrev tested_next : Option ℕ
+  tested_next = in_next strict w.at.tested
 
   -- its address table is missing
   pub later-refused : (e : ErrorOf)
@@ -227,6 +264,62 @@ module _ (format : Format EntryValue) (w : Walk) where
   later-refused e refused strictly =
       let none = unmapped (λ _. tt {0}) _ refused.0 in
       (rw none refl, (strictly, rw none refused.1))
+
+  -- the walk past a piece of an address table
+  abbrev pub past : Option ℕ → Option ℕ → ImportCursor
+  past tested pending = record w.at { place = None; pending = pending; tested = tested }
+
+  abbrev pub past_left : Option ℕ → Option ℕ → List (Option NumberedImport)
+  past_left tested pending =
+      items_left strict format addressing bytes w.dll.now (past tested pending)
+
+  abbrev pub IsPastCause : Option ℕ → Option ℕ → ErrorOf → Type 0
+  IsPastCause tested pending e =
+      IsCursorCause (map_of w.finder) format bytes (past tested pending) e
+
+  -- a piece of that table was tested, and there is more of it, or not
+  module _ (rva : ℕ) (strictly : strict ≡ true) (pending : w.at.pending ≡ Some rva) where
+    by_piece : (tested others : Option ℕ)
+        → is_read ((tested_table format addressing w.at.tested rva).value bytes)
+        ≡ is_read ((pending_table true format addressing tested others).value bytes)
+        → ((e : ErrorOf) → (pending_table true format addressing tested others).IsCause bytes e
+        → (tested_table format addressing w.at.tested rva).IsCause bytes e)
+        → (past_left tested others ≡ later_left format w)
+        × ((e : ErrorOf) → IsPastCause tested others e → IsLaterLeftCause format w e)
+    unfolding entries_from
+    by_piece tested others same chain = (
+      rw (strictly, pending, in_strict true w.at.tested refl, in_strict true tested refl)
+          (ap
+          (λ (xs : List (Option NumberedImport)).
+          until_refused
+          (xs ++ imports_next true format addressing bytes w.at.first_record w.at.next_record None))
+          (sym (refusal-same _ _ same))),
+      λ e fault. (
+        strictly,
+        rw (strictly, pending)
+            (fault-same _ _ same _ _ _ e (chain e) (rw strictly at fault.1)),
+      ),
+    )
+
+    pub piece-on : (place : ℕ)
+        → is_read ((tested_table format addressing w.at.tested rva).value bytes)
+        ≡ is_read ((address_table format place).value bytes)
+        → ((e : ErrorOf) → (address_table format place).IsCause bytes e
+        → (tested_table format addressing w.at.tested rva).IsCause bytes e)
+        → (past_left (Some place) w.at.pending ≡ later_left format w)
+        × ((e : ErrorOf) → IsPastCause (Some place) w.at.pending e → IsLaterLeftCause format w e)
+    piece-on place same chain =
+        subst
+        (λ (others : Option ℕ).
+        (past_left (Some place) others ≡ later_left format w)
+        × ((e : ErrorOf) → IsPastCause (Some place) others e → IsLaterLeftCause format w e))
+        (sym pending) (by_piece (Some place) (Some rva) same chain)
+
+    pub piece-end : is_read ((tested_table format addressing w.at.tested rva).value bytes)
+        ≡ Some (tt {0})
+        → (past_left None None ≡ later_left format w)
+        × ((e : ErrorOf) → IsPastCause None None e → IsLaterLeftCause format w e)
+    piece-end same = by_piece None None same (λ e fault. absurd fault)
 
   module _ (tested : option_map (λ _. tt {0}) (table.value bytes) ≡ Some (tt {0})) where
     is_there : (found : Option (List ℕ)) → option_map (λ _. tt {0}) found ≡ Some (tt {0})
@@ -237,7 +330,9 @@ module _ (format : Format EntryValue) (w : Walk) where
     is_there (Some x) e items IsTable IsLater = (refl, λ e fault. fault)
 
     abbrev from : Option ℕ → List (Option NumberedImport)
-    from next = until_refused (imports_next strict format addressing bytes w.at.first_record next)
+    from next =
+        until_refused
+        (imports_next strict format addressing bytes w.at.first_record next tested_next)
 
     later-from : later_left format w ≡ from w.at.next_record
     later-from =
@@ -253,19 +348,20 @@ module _ (format : Format EntryValue) (w : Walk) where
       index = record_index w.at.first_record p
 
       abbrev of_library : ImportDirectoryEntry → List (Option NumberedImport)
-      of_library = library_items strict format addressing bytes index
+      of_library = library_items strict format addressing bytes tested_next index
 
       abbrev from_next : List (Option NumberedImport)
       from_next = imports_from_record strict format addressing bytes w.at.first_record (p + 20)
 
       by_record : (entry : Option ImportDirectoryEntry) → reads import_slots bytes p ≡ entry
           → later_left format w
-          ≡ from_record strict format addressing bytes w.at.first_record p entry
-      unfolding imports_next
+          ≡ from_record strict format addressing bytes w.at.first_record p tested_next entry
       by_record entry r =
-          later-from ∙ ap from is ∙ imports-once strict format addressing bytes w.at.first_record p
-          ∙ imports-slot strict format addressing bytes w.at.first_record p
-          ∙ ap (from_record strict format addressing bytes w.at.first_record p) r
+          later-from ∙ ap from is
+          ∙ ap until_refused (next-slot strict format addressing bytes w.at.first_record p tested_next)
+          ∙ slot-once strict format addressing bytes w.at.first_record p tested_next
+          ((import_record_at p).value bytes)
+          ∙ ap (from_record strict format addressing bytes w.at.first_record p tested_next) r
 
       by_cause : (e : ErrorOf) → strict ≡ true → IsRecordsCause strict format addressing bytes p e
           → IsLaterLeftCause format w e
@@ -293,14 +389,14 @@ module _ (format : Format EntryValue) (w : Walk) where
       module _ (v : ImportDirectoryEntry) (r : reads import_slots bytes p ≡ Some v)
           (going : is_last_record v ≡ false) where
         by_whole : later_left format w
-            ≡ whole strict format addressing bytes w.at.first_record index v (p + 20)
+            ≡ whole strict format addressing bytes w.at.first_record index v (p + 20) tested_next
         by_whole = by_record (Some v) r ∙ slot-going strict is_last_record of_library from_next v going
 
         -- what is left of a walk that is in the record's library, or past it
         pub later-given : (left : List (Option NumberedImport)) (IsLeft : ErrorOf → Type 0)
-            → (left ≡ whole strict format addressing bytes w.at.first_record index v (p + 20))
+            → (left ≡ whole strict format addressing bytes w.at.first_record index v (p + 20) tested_next)
             × ((e : ErrorOf) → IsLeft e → (strict ≡ true)
-            × IsWholeCause strict format addressing bytes w.at.first_record index v (p + 20) e)
+            × IsWholeCause strict format addressing bytes w.at.first_record index v (p + 20) tested_next e)
             → (left ≡ later_left format w)
             × ((e : ErrorOf) → IsLeft e → IsLaterLeftCause format w e)
         later-given left IsLeft h = (
@@ -309,6 +405,36 @@ module _ (format : Format EntryValue) (w : Walk) where
               let both = h.1 e fault in
               by_cause e both.0
               (cause-given format addressing bytes p wide e strict both.0 v r going both.1),
+        )
+
+        -- a piece of its address table was tested, and there is more of it
+        pub later-piece : (place : ℕ) → strict ≡ false
+            → is_skipped strict format addressing bytes tested_next v
+            ≡ is_skipped strict format addressing bytes (Some place) v
+            → (past_left (Some place) None ≡ later_left format w)
+            × ((e : ErrorOf) → IsPastCause (Some place) None e → IsLaterLeftCause format w e)
+        unfolding library_items entries_from
+        later-piece place permissive same = (
+          ap
+              (λ (next : Option ℕ).
+              until_refused
+              (imports_next strict format addressing bytes w.at.first_record next
+              (in_next strict (Some place))))
+              is
+              ∙ ap
+              (λ (tested : Option ℕ).
+              until_refused (imports_next strict format addressing bytes w.at.first_record (Some p) tested))
+              (in_permissive strict (Some place) permissive)
+              ∙ ap until_refused
+              (next-slot strict format addressing bytes w.at.first_record p (Some place))
+              ∙ slot-once strict format addressing bytes w.at.first_record p (Some place)
+              ((import_record_at p).value bytes)
+              ∙ ap (from_record strict format addressing bytes w.at.first_record p (Some place)) r
+              ∙ slot-going strict is_last_record
+              (library_items strict format addressing bytes (Some place) index) from_next v going
+              ∙ rw (← same) refl
+              ∙ sym by_whole,
+          λ e fault. (let strictly = fault.0 in absurd (cc (strictly, permissive))),
         )
 
         -- its name is refused

@@ -1,92 +1,54 @@
 -- The steps that a walk over imports takes.
-use Rattle.std.proofs.Common.{◌≡◌, ◌⊎◌, ◌≤◌, ◌+◌, ◌-◌, ◌/◌, ℕ, Bool, true, false, List, length, Option, Some, None, refl, sym, subst, ap, ◌∙◌, arith, inl, inr, lit≤}
-use Rattle.std.proofs.lemmas.Bool.{cases_lt}
-use Rattle.goblin_base.specs.Tables.{Format, SlotFormat, ends_table, slot_at, stop}
-use Rattle.goblin_base.proofs.Below.{least-le}
-use Rattle.goblin_base.proofs.SlotTables.{ends, reach-stop, reads}
-use Rattle.readings.proofs.Loops.{AtRead}
-use Rattle.goblin_pe_import.specs.ImportEntries.{EntryValue, entry_slots}
-use Rattle.goblin_pe_import.specs.LookupReadings.{entry_number}
-use Rattle.goblin_pe_import.proofs.{LookupWalk.in_slot, SlotSteps.sum-first, SlotSteps.sum-here}
-use Rattle.goblin_pe_import.specs.TableSums.{amount_of, sum_below, sum_of_slots}
-use Rattle.goblin_pe_import.specs.Steps.{AreCounted, HasNotGrown, HasSteps, IsOut, slots_ahead, spent}
-use Rattle.goblin_pe_import.specs.added.StepsAhead.{AtSteps, HaveRunOut, later_ahead, record_steps, tested_ahead, pending_ahead, walk_ahead}
+use Rattle.std.proofs.Common.{◌≡◌, ◌⊎◌, ◌+◌, ℕ, suc, if◌then◌else◌, Bool, true, false, List, Option, Some, None, refl, sym, subst, ap, ◌∙◌, arith, inl, inr}
+use Rattle.goblin_base.specs.Tables.{Format, ends_table}
+use Rattle.goblin_base.proofs.SlotTables.{reads}
+use Rattle.goblin_pe_import.specs.ImportEntries.{EntryValue}
+use Rattle.goblin_pe_import.proofs.added.TestedPieces.{in_permissive, in_strict, summed-end, summed-first}
+use Rattle.goblin_pe_import.specs.added.TestedTables.{in_next, pieces, sum_resumed, tested_slots}
+use Rattle.goblin_pe_import.specs.Steps.{AreCounted, HasNotGrown, HasRefused, HasSteps, IsOut, slots_ahead}
+use Rattle.goblin_pe_import.specs.added.StepsAhead.{later_ahead, pending_ahead, pieces_ahead, record_steps, walk_ahead}
 use Rattle.goblin_pe_import.specs.ImportRecords.{address_table_rva, import_slots, is_last_record, lookup_offset, ImportDirectoryEntry}
 use Rattle.goblin_pe_import.specs.added.ImportWalks.{is_skipped, no_imports, Walk}
 use Rattle.goblin_pe_sect.specs.Addresses.{map_of, reads_strictly, Addressing}
 
--- ---- the slots before a stop
-
--- no more than there are bytes
-pub stop-few : {V : Type 0} (slots : SlotFormat V) (bytes : List ℕ) (o : ℕ)
-    → stop slots bytes o ≤ length bytes
-unfolding stop
-stop-few slots bytes o = least-le (ends slots bytes o) (length bytes)
-
--- ---- an address table
-
--- its slots, where a loop has reached the last one
-pub stop-reached : (format : Format EntryValue) (bytes : List ℕ) (o place : ℕ) (numbers : List ℕ)
-    → AtRead (entry_slots format) entry_number bytes o place numbers → (slot : Option EntryValue)
-    → reads (entry_slots format) bytes place ≡ slot
-    → ends_table (entry_slots format).is_last slot ≡ true → (size : ℕ) → size ≡ format.width
-    → (place - o) / size ≡ stop (entry_slots format) bytes o
-stop-reached format bytes o place numbers h slot r z size is =
-    ap (λ (n : ℕ). (place - o) / n) is
-    ∙ ap (λ (p : ℕ). (p - o) / format.width) (sym h.at.here)
-    ∙ in_slot format.width o h.at.index h.wide
-    ∙ sym (reach-stop (entry_slots format) bytes o place _ h.at slot r h.wide z)
-
-pub slots-few : (format : Format EntryValue) (bytes : List ℕ) (place : Option ℕ)
-    → slots_ahead format bytes place ≤ length bytes
-slots-few format bytes None = omega arith
-slots-few format bytes (Some place) = stop-few (entry_slots format) bytes place
-
--- it is looked at before its library's entries or after them
-pub address-few : (strict : Bool) (format : Format EntryValue) (addressing : Addressing)
-    (bytes : List ℕ) (pending : Option ℕ) (rva : ℕ)
-    → pending_ahead strict format addressing bytes pending
-    + tested_ahead strict format addressing bytes rva ≤ length bytes
-address-few true format addressing bytes None rva = omega arith
-address-few true format addressing bytes (Some at) rva =
-    let few = slots-few format bytes (addressing.offset at) in
-    omega (arith, few)
-address-few false format addressing bytes pending rva =
-    let few = slots-few format bytes (addressing.offset rva) in
-    omega (arith, few)
-
-pub pending-few : (strict : Bool) (format : Format EntryValue) (addressing : Addressing)
-    (bytes : List ℕ) (pending : Option ℕ)
-    → pending_ahead strict format addressing bytes pending ≤ length bytes
-pending-few true format addressing bytes None = omega arith
-pending-few true format addressing bytes (Some at) = slots-few format bytes (addressing.offset at)
-pending-few false format addressing bytes pending = omega arith
-
 -- ---- a record
 
 pending-none : (strict : Bool) (format : Format EntryValue) (addressing : Addressing)
-    (bytes : List ℕ) → pending_ahead strict format addressing bytes None ≡ 0
-pending-none true format addressing bytes = refl
-pending-none false format addressing bytes = refl
+    (bytes : List ℕ) (tested : Option ℕ)
+    → pending_ahead strict format addressing bytes tested None ≡ 0
+pending-none true format addressing bytes tested = refl
+pending-none false format addressing bytes tested = refl
 
 module _ (strict : Bool) (format : Format EntryValue) (addressing : Addressing)
-    (bytes : List ℕ) (r : ImportDirectoryEntry) (tested : ℕ)
-    (is : tested ≡ tested_ahead strict format addressing bytes (address_table_rva r)) where
-  -- its library is left out
-  pub steps-left_out : is_skipped strict format addressing bytes r ≡ true
-      → tested + 1 + slots_ahead format bytes None
-      + pending_ahead strict format addressing bytes None
-      ≡ record_steps strict format addressing bytes r
+    (bytes : List ℕ) (tested : Option ℕ) (r : ImportDirectoryEntry) where
+  abbrev steps : Option ℕ → ℕ
+  steps from = record_steps strict format addressing bytes from r
+
+  abbrev pieces_of : Option ℕ → ℕ
+  pieces_of from = pieces_ahead strict format addressing bytes from (address_table_rva r)
+
+  -- a piece was tested of its library's address table, and there is more of it
+  pub steps-piece : (place : ℕ) → strict ≡ false
+      → is_skipped strict format addressing bytes tested r
+      ≡ is_skipped strict format addressing bytes (Some place) r
+      → pieces_of tested ≡ suc (pieces_of (Some place)) → steps tested ≡ suc (steps (Some place))
   unfolding record_steps
-  steps-left_out out = rw out (omega (arith, is, pending-none strict format addressing bytes))
+  steps-piece place permissive same more = rw (same, permissive) (omega (arith, more))
+
+  -- its library is skipped
+  pub steps-left_out : strict ≡ false → is_skipped strict format addressing bytes tested r ≡ true
+      → pieces_of tested ≡ 1 → steps tested ≡ 1
+  unfolding record_steps
+  steps-left_out permissive out one = rw (out, permissive) (omega (arith, one))
 
   -- it is walked over
-  pub steps-entered : is_skipped strict format addressing bytes r ≡ false
-      → tested + 1 + slots_ahead format bytes (lookup_offset addressing r)
-      + pending_ahead strict format addressing bytes (Some (address_table_rva r))
-      ≡ record_steps strict format addressing bytes r
+  pub steps-entered : is_skipped strict format addressing bytes tested r ≡ false
+      → (if strict then 1 else pieces_of tested) ≡ 1
+      → steps tested
+      ≡ suc (slots_ahead format bytes (lookup_offset addressing r)
+      + pending_ahead strict format addressing bytes None (Some (address_table_rva r)))
   unfolding record_steps
-  steps-entered kept = rw kept (omega (arith, is))
+  steps-entered kept one = rw (kept, one) (omega arith)
 
 -- ---- a walk
 
@@ -94,7 +56,7 @@ module _ (strict : Bool) (format : Format EntryValue) (addressing : Addressing)
 pub ended-ahead : (format : Format EntryValue) (t : Walk) → t.at ≡ no_imports
     → walk_ahead format t ≡ 0
 ended-ahead format t ended =
-    let none = pending-none (reads_strictly (map_of t.finder)) format (map_of t.finder).addressing t.bytes.now in
+    let none = pending-none (reads_strictly (map_of t.finder)) format (map_of t.finder).addressing t.bytes.now None in
     rw ended (omega (arith, none))
 
 module _ (format : Format EntryValue) (s : Walk) where
@@ -104,36 +66,96 @@ module _ (format : Format EntryValue) (s : Walk) where
   abbrev places : Addressing
   places = (map_of s.finder).addressing
 
-  abbrev later : Option ℕ → ℕ
-  later next = later_ahead strict format places s.bytes.now s.at.pending next
+  abbrev later : Option ℕ → Option ℕ → Option ℕ → ℕ
+  later = later_ahead strict format places s.bytes.now
+
+  abbrev sum : Option ℕ → Option ℕ → ℕ
+  sum = sum_resumed import_slots (record_steps strict format places s.bytes.now) s.bytes.now
+
+  abbrev pending : Option ℕ → Option ℕ → ℕ
+  pending = pending_ahead strict format places s.bytes.now
+
+  -- a piece was tested of an address table, after its library's entries
+  pub pending-piece : (rva : ℕ) (tested more next : Option ℕ) (left : Option ℕ) → strict ≡ true
+      → left ≡ Some rva
+      → pieces (tested_slots format places s.bytes.now tested rva) ≡ suc (pending more next)
+      → (place : Option ℕ) → place ≡ None → (after : Option ℕ)
+      → later tested left after ≡ suc (slots_ahead format s.bytes.now place + later more next after)
+  pending-piece rva tested more next left is there one place none after =
+      let both : sum after (in_next strict tested) ≡ sum after (in_next strict more) =
+      ap (sum after) (in_strict strict tested is ∙ sym (in_strict strict more is)) in
+      let first : pending tested left ≡ pieces (tested_slots format places s.bytes.now tested rva) =
+      rw (there, is) refl in
+      let here : slots_ahead format s.bytes.now place ≡ 0 = rw none refl in
+      omega (arith, both, first, one, here)
+
+  -- the last piece
+  pub pending-last : (rva : ℕ) (tested left : Option ℕ) → strict ≡ true → left ≡ Some rva
+      → pieces (tested_slots format places s.bytes.now tested rva) ≡ 1 → (after : Option ℕ)
+      → later tested left after ≡ suc (slots_ahead format s.bytes.now None + later None None after)
+  pending-last rva tested left is there one after =
+      let none = pending-none strict format places s.bytes.now None in
+      pending-piece rva tested None None left is there (omega (arith, one, none)) None refl after
+
+  -- one of more
+  pub pending-more : (rva place : ℕ) (tested left : Option ℕ) → strict ≡ true → left ≡ Some rva
+      → pieces (tested_slots format places s.bytes.now tested rva)
+      ≡ suc (pieces (slots_ahead format s.bytes.now (Some place))) → (after : Option ℕ)
+      → later tested left after
+      ≡ suc (slots_ahead format s.bytes.now None + later (Some place) left after)
+  pending-more rva place tested left is there one after =
+      let more : pending (Some place) left ≡ pieces (slots_ahead format s.bytes.now (Some place)) =
+      rw (there, is) refl in
+      pending-piece rva tested (Some place) left left is there (omega (arith, one, more)) None refl after
 
   -- there is no next record
-  pub later-few : (p : ℕ) (end : Option ImportDirectoryEntry) (tested : ℕ)
-      → reads import_slots s.bytes.now p ≡ end → ends_table is_last_record end ≡ true
-      → tested ≡ pending_ahead strict format places s.bytes.now s.at.pending
-      → (tested ≡ later (Some p)) × (tested ≤ length s.bytes.now)
-  later-few p end tested r z is =
-      let few = pending-few strict format places s.bytes.now s.at.pending in
-      let none = sum-here import_slots (record_steps strict format places s.bytes.now) s.bytes.now p (lit≤ tt) end r z in
-      (omega (arith, is, none), omega (arith, is, few))
+  pub later-none : (tested left next : Option ℕ) → pending tested left ≡ 0 → next ≡ None
+      → later tested left next ≡ 0
+  later-none tested left next done is = rw is (omega (arith, done))
 
-  -- the walk goes on in the library of the record at p, or past it
-  pub library-counted : (p : ℕ) (v : ImportDirectoryEntry) (tested looked : ℕ)
-      (place pending : Option ℕ) → reads import_slots s.bytes.now p ≡ Some v
-      → is_last_record v ≡ false
-      → tested ≡ pending_ahead strict format places s.bytes.now s.at.pending
-      → looked ≡ tested_ahead strict format places s.bytes.now (address_table_rva v)
-      → looked + 1 + slots_ahead format s.bytes.now place
-      + pending_ahead strict format places s.bytes.now pending
-      ≡ record_steps strict format places s.bytes.now v
-      → (tested + looked + 1 + (slots_ahead format s.bytes.now place
-      + later_ahead strict format places s.bytes.now pending (Some (p + 20))) ≡ later (Some p))
-      × (tested + looked + 1 ≤ length s.bytes.now + 1)
-  library-counted p v tested looked place pending r going first is counted =
-      let sum = sum-first import_slots s.bytes.now p (lit≤ tt) v r going
-      (record_steps strict format places s.bytes.now) in
-      let few = address-few strict format places s.bytes.now s.at.pending (address_table_rva v) in
-      (omega (arith, sum, first, counted), omega (arith, few, first, is))
+  pub later-few : (p : ℕ) (tested left : Option ℕ) (end : Option ImportDirectoryEntry)
+      → reads import_slots s.bytes.now p ≡ end → ends_table is_last_record end ≡ true
+      → pending tested left ≡ 0 → later tested left (Some p) ≡ 0
+  later-few p tested left end r z done =
+      let none =
+      summed-end (record_steps strict format places s.bytes.now) s.bytes.now p (in_next strict tested) end r z
+      in
+      omega (arith, done, none)
+
+  module _ (p : ℕ) (tested left : Option ℕ) (v : ImportDirectoryEntry)
+      (r : reads import_slots s.bytes.now p ≡ Some v) (going : is_last_record v ≡ false)
+      (done : pending tested left ≡ 0) where
+    first : (from : Option ℕ)
+        → sum (Some p) from ≡ record_steps strict format places s.bytes.now from v + sum (Some (p + 20)) None
+    first from = summed-first (record_steps strict format places s.bytes.now) s.bytes.now p from v r going
+
+    -- a piece was tested of its library's address table, and there is more of it
+    pub library-piece : (place : ℕ) → strict ≡ false
+        → record_steps strict format places s.bytes.now (in_next strict tested) v
+        ≡ suc (record_steps strict format places s.bytes.now (Some place) v)
+        → later tested left (Some p)
+        ≡ suc (slots_ahead format s.bytes.now None + later (Some place) None (Some p))
+    library-piece place permissive more =
+        let none = pending-none strict format places s.bytes.now (Some place) in
+        let at : sum (Some p) (in_next strict (Some place)) ≡ sum (Some p) (Some place) =
+        ap (sum (Some p)) (in_permissive strict (Some place) permissive) in
+        omega (arith, first (in_next strict tested), first (Some place), more, done, none, at)
+
+    -- the walk goes on in the library of the record, or past it
+    pub library-counted : (place rva : Option ℕ)
+        → record_steps strict format places s.bytes.now (in_next strict tested) v
+        ≡ suc (slots_ahead format s.bytes.now place + pending None rva)
+        → later tested left (Some p)
+        ≡ suc (slots_ahead format s.bytes.now place + later None rva (Some (p + 20)))
+    library-counted place rva counted =
+        omega (arith, first (in_next strict tested), counted, done)
+
+    pub library-skipped : record_steps strict format places s.bytes.now (in_next strict tested) v ≡ 1
+        → later tested left (Some p)
+        ≡ suc (slots_ahead format s.bytes.now None + later None None (Some (p + 20)))
+    library-skipped one =
+        let none = pending-none strict format places s.bytes.now None in
+        library-counted None None (omega (arith, one, none))
 
 -- ---- what a limit has left
 
@@ -144,65 +166,40 @@ grown_then (Some a) None new h more = absurd h
 grown_then (Some a) (Some b) None h more = absurd more
 grown_then (Some a) (Some b) (Some d) h more = omega (arith, h, more)
 
--- a limit that has steps left, or none
-still : (n : ℕ) (old now : Option ℕ) (before ahead : ℕ) → HasSteps now
-    → AreCounted old now before ahead ⊎ HaveRunOut n old now before ahead
-    → AreCounted old now before ahead
-still n old now before ahead has (inl counted) = counted
-still n None now before ahead has (inr out) = absurd out
-still n (Some a) None before ahead has (inr out) = absurd out
-still n (Some a) (Some b) before ahead has (inr out) = absurd (omega (arith, has, out.0))
-
 -- more is counted
-counted-then : (old now new : Option ℕ) (before x y rest : ℕ) → AreCounted old now before (x + rest)
+pub counted-then : (old now new : Option ℕ) (before x y rest : ℕ) → AreCounted old now before (x + rest)
     → AreCounted now new x y → AreCounted old new before (y + rest)
 counted-then None now new before x y rest h more = subst (λ (s : Option ℕ). AreCounted s new x y) h more
 counted-then (Some a) None new before x y rest h more = absurd h
 counted-then (Some a) (Some b) None before x y rest h more = absurd more
 counted-then (Some a) (Some b) (Some d) before x y rest h more = omega (arith, h, more)
 
-module _ (n : ℕ) (old : Option ℕ) (before : ℕ) where
-  -- some slots were passed over
-  pub steps-kept : (now new : Option ℕ) (x y rest : ℕ) → AtSteps n old now before (x + rest)
-      → AreCounted now new x y → y ≤ x → AtSteps n old new before (y + rest)
-  steps-kept now new x y rest (inl h) more less = inl (counted-then old now new before x y rest h more)
-  steps-kept now new x y rest (inr h) more less = inr (run-out old now new h more)
-    where
-      run-out : (old now new : Option ℕ) → HaveRunOut n old now before (x + rest)
-          → AreCounted now new x y → HaveRunOut n old new before (y + rest)
-      run-out None now new h more = absurd h
-      run-out (Some a) None new h more = absurd h
-      run-out (Some a) (Some b) None h more = absurd more
-      run-out (Some a) (Some b) (Some d) h more =
-          (omega (arith, h.0, more, less), omega (arith, h.0, h.1, more, less), omega (arith, h.0, h.2, more, less))
+-- or is refused
+pub refused-then : (old now new : Option ℕ) (before x rest : ℕ) → HasNotGrown old now
+    → AreCounted old now before (x + rest) → HasRefused now new x → HasRefused old new before
+refused-then None now new before x rest grown h refused =
+    subst (λ (s : Option ℕ). HasRefused s new x) h refused
+refused-then (Some a) None new before x rest grown h refused = absurd h
+refused-then (Some a) (Some b) None before x rest grown h refused = absurd refused
+refused-then (Some a) (Some b) (Some d) before x rest grown h refused =
+    (omega (arith, grown, refused.0), omega (arith, h, refused.1))
 
-  -- a record is looked at, and perhaps an address table
-  pub steps-library : (now : Option ℕ) (ahead count after : ℕ) → AtSteps n old now before ahead
-      → HasSteps now → count + after ≡ ahead → count ≤ n + 1
-      → AtSteps n old (spent now count) before after
-  steps-library now ahead count after h has is few =
-      by old now has (still n old now before ahead has h)
-    where
-      by : (old now : Option ℕ) → HasSteps now → AreCounted old now before ahead
-          → AtSteps n old (spent now count) before after
-      by None now has h = inl (ap (λ (s : Option ℕ). spent s count) h)
-      by (Some a) None has h = absurd h
-      by (Some a) (Some b) has h = elim (cases_lt b count) [
-        | inl less ↦ inr (omega (arith, less), omega (arith, less, h, is), omega (arith, less, has, few, h, is))
-        | inr most ↦ inl (omega (arith, most, h, is))
-      ]
+-- the same with nothing beside it
+pub counted-over : (old now new : Option ℕ) (before x y : ℕ) → AreCounted old now before x
+    → AreCounted now new x y → AreCounted old new before y
+counted-over None now new before x y h more = subst (λ (s : Option ℕ). AreCounted s new x y) h more
+counted-over (Some a) None new before x y h more = absurd h
+counted-over (Some a) (Some b) None before x y h more = absurd more
+counted-over (Some a) (Some b) (Some d) before x y h more = omega (arith, h, more)
 
-  pub steps-out : (now : Option ℕ) (ahead : ℕ) → AtSteps n old now before ahead → IsOut now
-      → HaveRunOut n old now before ahead
-  steps-out now ahead (inl h) out = by old now h out
-    where
-      by : (old now : Option ℕ) → AreCounted old now before ahead → IsOut now
-          → HaveRunOut n old now before ahead
-      by None None h out = absurd out
-      by None (Some b) h out = absurd (cc h)
-      by (Some a) None h out = absurd h
-      by (Some a) (Some b) h out = (out, omega (arith, h, out), omega (arith, h, out))
-  steps-out now ahead (inr h) out = h
+pub refused-over : (old now new : Option ℕ) (before x : ℕ) → HasNotGrown old now
+    → AreCounted old now before x → HasRefused now new x → HasRefused old new before
+refused-over None now new before x grown h refused =
+    subst (λ (s : Option ℕ). HasRefused s new x) h refused
+refused-over (Some a) None new before x grown h refused = absurd h
+refused-over (Some a) (Some b) None before x grown h refused = absurd refused
+refused-over (Some a) (Some b) (Some d) before x grown h refused =
+    (omega (arith, grown, refused.0), omega (arith, h, refused.1))
 
 -- where a limit has steps left, a table's end is reached
 pub place-ended : (place steps : Option ℕ) → (place ≡ None) ⊎ IsOut steps → HasSteps steps

@@ -7,7 +7,7 @@ use Rattle.std.specs.Option.{option_len}
 use Rattle.goblin_base.specs.{declared.error.ErrorOf.ErrorOf, Reading.Reading, Tables.Format}
 use Rattle.goblin_base.specs.Answers.{FirstFault, IsMemory, all_of}
 use Rattle.readings.specs.Reads.{given, or_else, pick}
-use Rattle.readings.specs.Walks.{GivesNext, refusal_of, table_walk, until_refused}
+use Rattle.readings.specs.Walks.{GivesNext, from_slot, refusal_of, table_walk, until_refused}
 use Rattle.goblin_pe_sect.specs.declared.address_map.finder.Finder.{Finder}
 use Rattle.goblin_pe_sect.specs.AddressReadings.{at_address, name_at}
 use Rattle.goblin_pe_sect.specs.Addresses.{Addressing, MapOfAddresses, map_of, reads_strictly}
@@ -23,8 +23,10 @@ pub use Rattle.goblin_pe_import.specs.declared.added.imports.Walk.{Walk}
 pub use Rattle.goblin_pe_import.specs.declared.added.imports.WalkedImport.{WalkedImport}
 use Rattle.goblin_pe_import.specs.KeptEntries.{KeptValue, entries_from, IsEntriesCause, slots_bound}
 use Rattle.goblin_pe_import.specs.Passed.{Count, HasRisen, Passed, as_skipped, count_of}
-use Rattle.goblin_pe_import.specs.Passed.{entries_ahead, table_counts}
-use Rattle.goblin_pe_import.specs.{Steps.UnlessErr, TableSums.amount_of}
+use Rattle.goblin_pe_import.specs.Passed.{entries_ahead}
+use Rattle.goblin_pe_import.specs.{Steps.UnlessErr, ImportReadings.import_record_at}
+use Rattle.goblin_pe_import.specs.ImportRecords.{is_last_record}
+use Rattle.goblin_pe_import.specs.added.TestedTables.{counts_resumed, in_next, tested_table}
 
 -- ---- the entries of a lookup table
 
@@ -49,12 +51,12 @@ abbrev pub addresses_of : Format EntryValue → Addressing → ImportDirectoryEn
 addresses_of format addressing r =
     at_address addressing.offset (address_table_rva r) (address_table format)
 
--- an address table that is still to be tested, which only strict mode does
-abbrev pub pending_table : Bool → Format EntryValue → Addressing → Option ℕ
+-- an address table that is still to be tested after its entries, which only strict mode does
+abbrev pub pending_table : Bool → Format EntryValue → Addressing → Option ℕ → Option ℕ
     → Reading (List ℕ)
-pending_table strict format addressing None = given []
-pending_table strict format addressing (Some rva) =
-    pick strict (at_address addressing.offset rva (address_table format)) (given [])
+pending_table strict format addressing tested None = given []
+pending_table strict format addressing tested (Some rva) =
+    pick strict (tested_table format addressing tested rva) (given [])
 
 -- the index of the descriptor at p in a directory whose first one is at `first`
 abbrev pub record_index : ℕ → ℕ → ℕ
@@ -73,11 +75,14 @@ no_imports = record {
   table_offset = 0;
   place = None;
   pending = None;
+  tested = None;
 }
 
--- whether a descriptor leads to no library, because its address table cannot be read
-unfoldable pub leads_to_none : Format EntryValue → Addressing → List ℕ → ImportDirectoryEntry → Bool
-leads_to_none format addressing bytes r = is_none ((addresses_of format addressing r).value bytes)
+-- whether the address table of a descriptor cannot be read, or what is yet to be tested of it
+abbrev pub lacks_table : Format EntryValue → Addressing → List ℕ → Option ℕ → ImportDirectoryEntry
+    → Bool
+lacks_table format addressing bytes tested r =
+    is_none ((tested_table format addressing tested (address_table_rva r)).value bytes)
 
 module _ (strict : Bool) (format : Format EntryValue) (addressing : Addressing)
     (bytes : List ℕ) where
@@ -88,19 +93,20 @@ module _ (strict : Bool) (format : Format EntryValue) (addressing : Addressing)
       (entries_from strict format addressing bytes o place)
 
   -- whether a walk skips a library, as it does in permissive mode if its address table cannot be
-  -- read
-  abbrev pub is_skipped : ImportDirectoryEntry → Bool
-  is_skipped r = not strict && is_none ((addresses_of format addressing r).value bytes)
+  -- read, or what is yet to be tested of it
+  abbrev pub is_skipped : Option ℕ → ImportDirectoryEntry → Bool
+  is_skipped tested r = not strict && lacks_table format addressing bytes tested r
 
   -- What comes of the library of the descriptor with an index: its name is needed (without it, only
   -- a refusal comes), then its imports come, then strict mode needs its address table. Permissive
   -- mode needs that table first, and leaves out the library without it.
-  unfoldable pub library_items : ℕ → ImportDirectoryEntry → List (Option NumberedImport)
-  library_items index r =
+  unfoldable pub library_items : Option ℕ → ℕ → ImportDirectoryEntry
+      → List (Option NumberedImport)
+  library_items tested index r =
       let table = lookup_offset addressing r in
       let o = unwrap_or table 0 in
-      let addresses = pending_table strict format addressing (Some (address_table_rva r)) in
-      if is_skipped r then []
+      let addresses = pending_table strict format addressing None (Some (address_table_rva r)) in
+      if is_skipped tested r then []
       else unwrap_or
       (option_map
       (λ dll. imports_of_entries index dll r.import_address_table_rva o table
@@ -111,12 +117,16 @@ module _ (strict : Bool) (format : Format EntryValue) (addressing : Addressing)
   -- the imports of the libraries whose descriptors are in this directory from a place on
   unfoldable pub imports_from_record : ℕ → ℕ → List (Option NumberedImport)
   imports_from_record first p =
-      table_walk import_slots strict (λ p r. library_items (record_index first p) r) bytes p
+      table_walk import_slots strict (λ p r. library_items None (record_index first p) r) bytes p
 
-  -- the imports from the next descriptor on, if there is one
-  unfoldable pub imports_next : ℕ → Option ℕ → List (Option NumberedImport)
-  imports_next first None = []
-  imports_next first (Some p) = imports_from_record first p
+  -- the imports from the next descriptor on, if there is one, of whose address table the slots
+  -- before a place have been tested
+  unfoldable pub imports_next : ℕ → Option ℕ → Option ℕ → List (Option NumberedImport)
+  imports_next first None tested = []
+  imports_next first (Some p) None = imports_from_record first p
+  imports_next first (Some p) (Some place) =
+      from_slot strict is_last_record (library_items (Some place) (record_index first p))
+      (imports_from_record first (p + 20)) ((import_record_at p).value bytes)
 
   -- the cause that is true if one of the libraries whose descriptors are in the directory from a
   -- place on is refused
@@ -128,22 +138,22 @@ module _ (strict : Bool) (format : Format EntryValue) (addressing : Addressing)
   abbrev pub IsNamedCause : ImportDirectoryEntry → (IsLater : ErrorOf → Type 0) → ErrorOf → Type 0
   IsNamedCause r IsLater e =
       let table = lookup_offset addressing r in
-      let addresses = pending_table strict format addressing (Some (address_table_rva r)) in
+      let addresses = pending_table strict format addressing None (Some (address_table_rva r)) in
       FirstFault (all_of (entries_from strict format addressing bytes (unwrap_or table 0) table))
       (IsEntriesCause strict format addressing bytes table)
       (λ _. FirstFault (addresses.value bytes) (addresses.IsCause bytes) (λ _. IsLater)) e
 
   -- what comes once the entries of a library have come: a refusal if its address table is still to
   -- be tested and cannot be read, then the imports from the next descriptor on
-  abbrev pub later_items : Option ℕ → ℕ → Option ℕ → List (Option NumberedImport)
-  later_items pending first next =
-      refusal_of ((pending_table strict format addressing pending).value bytes)
-      ++ imports_next first next
+  abbrev pub later_items : Option ℕ → Option ℕ → ℕ → Option ℕ → List (Option NumberedImport)
+  later_items tested pending first next =
+      refusal_of ((pending_table strict format addressing tested pending).value bytes)
+      ++ imports_next first next (in_next strict tested)
 
   -- the cause that is true if it is refused
-  abbrev pub IsLaterCause : Option ℕ → Option ℕ → ErrorOf → Type 0
-  IsLaterCause pending next e =
-      let table = pending_table strict format addressing pending in
+  abbrev pub IsLaterCause : Option ℕ → Option ℕ → Option ℕ → ErrorOf → Type 0
+  IsLaterCause tested pending next e =
+      let table = pending_table strict format addressing tested pending in
       FirstFault (table.value bytes) (table.IsCause bytes)
       (λ _ e. IsSomeAnd next (λ p. IsRecordsCause p e)) e
 
@@ -152,7 +162,7 @@ module _ (strict : Bool) (format : Format EntryValue) (addressing : Addressing)
   items_left dll c =
       until_refused
       (imports_of_entries c.library dll c.rva c.table_offset c.place
-      ++ later_items c.pending c.first_record c.next_record)
+      ++ later_items c.tested c.pending c.first_record c.next_record)
 
 -- an upper bound of what comes from the next descriptor on: for each descriptor that may be left, a
 -- whole file of entries, a refusal of their table and one of the address table
@@ -177,7 +187,7 @@ IsCursorCause m format bytes c e =
     (strict ≡ true)
     × FirstFault (all_of (entries_from strict format m.addressing bytes c.table_offset c.place))
     (IsEntriesCause strict format m.addressing bytes c.place)
-    (λ _. IsLaterCause strict format m.addressing bytes c.pending c.next_record) e
+    (λ _. IsLaterCause strict format m.addressing bytes c.tested c.pending c.next_record) e
 
 -- what is still to come of a walk
 abbrev pub walk_left : Format EntryValue → Walk → List (Option NumberedImport)
@@ -209,19 +219,20 @@ abbrev pub later_left : Format EntryValue → Walk → List (Option NumberedImpo
 later_left format w =
     let m = map_of w.finder in
     until_refused
-    (later_items (reads_strictly m) format m.addressing w.bytes.now w.at.pending w.at.first_record
-    w.at.next_record)
+    (later_items (reads_strictly m) format m.addressing w.bytes.now w.at.tested w.at.pending
+    w.at.first_record w.at.next_record)
 
 -- the cause that is true if it is refused
 abbrev pub IsLaterLeftCause : Format EntryValue → Walk → ErrorOf → Type 0
 IsLaterLeftCause format w e =
     let m = map_of w.finder in
     (reads_strictly m ≡ true)
-    × IsLaterCause (reads_strictly m) format m.addressing w.bytes.now w.at.pending
+    × IsLaterCause (reads_strictly m) format m.addressing w.bytes.now w.at.tested w.at.pending
     w.at.next_record e
 
--- Once the entries of the library that the walk s is in have come, a call moves the walk to the
--- next library, where it is t. Or there is no other library, or the call is refused.
+-- Once the entries of the library that the walk s is in have come, a call takes one look, and moves
+-- the walk to t: into the next library, past it, or on in an address table. Or there is no other
+-- library, or the call is refused.
 abbrev pub GivesLibrary : {X : Type 0} → Format EntryValue → Walk → Option (Result X ErrorOf) → Walk
     → Type 0
 GivesLibrary format s None t = later_left format s ≡ []
@@ -237,21 +248,22 @@ module _ (strict : Bool) (format : Format EntryValue) (addressing : Addressing)
     (bytes : List ℕ) (k : Count) where
   -- how much a descriptor counts: a library that is skipped, whose entries are not looked at, or
   -- its lookup table
-  unfoldable pub record_counts : ImportDirectoryEntry → ℕ
-  record_counts r =
-      if is_skipped strict format addressing bytes r
+  unfoldable pub record_counts : Option ℕ → ImportDirectoryEntry → ℕ
+  record_counts tested r =
+      if is_skipped strict format addressing bytes tested r
       then as_skipped k
       else entries_ahead strict format addressing bytes k (lookup_offset addressing r)
 
   -- how much a directory counts, from the next descriptor on
-  abbrev pub records_ahead : Option ℕ → ℕ
-  records_ahead next = amount_of (table_counts import_slots record_counts k bytes) next
+  abbrev pub records_ahead : Option ℕ → Option ℕ → ℕ
+  records_ahead next tested = counts_resumed import_slots record_counts k bytes next tested
 
 -- how much a walk passes over from a cursor to its end
 abbrev pub cursor_passes : MapOfAddresses → Format EntryValue → List ℕ → ImportCursor → Count → ℕ
 cursor_passes m format bytes c k =
     entries_ahead (reads_strictly m) format m.addressing bytes k c.place
     + records_ahead (reads_strictly m) format m.addressing bytes k c.next_record
+    (in_next (reads_strictly m) c.tested)
 
 abbrev pub walk_passes : Format EntryValue → Walk → Count → ℕ
 walk_passes format w k = cursor_passes (map_of w.finder) format w.bytes.now w.at k

@@ -27,13 +27,13 @@ ghost use Rattle.goblin_pe_import.specs.Passed.{Count, HasRisen, count_of, nothi
 ghost use Rattle.goblin_pe_import.specs.added.ImportWalks.{CountsPassed, passed_of, records_ahead};
 ghost use Rattle.goblin_pe_import.specs.added.ImportWalks.{walk_passes};
 ghost use Rattle.goblin_pe_import.specs.added.StepsAhead.{EndsWithin, GivesImportWithin};
-ghost use Rattle.goblin_pe_import.specs.added.StepsAhead.{HaveRunOut, LooksAt, imports_ahead};
-ghost use Rattle.goblin_pe_import.specs.added.StepsAhead.{later_ahead, tested_ahead, pending_ahead};
-ghost use Rattle.goblin_pe_import.specs.added.StepsAhead.{walk_ahead};
-ghost use Rattle.goblin_pe_import.specs.Steps.{GivesWithin, HasNotGrown};
+ghost use Rattle.goblin_pe_import.specs.added.StepsAhead.{TestsFirst, TestsPending};
+ghost use Rattle.goblin_pe_import.specs.added.StepsAhead.{imports_ahead, later_ahead, walk_ahead};
+ghost use Rattle.goblin_pe_import.specs.added.TestedTables.{in_next};
+ghost use Rattle.goblin_pe_import.specs.Steps.{GivesWithin, HasNotGrown, IsOut, LooksAt};
 
 use crate::added::ascii::ascii_kept;
-use crate::added::tested::{leads_to_none, test_numbers};
+use crate::added::tested::test_table;
 use crate::import::bitfield::Bitfield;
 use crate::import::directory_entry::{ImportDirectoryEntry, SIZEOF_IMPORT_DIRECTORY_ENTRY};
 use crate::import::kept::{KeptEntry, next_kept_within};
@@ -93,6 +93,10 @@ pub struct ImportCursor {
     pub place: Option<usize>,
     /// The address of its address table, if that table is yet to be tested after its entries.
     pub pending: Option<u32>,
+    /// The file offset of the next slot to test, where a part of an address table has been tested:
+    /// in permissive mode that of the next library, before its entries; in strict mode that of
+    /// `pending`.
+    pub tested: Option<usize>,
 }
 
 impl ImportCursor {
@@ -109,6 +113,7 @@ impl ImportCursor {
             table_offset: 0,
             place: None,
             pending: None,
+            tested: None,
         }
     }
 
@@ -159,60 +164,45 @@ struct Walk<'a, 'm> {
     passed: Passed,
 }
 
-// Tests the address table that is yet to be tested, if there is one, and returns how many slots it
-// looks at. Permissive mode has tested the table before.
+// Tests a piece of the address table that is yet to be tested after its library's entries, if there
+// is one. Permissive mode has tested the table before.
 fn test_pending<'a, 'e, T: Bitfield<'a>>(
     bytes: &'a [u8],
-    pending: Option<u32>,
+    at: &ImportCursor,
     finder: &mut Finder<'_>,
-) -> ResultOf<'e, usize>
-    ensures value { let m = map_of finder.old in
-        Reads (λ _. tt {0}) result
-        (mapped (λ _. tt {0}) (pending_table (reads_strictly m) T.format m.addressing pending))
-        bytes.now }
-    ensures counted { let m = map_of finder.old in
-        IfOk result (λ n.
-        n ≡ pending_ahead (reads_strictly m) T.format m.addressing bytes.now pending) }
-    ensures few { IfOk result (λ n. n ≤ length bytes.now) }
-    ensures strictly { IfErr result (λ e. reads_strictly (map_of finder.old) ≡ true) }
-    ensures there { IfErr result (λ e. 1 ≤ option_len pending) }
+) -> Option<ResultOf<'e, Option<usize>>>
+    ensures tests { let m = map_of finder.old in
+        TestsPending (reads_strictly m) T.format m.addressing bytes.now at.now.tested
+        at.now.pending result }
+    ensures there { IfSome result (λ r. 1 ≤ option_len at.now.pending) }
     ensures wide { 1 ≤ T.format.width }
     ensures same { finder.new ≡ finder.old }
 {
-    let Some(rva) = pending else {
-        return Ok(0);
+    let Some(rva) = at.pending else {
+        return None;
     };
     if !finder.reads_strictly() {
-        return Ok(0);
+        return None;
     }
-    let Some(offset) = finder.offset_of(rva) else {
-        return Err(Error::Malformed(Cause::Unmapped(rva as usize)));
-    };
-    match test_numbers::<T>(bytes, offset) {
-        (Ok(()), count) => Ok(count),
-        (Err(error), _) => Err(error),
-    }
+    Some(test_table::<T>(bytes, at.tested, rva, finder))
 }
 
-// Whether the walk skips the library of an import descriptor, as it does in permissive mode if its
-// address table can't be read, and how many slots of that table are looked at. In strict mode:
-// false, and none.
-fn is_skipped<'a, T: Bitfield<'a>>(
+// Tests a piece of the address table of an import descriptor before its library's entries, as
+// permissive mode does. If that is an error, the walk skips the library.
+fn test_first<'a, 'e, T: Bitfield<'a>>(
     bytes: &'a [u8],
+    tested: Option<usize>,
     entry: &ImportDirectoryEntry,
-    address_map: &AddressMap,
-) -> (bool, usize)
-    ensures out { let m = map_of address_map.now in
-        result.0 ≡ is_skipped (reads_strictly m) T.format m.addressing bytes.now entry.now }
-    ensures counted { let m = map_of address_map.now in
-        result.1 ≡ tested_ahead (reads_strictly m) T.format m.addressing bytes.now
-        (address_table_rva entry.now) }
-    ensures few { result.1 ≤ length bytes.now }
+    finder: &mut Finder<'_>,
+) -> ResultOf<'e, Option<usize>>
+    ensures tests { let m = map_of finder.old in
+        TestsFirst (reads_strictly m) T.format m.addressing bytes.now tested entry.now result }
+    ensures same { finder.new ≡ finder.old }
 {
-    if address_map.reads_strictly() {
-        return (false, 0);
+    if finder.reads_strictly() {
+        return Ok(None);
     }
-    leads_to_none::<T>(bytes, entry, address_map)
+    test_table::<T>(bytes, tested, address_table_rva(entry), finder)
 }
 
 // The import of an entry that the lookup table at a cursor keeps. The library is `dll`.
@@ -267,62 +257,76 @@ impl<'a, 'm> Walk<'a, 'm> {
         self.at = ImportCursor::end();
     }
 
-    // Moves the walk to the next library, once it has yielded the entries of this one. Returns how
-    // many steps this takes. If there is no other library, it returns `None`, and sets `last` to
-    // the number of steps.
+    // Takes one look, once the walk has yielded the entries of a library: at a piece of an address
+    // table or an import descriptor, or at both. `None` if there is no other library.
     #[inline(always)]
-    fn next_library<'e, T: Bitfield<'a>>(&mut self, last: &mut usize) -> Option<ResultOf<'e, usize>>
+    fn next_library<'e, T: Bitfield<'a>>(&mut self) -> Option<ResultOf<'e, ()>>
         ensures gives { GivesLibrary T.format self.old result self.new }
         ensures named { IfSome result (λ r. IfOk r (λ _. IsNamed self.new)) }
         ensures bytes { self.new.bytes.now ≡ self.old.bytes.now }
         ensures finder { self.new.finder ≡ self.old.finder }
-        ensures nearer { let bytes = self.old.bytes.now in
-            IfSome result (λ r. IfOk r (λ _. slots_bound bytes self.new.at.next_record
-            < slots_bound bytes self.old.at.next_record)) }
-        ensures bound { IfSome result (λ r. IfOk r (λ _.
-            walk_bound self.new ≤ bound_next self.old.bytes.now self.old.at.next_record)) }
+        ensures bound { let c = self.old.at in IfSome result (λ r. IfOk r (λ _.
+            walk_bound self.new
+            ≤ option_len c.pending + bound_next self.old.bytes.now c.next_record)) }
         ensures there { let c = self.old.at in
             IfSome result (λ r. IfErr r (λ e.
             1 ≤ option_len c.pending + bound_next self.old.bytes.now c.next_record)) }
         ensures counted { let m = map_of self.old.finder in
-            let bytes = self.old.bytes.now in
             let c = self.old.at in
-            let before =
-            later_ahead (reads_strictly m) T.format m.addressing bytes c.pending c.next_record in
-            MatchOption result ((last.new ≡ before) × (last.new ≤ length bytes)) (λ r. IfOk r (λ n.
-            (n + walk_ahead T.format self.new ≡ before) × (n ≤ length bytes + 1))) }
+            let before = later_ahead (reads_strictly m) T.format m.addressing self.old.bytes.now
+            c.tested c.pending c.next_record in
+            MatchOption result (before ≡ 0) (λ r. IfOk r (λ _.
+            before ≡ suc (walk_ahead T.format self.new))) }
         ensures passed { let m = map_of self.old.finder in
             (k : Count) → let before = records_ahead (reads_strictly m) T.format m.addressing
-            self.old.bytes.now k self.old.at.next_record in
+            self.old.bytes.now k self.old.at.next_record
+            (in_next (reads_strictly m) self.old.at.tested) in
             let risen = HasRisen (count_of k self.old.passed) (count_of k self.new.passed) before in
             MatchOption result (risen 0) (λ r. IfOk r (λ _. risen (walk_passes T.format self.new k))) }
     {
-        let tested = match test_pending::<T>(self.bytes, self.at.pending, &mut self.finder) {
-            Ok(tested) => tested,
-            Err(error) => return Some(Err(error)),
-        };
+        match test_pending::<T>(self.bytes, &self.at, &mut self.finder) {
+            None => (),
+            Some(Ok(None)) => {
+                self.at.place = None;
+                self.at.pending = None;
+                self.at.tested = None;
+                return Some(Ok(()));
+            }
+            Some(Ok(Some(place))) => {
+                self.at.place = None;
+                self.at.tested = Some(place);
+                return Some(Ok(()));
+            }
+            Some(Err(error)) => return Some(Err(error)),
+        }
         let Some(offset) = self.at.next_record else {
-            *last = tested;
             return None;
         };
         let size = SIZEOF_IMPORT_DIRECTORY_ENTRY;
         let Some(record) = next_record(self.bytes, offset) else {
             if may_end(self.bytes, offset, size, self.finder.reads_strictly()) {
                 self.passed.add_end(self.bytes, offset, size);
-                *last = tested;
                 return None;
             }
             return Some(Err(Error::Malformed(Cause::ImportRecordEnd(offset))));
         };
-        let (is_out, looked) = is_skipped::<T>(self.bytes, &record, self.finder.address_map());
-        let steps = tested + looked + 1;
         let next_record = Some(offset + size);
-        if is_out {
-            self.passed.add_library();
-            self.at.next_record = next_record;
-            self.at.place = None;
-            self.at.pending = None;
-            return Some(Ok(steps));
+        match test_first::<T>(self.bytes, self.at.tested, &record, &mut self.finder) {
+            Ok(None) => (),
+            Ok(Some(place)) => {
+                self.at.place = None;
+                self.at.pending = None;
+                self.at.tested = Some(place);
+                return Some(Ok(()));
+            }
+            Err(_) => {
+                self.passed.add_library();
+                self.at.next_record = next_record;
+                self.at.place = None;
+                self.at.pending = None;
+                self.at.tested = None;
+                return Some(Ok(()));
+            }
         }
         let first_record = self.at.first_record;
         self.dll = match library_name(self.bytes, record.name_rva, &mut self.finder) {
@@ -339,8 +343,9 @@ impl<'a, 'm> Walk<'a, 'm> {
             table_offset: place.unwrap_or(0),
             place,
             pending: Some(address_table_rva(&record)),
+            tested: None,
         };
-        Some(Ok(steps))
+        Some(Ok(()))
     }
 
     // An upper bound of the number of imports to come, if it fits.
@@ -371,11 +376,9 @@ impl<'a, 'm> Walk<'a, 'm> {
         ensures fewer { IfSome result (λ r. walk_bound self.new < walk_bound self.old) }
         ensures passed { CountsPassed T.format self.old result self.new }
         ensures spent { HasNotGrown steps.old steps.new }
-        ensures looked { LooksAt (length self.old.bytes.now) result steps.old steps.new
-            (walk_ahead T.format self.old) (walk_ahead T.format self.new) }
-        ensures ended { EndsWithin result self.new.at
-            (HaveRunOut (length self.old.bytes.now) steps.old steps.new
-            (walk_ahead T.format self.old) (walk_ahead T.format self.new)) }
+        ensures looked { LooksAt result steps.old steps.new (walk_ahead T.format self.old)
+            (walk_ahead T.format self.new) }
+        ensures ended { EndsWithin result self.new.at (IsOut steps.new) }
     {
         'libraries: loop {
             let (bytes, finder) = (self.bytes, &mut self.finder);
@@ -392,15 +395,14 @@ impl<'a, 'm> Walk<'a, 'm> {
             if are_out(steps) {
                 return None;
             }
-            let mut last = 0;
-            match self.next_library::<T>(&mut last) {
-                Some(Ok(count)) => spend(steps, count),
+            match self.next_library::<T>() {
+                Some(Ok(())) => spend(steps, 1),
                 Some(Err(error)) => {
+                    spend(steps, 1);
                     self.end();
                     return Some(Err(error));
                 }
                 None => {
-                    spend(steps, last);
                     self.end();
                     return None;
                 }
@@ -550,14 +552,11 @@ impl<'a, 'm, 'e, T: Bitfield<'a>> Imports<'a, 'm, 'e, T> {
     }
 
     /// The next import within a budget of steps. `steps` is the budget, from which the call takes
-    /// what it spends. Each step looks at one slot of a table or one import descriptor of the
-    /// directory, whether or not that gives an import.
+    /// what it spends. Each step looks at one slot of a lookup table, at one import descriptor of the
+    /// directory, or at 64 slots of an address table, whether or not that gives an import.
     ///
     /// `None` means one of two things. If the [`cursor`](Imports::cursor) is at the end, so is the
     /// walk. Else the budget has run out; call again with a new one to go on.
-    ///
-    /// The slots of an address table are looked at in one go, so the last such table may take more
-    /// steps than are left.
     #[inline(always)]
     pub fn next_within(
         &mut self,

@@ -1,6 +1,6 @@
 //! A walk over the libraries of an image, one for each import descriptor.
 
-ghost use Rattle.std.specs.Prelude.{◌≡◌, ◌<◌, IfSome, List, Some, ℕ};
+ghost use Rattle.std.specs.Prelude.{◌≡◌, ◌<◌, ◌&&◌, IfOk, IfSome, List, None, Some, ℕ, not, suc};
 ghost use Rattle.std.specs.Iterator.{UpTo, at_most};
 ghost use Rattle.std.specs.{Iterator.SizeHint.IsWithinCount, Result.result_map_both};
 ghost use Rattle.goblin_base.specs.Tables.{Format};
@@ -14,15 +14,22 @@ ghost use Rattle.goblin_pe_import.specs.added.Libraries.{libraries_left, librari
 ghost use Rattle.goblin_pe_import.specs.added.Libraries.{libraries_bytes, libraries_cursor};
 ghost use Rattle.goblin_pe_import.specs.added.Libraries.{libraries_format, libraries_map};
 ghost use Rattle.goblin_pe_import.specs.{Passed.nothing_passed, added.Libraries.libraries_passed};
-ghost use Rattle.goblin_pe_import.specs.added.Libraries.{library_at, library_value};
+ghost use Rattle.goblin_pe_import.specs.added.Libraries.{GivesLibraryWithin, MovesWithin, given_of};
+ghost use Rattle.goblin_pe_import.specs.added.Libraries.{libraries_steps, library_row};
+ghost use Rattle.goblin_pe_import.specs.added.Libraries.{library_value, tested_at};
+ghost use Rattle.goblin_pe_import.specs.{ImportRecords.address_table_rva, Passed.risen};
+ghost use Rattle.goblin_pe_import.specs.{Steps.IsOut, added.StepsAhead.EndsWithin};
+ghost use Rattle.goblin_pe_import.specs.added.TestedTables.{TestsPiece, tested_slots, tested_table};
+ghost use Rattle.std.specs.Int.{from_bool};
 
 use crate::added::imports::{ImportCursor, record_index, slots_bound};
-use crate::added::tested::leads_to_none;
+use crate::added::tested::test_table;
 use crate::import::directory_entry::{ImportDirectoryEntry, SIZEOF_IMPORT_DIRECTORY_ENTRY};
 use crate::import::library::{address_table_rva, lookup_offset};
 use crate::import::passed::Passed;
 use crate::import::slots::{may_end, next_record};
-use goblin_base::{Cause, Error, Result, pread_str_within};
+use crate::import::steps::{are_out, spend};
+use goblin_base::{Cause, Error, Result, ResultOf, pread_str_within};
 use goblin_pe_sect::address_map::Finder;
 use std::fmt;
 use std::iter::FusedIterator;
@@ -155,7 +162,7 @@ impl<'a, 'm> Libraries<'a, 'm> {
 
     /// Where the walk is: before the import descriptor that comes next. A walk over imports from
     /// this cursor on begins with the imports of that library. One exception: until this walk has
-    /// yielded something, its cursor is the one that it was made from, which may lie in an earlier
+    /// looked at something, its cursor is the one that it was made from, which may lie in an earlier
     /// library. At the end, and after an error, it is [`ImportCursor::end`].
     pub fn cursor(&self) -> ImportCursor
         ensures is { result ≡ libraries_cursor self.now }
@@ -174,28 +181,120 @@ impl<'a, 'm> Libraries<'a, 'm> {
         self.passed
     }
 
-    // The library of the import descriptor at an offset.
-    fn library_at(&mut self, offset: usize, entry: ImportDirectoryEntry) -> WalkedLibrary<'a>
-        ensures value { let m = libraries_map self.old in
-            library_value result
-            ≡ library_at (libraries_format self.old) m.addressing (libraries_bytes self.old)
-            (libraries_cursor self.old).first_record offset entry }
+    // Tests a piece of the address table of the next import descriptor, from where the walk has
+    // tested it.
+    fn test_piece<'e>(&mut self, entry: &ImportDirectoryEntry) -> ResultOf<'e, Option<usize>>
+        ensures tests { let format = libraries_format self.old in
+            let addressing = (libraries_map self.old).addressing in
+            let bytes = libraries_bytes self.old in
+            let tested = tested_at (libraries_cursor self.old) in
+            let rva = address_table_rva entry.now in
+            TestsPiece format bytes (tested_table format addressing tested rva)
+            (tested_slots format addressing bytes tested rva) result }
         ensures same { self.new ≡ self.old }
     {
-        let first = self.at.first_record;
-        let address_map = self.finder.address_map();
-        let (is_none, _) = if self.is_narrow {
-            leads_to_none::<u32>(self.bytes, &entry, address_map)
-        } else {
-            leads_to_none::<u64>(self.bytes, &entry, address_map)
+        let tested = match self.at.pending {
+            None => self.at.tested,
+            Some(_) => None,
         };
+        let rva = address_table_rva(entry);
+        if self.is_narrow {
+            test_table::<u32>(self.bytes, tested, rva, &mut self.finder)
+        } else {
+            test_table::<u64>(self.bytes, tested, rva, &mut self.finder)
+        }
+    }
+
+    // The library of the import descriptor at an offset. The walk moves to the next one.
+    fn pass(
+        &mut self,
+        offset: usize,
+        next: usize,
+        entry: ImportDirectoryEntry,
+        is_left_out: bool,
+    ) -> WalkedLibrary<'a>
+        ensures value { library_value result
+            ≡ library_row (libraries_map self.old).addressing (libraries_bytes self.old)
+            (libraries_cursor self.old).first_record offset entry is_left_out }
+        ensures skipped { let strict = reads_strictly (libraries_map self.old) in
+            self.new.passed.skipped
+            ≡ risen self.old.passed.skipped (from_bool (not strict && is_left_out)) }
+        ensures unmapped { self.new.passed.unmapped ≡ self.old.passed.unmapped }
+        ensures moved { let first = (libraries_cursor self.old).first_record in
+            self.new ≡ record self.old { at = at_record first next; passed = self.new.passed } }
+    {
+        let first = self.at.first_record;
+        let name = name_or_cause(self.bytes, entry.name_rva, &mut self.finder);
+        let strictly = self.finder.reads_strictly();
+        self.passed.add_row(strictly, is_left_out);
+        self.at = ImportCursor::at_record(first, next);
         WalkedLibrary {
             import_directory_entry: entry,
             index: record_index(first, offset),
             offset,
-            name: name_or_cause(self.bytes, entry.name_rva, &mut self.finder),
-            is_left_out: is_none,
+            name,
+            is_left_out,
             cursor: ImportCursor::at_record(first, offset),
+        }
+    }
+
+    // Takes one look: at a piece of an address table, and with its last piece at the import
+    // descriptor. Gives the library there, or none yet. `None` at the end, or if the budget of steps
+    // has run out.
+    fn look(&mut self, steps: &mut Option<usize>) -> Option<Result<Option<WalkedLibrary<'a>>>>
+        ensures moves { MovesWithin self.old steps.old (given_of result) self.new steps.new }
+        ensures ended { EndsWithin result (libraries_cursor self.new) (IsOut steps.new) }
+        ensures less { IfSome result (λ r. IfOk r (λ _.
+            libraries_steps self.old ≡ suc (libraries_steps self.new))) }
+    {
+        if are_out(steps) {
+            return None;
+        }
+        let Some(offset) = self.at.next_record else {
+            self.at = ImportCursor::end();
+            return None;
+        };
+        let size = SIZEOF_IMPORT_DIRECTORY_ENTRY;
+        let Some(record) = next_record(self.bytes, offset) else {
+            self.at = ImportCursor::end();
+            if may_end(self.bytes, offset, size, self.finder.reads_strictly()) {
+                self.passed.add_end(self.bytes, offset, size);
+                return None;
+            }
+            spend(steps, 1);
+            return Some(Err(Error::Malformed(Cause::ImportRecordEnd(offset))));
+        };
+        spend(steps, 1);
+        let next = offset + size;
+        match self.test_piece(&record) {
+            Ok(Some(place)) => {
+                self.at = ImportCursor {
+                    tested: Some(place),
+                    ..ImportCursor::at_record(self.at.first_record, offset)
+                };
+                Some(Ok(None))
+            }
+            Ok(None) => Some(Ok(Some(self.pass(offset, next, record, false)))),
+            Err(_) => Some(Ok(Some(self.pass(offset, next, record, true)))),
+        }
+    }
+
+    /// The next library within a budget of steps. `steps` is the budget, from which the call takes
+    /// what it spends. Each step looks at 64 slots of an address table; the last one of a table looks
+    /// at the import descriptor, too.
+    ///
+    /// `None` means one of two things. If the [`cursor`](Libraries::cursor) is at the end, so is the
+    /// walk. Else the budget has run out; call again with a new one to go on.
+    pub fn next_within(&mut self, steps: &mut Option<usize>) -> Option<Result<WalkedLibrary<'a>>>
+        ensures { GivesLibraryWithin self.old steps.old result self.new steps.new }
+    {
+        'looks: loop {
+            match self.look(steps) {
+                Some(Ok(Some(library))) => return Some(Ok(library)),
+                Some(Ok(None)) => (),
+                Some(Err(error)) => return Some(Err(error)),
+                None => return None,
+            }
         }
     }
 }
@@ -208,25 +307,7 @@ impl<'a, 'm> Iterator for Libraries<'a, 'm> {
     ghost remaining = { λ it. at_most (libraries_bound it) };
 
     fn next(&mut self) -> Option<Result<WalkedLibrary<'a>>> {
-        let Some(offset) = self.at.next_record else {
-            self.at = ImportCursor::end();
-            return None;
-        };
-        let Some(record) = next_record(self.bytes, offset) else {
-            self.at = ImportCursor::end();
-            let size = SIZEOF_IMPORT_DIRECTORY_ENTRY;
-            if may_end(self.bytes, offset, size, self.finder.reads_strictly()) {
-                self.passed.add_end(self.bytes, offset, size);
-                return None;
-            }
-            return Some(Err(Error::Malformed(Cause::ImportRecordEnd(offset))));
-        };
-        let library = self.library_at(offset, record);
-        let strictly = self.finder.reads_strictly();
-        self.passed.add_row(strictly, library.is_left_out);
-        let next = offset + SIZEOF_IMPORT_DIRECTORY_ENTRY;
-        self.at = ImportCursor::at_record(self.at.first_record, next);
-        Some(Ok(library))
+        self.next_within(&mut None)
     }
 
     fn size_hint(&self) -> (usize, Option<usize>)

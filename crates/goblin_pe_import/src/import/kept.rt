@@ -6,7 +6,7 @@ ghost use Rattle.goblin_pe_sect.specs.Addresses.{map_of, reads_strictly};
 ghost use Rattle.goblin_pe_import.specs.KeptEntries.{IsEntriesCause, entries_from, kept_value};
 ghost use Rattle.goblin_pe_import.specs.KeptEntries.{place_after, slots_bound};
 ghost use Rattle.goblin_pe_import.specs.Passed.{Count, HasRisen, count_of, entries_ahead};
-ghost use Rattle.goblin_pe_import.specs.Steps.{AreCounted, GivesWithin, HasNotGrown};
+ghost use Rattle.goblin_pe_import.specs.Steps.{GivesWithin, HasNotGrown, LooksAt};
 ghost use Rattle.goblin_pe_import.specs.Steps.{HasSteps, IsOut, UnlessErr, slots_ahead};
 ghost use Rattle.readings.specs.Walks.{GivesNext};
 
@@ -84,7 +84,7 @@ pub(crate) fn next_kept_within<'a, 'e, T: Bitfield<'a>>(
     ensures counted { let format = T.format in
         let before = slots_ahead format bytes.now place.old in
         let after = slots_ahead format bytes.now place.new in
-        UnlessErr result (AreCounted steps.old steps.new before after) }
+        LooksAt result steps.old steps.new before after }
     ensures passed { let m = map_of finder.old in
         let ahead = entries_ahead (reads_strictly m) T.format m.addressing bytes.now in
         UnlessErr result ((k : Count) → HasRisen (count_of k passed.old) (count_of k passed.new)
@@ -121,6 +121,7 @@ pub(crate) fn next_kept_within<'a, 'e, T: Bitfield<'a>>(
                 passed.add_end(bytes, at, size);
                 return None;
             }
+            spend(steps, 1);
             return Some(Err(Error::Malformed(Cause::LookupEnd(at))));
         };
         spend(steps, 1);

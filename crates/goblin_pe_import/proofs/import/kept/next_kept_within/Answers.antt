@@ -5,7 +5,7 @@ use Rattle.goblin_pe_import.specs.{ImportEntries.entry_slots, Steps.AreCounted, 
 use Rattle.goblin_pe_import.proofs.LookupWalk.{refused-strictly, rest-end, rest-kept, rest-missing, rest-refused, rest-skip}
 use Rattle.goblin_pe_import.proofs.Modes.{ends, lacks_end}
 use Rattle.goblin_pe_import.proofs.PassedSlots.{counts-end, passed-kept, passed-skip, risen-same}
-use Rattle.goblin_pe_import.proofs.SlotSteps.{counted-one, grown_spent}
+use Rattle.goblin_pe_import.proofs.SlotSteps.{counted-one, grown_spent, refused-one}
 use Rattle.readings.proofs.Walks.{stop-first, stop-next}
 use Rattle.goblin_pe_import.proofs.import.kept.next_kept_within.Goals as goal
 
@@ -45,7 +45,7 @@ pub returns-in-Ok-Some-clause-counted : goal.returns-in-Ok-Some-clause-counted
 returns-in-Ok-Some-clause-counted g c =
     let wide : 1 ≤ g.T.Bitfield.format.width = omega (arith, c.size_of-size.ensures.width, c.size_of-size.ensures.positive) in
     let next = stop-next (entry_slots g.T.Bitfield.format) c.args.bytes.now c.slots.at wide _ c.in-Some-next_entry.ensures.0 c.in-Some-next_entry.ensures.1 in
-    rw (c.spend.ensures, c.size_of-size.ensures.width)
+    rw (c.spend-in-slots.ensures, c.size_of-size.ensures.width)
     (counted-one c.args.steps.now c.slots.steps _ _ _ (c.are_out.ensures.no c.if-are_out.false) next c.slots.invariant.2)
 
 pub returns-in-Ok-Some-clause-passed : goal.returns-in-Ok-Some-clause-passed
@@ -71,7 +71,7 @@ slots-preserved g c =
     let wide : 1 ≤ g.T.Bitfield.format.width = omega (arith, c.size_of-size.ensures.width, c.size_of-size.ensures.positive) in
     let next = stop-next (entry_slots g.T.Bitfield.format) c.args.bytes.now c.slots.at wide _ c.in-Some-next_entry.ensures.0 c.in-Some-next_entry.ensures.1 in
     let less = c.slots.invariant.3 in
-    rw (c.spend.ensures, c.size_of-size.ensures.width) (
+    rw (c.spend-in-slots.ensures, c.size_of-size.ensures.width) (
       rest-skip _ _ _ _ _ _ _ c.slots.invariant.0 wide _ c.in-Some-next_entry.ensures.0 c.in-Some-next_entry.ensures.1 _ (rw c.slots.invariant.1 at c.in-Ok-None.ensures.value) c.in-Ok-None.field-0-is,
       c.add_entry.ensures.same ∙ c.in-Ok-None.ensures.same ∙ c.slots.invariant.1,
       counted-one c.args.steps.now c.slots.steps _ _ _ (c.are_out.ensures.no c.if-are_out.false) next c.slots.invariant.2,
@@ -82,3 +82,13 @@ slots-preserved g c =
 
 pub returns-in-Err-clause-strictly : goal.returns-in-Err-clause-strictly
 returns-in-Err-clause-strictly g c = refused-strictly _ _ _ _ (rw c.slots.invariant.1 at c.in-Err.ensures.value).0
+
+pub returns-in_default-next_entry-clause-counted : goal.returns-in_default-next_entry-clause-counted
+returns-in_default-next_entry-clause-counted g c =
+    rw c.spend.ensures
+    (refused-one c.args.steps.now c.slots.steps _ _ (c.are_out.ensures.no c.if-are_out.false) c.slots.invariant.4 c.slots.invariant.2)
+
+pub returns-in-Err-clause-counted : goal.returns-in-Err-clause-counted
+returns-in-Err-clause-counted g c =
+    rw c.spend-in-slots.ensures
+    (refused-one c.args.steps.now c.slots.steps _ _ (c.are_out.ensures.no c.if-are_out.false) c.slots.invariant.4 c.slots.invariant.2)
