@@ -149,7 +149,7 @@ module _ (format : Format EntryValue) (addressing : Addressing) (bytes : List �
   -- what a descriptor leads to
   library-whole : (r : ImportDirectoryEntry)
       → IsSome ((kept_library true format addressing r).value bytes)
-      ↔ ((record_counts false format addressing bytes Skipped r ≡ 0) × HasNames addressing bytes format r)
+      ↔ ((record_counts false format addressing bytes Skipped None r ≡ 0) × HasNames addressing bytes format r)
   unfolding library_of record_counts
   library-whole r =
       by _ ((name_at addressing r.name_rva).value bytes) _
@@ -171,12 +171,12 @@ module _ (format : Format EntryValue) (addressing : Addressing) (bytes : List �
   -- can be read.
   pub imports-whole : (o : ℕ)
       → IsSome ((numbered_libraries_at true format addressing o).value bytes)
-      ↔ ((records_ahead false format addressing bytes Skipped (Some o) ≡ 0) × AllHaveNames addressing bytes format o)
+      ↔ ((records_ahead false format addressing bytes Skipped (Some o) None ≡ 0) × AllHaveNames addressing bytes format o)
   unfolding numbered_libraries_at
   imports-whole o =
       let whole =
       table-whole import_slots (λ r. (kept_library true format addressing r).value bytes)
-      (record_counts false format addressing bytes Skipped) (HasNames addressing bytes format) library-whole bytes o in
+      (record_counts false format addressing bytes Skipped None) (HasNames addressing bytes format) library-whole bytes o in
       (λ is. whole.0 (sym (with-slots _ _ _) ∙ is), λ h. with-slots _ _ _ ∙ whole.1 h)
 
 -- ---- a walk over them, from their address on
@@ -186,7 +186,7 @@ module _ (format : Format EntryValue) (m n : MapOfAddresses) (bytes : List ℕ) 
   -- what a permissive walk skips from a descriptor on
   skips : (o : ℕ)
       → cursor_passes n format bytes (before_record o) Skipped
-      ≡ records_ahead false format m.addressing bytes Skipped (Some o)
+      ≡ records_ahead false format m.addressing bytes Skipped (Some o) None
   skips o = rw (permissive, same) (omega arith)
 
   -- nothing lies behind the file, so the end of the directory is skipped there
@@ -212,7 +212,7 @@ module _ (format : Format EntryValue) (m n : MapOfAddresses) (bytes : List ℕ) 
       let behind_front : (suc o == 0) ≡ false = ne_eqb (suc o) 0 (λ e. omega (arith, e)) in
       let first : before_first (first_record_offset false (Some (suc o))) ≡ before_record (suc o) = rw behind_front refl in
       let same : cursor_passes n format bytes (before_first (first_record_offset false (Some (suc o)))) Skipped
-      ≡ records_ahead false format m.addressing bytes Skipped (Some (suc o)) =
+      ≡ records_ahead false format m.addressing bytes Skipped (Some (suc o)) None =
       ap (λ (c : ImportCursor). cursor_passes n format bytes c Skipped) first ∙ skips (suc o) in (
         λ h. let both = whole.0 h.0 in (same ∙ both.0, both.1),
         λ h. (

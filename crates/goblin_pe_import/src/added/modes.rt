@@ -4,7 +4,7 @@ ghost use Rattle.std.specs.Prelude.{◌≡◌, false, true};
 ghost use Rattle.goblin_pe_sect.specs.Addresses.{map_of, reads_strictly};
 ghost use Rattle.goblin_base.specs.Answers.{all_of};
 ghost use Rattle.goblin_pe_import.specs.Passed.Count.{Skipped};
-ghost use Rattle.goblin_pe_import.specs.added.Libraries.{libraries_ahead, libraries_left};
+ghost use Rattle.goblin_pe_import.specs.added.Libraries.{libraries_ahead, libraries_left, tested_at};
 ghost use Rattle.goblin_pe_import.specs.added.WholeReads.{AreWhole, SkipsLeftOut};
 
 use crate::added::imports::{ImportCursor, Imports};
@@ -40,7 +40,8 @@ pub fn mode_imports<'a, 'm, 'e, T: Bitfield<'a>>(
 }
 
 /// Begins a walk over the libraries at one cursor in strict mode, and one in permissive mode. The
-/// maps of both finders have the same sections and differ in the mode.
+/// maps of both finders have the same sections and differ in the mode. The cursor is before an
+/// import descriptor, of whose address table nothing has been tested.
 ///
 /// The permissive walk skips the libraries whose
 /// [`is_left_out`](crate::added::WalkedLibrary::is_left_out) is true, and one more exactly if the
@@ -55,7 +56,7 @@ pub fn mode_libraries<'a, 'm>(
     ensures { let m = map_of strict.entry in
         let n = map_of permissive.entry in
         reads_strictly m ≡ true → reads_strictly n ≡ false → n.addressing ≡ m.addressing
-        → SkipsLeftOut (libraries_ahead result.1 Skipped) (all_of (libraries_left result.0))
+        → tested_at at ≡ None → SkipsLeftOut (libraries_ahead result.1 Skipped) (all_of (libraries_left result.0))
         (all_of (libraries_left result.1)) }
 {
     let strictly = Libraries::at_cursor(bytes, at, is_narrow, strict);

@@ -64,7 +64,7 @@ pub(crate) fn next_kept<'a, 'e, T: Bitfield<'a>>(
 }
 
 // The same within a budget of steps: each step looks at one slot. `place` moves on, and `passed`
-// counts the entries that it moves past and of which nothing is kept. `None` means the end if no
+// counts the entries that it moves past and keeps nothing of. `None` means the end if no
 // place is left, or else that the budget has run out.
 #[inline(always)]
 #[tactic(auto, using(crate::proofs::SlotSteps::grown_none, crate::proofs::SlotSteps::grown_spent))]

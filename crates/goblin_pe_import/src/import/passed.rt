@@ -37,7 +37,7 @@ impl Passed {
         }
     }
 
-    // One entry more of which nothing is kept.
+    // One entry more that nothing is kept of.
     pub(crate) fn add_entry<'a, T: Bitfield<'a>>(&mut self, entry: &T, finder: &mut Finder<'_>)
         ensures skipped { let m = map_of finder.old in
             self.new.skipped
