@@ -11,6 +11,7 @@ pub use goblin_pe_export::added::{Exports, WalkedExport};
 pub use goblin_pe_head::added::{HeaderParts, unnamed_records};
 pub use goblin_pe_import::added::{
     AsciiImports, ImportCursor, Imports, Libraries, Passed, WalkedImport, WalkedLibrary,
+    mode_imports, mode_libraries,
 };
 pub use goblin_pe_sect::added::{MOST_WITHOUT_INDEX, offset_by_records, rva_in};
 pub use image_checksum::checksum;
