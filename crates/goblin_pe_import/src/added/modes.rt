@@ -17,9 +17,10 @@ use goblin_pe_sect::data_directories::DataDirectory;
 /// Begins a walk over the imports of one directory in strict mode, and one in permissive mode. The
 /// two maps have the same sections and differ in the mode.
 ///
-/// The strict walk has no error exactly if the permissive walk skips nothing, and the name of each
-/// library and of each import by name can be read. One exception: permissive mode skips a directory
-/// at file offset 0 as a whole, whatever strict mode says of it.
+/// The strict walk has no error exactly if the permissive walk skips nothing, as
+/// [`Imports::passed`] says at its end, and the name of each library and of each import by name can
+/// be read. One exception: permissive mode skips a directory at file offset 0 as a whole, whatever
+/// strict mode says of it.
 pub fn mode_imports<'a, 'm, 'e, T: Bitfield<'a>>(
     bytes: &'a [u8],
     directory: DataDirectory,
