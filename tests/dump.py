@@ -86,7 +86,8 @@ def an_import(it):
 
 def library(it):
     name = f"Err({shown(it.name_error)})" if it.name_error else f"Ok({text(it.name)})"
-    cursor = struct("ImportCursor", ((field, shown(kind(value).value)) for (field, kind), value in zip(records().ImportCursor._fields_, it.cursor)))
+    fields = [(field, shown(kind(value).value)) for (field, kind), value in zip(records().ImportCursor._fields_, it.cursor)]
+    cursor = struct("ImportCursor", [*fields, ("reserved", [0] * 7)])
     return struct("Library", [("name", name), *((name, shown(getattr(it, name))) for name in it._fields[2:-1]), ("imports", cursor)])
 
 
