@@ -94,8 +94,8 @@ pub struct ImportCursor {
     /// The address of its address table, if that table is yet to be tested after its entries.
     pub pending: Option<u32>,
     /// The file offset of the next slot to test, where a part of an address table has been tested:
-    /// in permissive mode that of the next library, before its entries; in strict mode that of
-    /// `pending`.
+    /// of that at `pending`, or else of that of the next import descriptor. A walk over imports in
+    /// strict mode has no use for the latter.
     pub tested: Option<usize>,
 }
 
@@ -359,9 +359,9 @@ impl<'a, 'm> Walk<'a, 'm> {
         slots.checked_add((self.bytes.len() + 2).checked_mul(records)?)
     }
 
-    // The next import within a budget of steps. Each step looks at a slot or an import descriptor.
-    // `None` means that the walk is at its end, if its cursor is, or else that the budget has run
-    // out.
+    // The next import within a budget of steps. Each step looks at a slot of a lookup table, at an
+    // import descriptor, or at a piece of an address table. `None` means that the walk is at its
+    // end, if its cursor is, or else that the budget has run out.
     #[inline(always)]
     #[tactic(auto, using(crate::proofs::added::StepsAhead::grown_then, crate::proofs::SlotSteps::grown_spent))]
     fn next_within<'e, T: Bitfield<'a>>(
@@ -552,8 +552,10 @@ impl<'a, 'm, 'e, T: Bitfield<'a>> Imports<'a, 'm, 'e, T> {
     }
 
     /// The next import within a budget of steps. `steps` is the budget, from which the call takes
-    /// what it spends. Each step looks at one slot of a lookup table, at one import descriptor of the
-    /// directory, or at 64 slots of an address table, whether or not that gives an import.
+    /// what it spends. Each step looks at one slot of a lookup table, at one import descriptor of
+    /// the directory, or at 64 slots of an address table, whether or not that gives an import. In
+    /// permissive mode an import descriptor is looked at with the last slots of its address table,
+    /// in one step.
     ///
     /// `None` means one of two things. If the [`cursor`](Imports::cursor) is at the end, so is the
     /// walk. Else the budget has run out; call again with a new one to go on.
