@@ -1,5 +1,5 @@
 -- A loop that fills records with the libraries of a file from a position on.
-use Rattle.std.proofs.Common.{◌≡◌, ◌≢◌, if◌then◌else◌, ℕ, ◌+◌, List, [], ◌∷◌, ◌++◌, ap, arith, sym, refl, ◌∙◌, ◌<◌, ◌≤◌, length, drop, take, set, subst, Bool, true, false, Option, None, Some, Ok, Err, IsSomeAnd, is_some, option_map, unwrap_or, inl, inr}
+use Rattle.std.proofs.Common.{◌≡◌, ◌≢◌, ℕ, ◌+◌, List, [], ◌∷◌, ◌++◌, ap, arith, sym, refl, ◌∙◌, ◌<◌, ◌≤◌, length, drop, take, set, subst, Bool, true, false, Option, None, Some, Ok, Err, IsSomeAnd, is_some, option_map, unwrap_or, inl, inr}
 use Rattle.goblin_pe_import.specs.declared.added.imports.ImportCursor.{ImportCursor}
 use Rattle.goblin_pe_import.specs.declared.added.library_walk.Libraries.{Libraries}
 use Rattle.goblin_pe_import.specs.{ImportEntries.EntryValue, added.ImportWalks.no_imports}

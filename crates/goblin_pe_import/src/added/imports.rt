@@ -1,7 +1,7 @@
 //! A walk over all imports of an image.
 
 ghost use Rattle.std.specs.Prelude.{◌≡◌, ◌+◌, ◌-◌, ◌<◌, ◌≤◌, ◌^◌, IfErr, IfOk, IfSome, MatchOption};
-ghost use Rattle.std.specs.Prelude.{None, Some, false, length, List, true, ℕ, IsSome, IsOk, Ok};
+ghost use Rattle.std.specs.Prelude.{None, Some, false, length, List, ℕ, IsSome, IsOk, Ok};
 ghost use Rattle.std.specs.Prelude.{suc};
 ghost use Rattle.std.specs.Iterator.{UpTo, at_most};
 ghost use Rattle.std.specs.{Iterator.SizeHint.IsWithinCount, List.flat_map, Option.option_len};
@@ -15,12 +15,12 @@ ghost use Rattle.goblin_pe_import.specs.{Imports.numbered_imports, ImportRecords
 ghost use Rattle.goblin_pe_import.specs.added.ImportWalks.{GivesImport, GivesLibrary, GivesAscii};
 ghost use Rattle.goblin_pe_import.specs.added.ImportWalks.{HasName, IsCursorCause, IsNamed};
 ghost use Rattle.goblin_pe_import.specs.added.ImportWalks.{IsWalkAt, IsImportsCause, cursor_left};
-ghost use Rattle.goblin_pe_import.specs.added.ImportWalks.{cursor_of, IsWalkCause, is_skipped};
+ghost use Rattle.goblin_pe_import.specs.added.ImportWalks.{cursor_of, IsWalkCause};
 ghost use Rattle.goblin_pe_import.specs.added.ImportWalks.{bound_next, imports_bound, imports_map};
 ghost use Rattle.goblin_pe_import.specs.added.ImportWalks.{imports_bytes, imports_left};
 ghost use Rattle.goblin_pe_import.specs.added.ImportWalks.{kept_import, no_imports, finder_of};
 ghost use Rattle.goblin_pe_import.specs.added.ImportWalks.{ascii_at, ascii_walk};
-ghost use Rattle.goblin_pe_import.specs.added.ImportWalks.{record_index, pending_table, walk_bound};
+ghost use Rattle.goblin_pe_import.specs.added.ImportWalks.{record_index, walk_bound};
 ghost use Rattle.goblin_pe_import.specs.added.ImportWalks.{walk_left, walked_value};
 ghost use Rattle.goblin_pe_import.specs.KeptEntries.{kept_value, slots_bound};
 ghost use Rattle.goblin_pe_import.specs.Passed.{Count, HasRisen, count_of, nothing_passed};
