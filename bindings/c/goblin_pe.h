@@ -234,17 +234,17 @@ extern "C" {
    have different numbers. A program linked in C gets the matching library, or does not link.
    One that loads the library at run time defines GOBLIN_PE_LOADED_AT_RUN_TIME before it includes
    this header, and compares the two numbers first. */
-#define GOBLIN_PE_INTERFACE 0xd674d3c0u
+#define GOBLIN_PE_INTERFACE 0x0ebf9a3eu
 uint32_t goblin_pe_interface(void);
 
 /* What follows .so. in the name of the shared library. */
-#define GOBLIN_PE_SONAME "5.d674d3c0"
+#define GOBLIN_PE_SONAME "5.0ebf9a3e"
 
 /* Only a library of this interface has this call. */
-uint32_t goblin_pe_interface_d674d3c0(void);
+uint32_t goblin_pe_interface_0ebf9a3e(void);
 #if defined(__GNUC__) && !defined(GOBLIN_PE_LOADED_AT_RUN_TIME)
 __attribute__((used)) static uint32_t (*const goblin_pe_needs_interface)(void) =
-    goblin_pe_interface_d674d3c0;
+    goblin_pe_interface_0ebf9a3e;
 #endif
 
 /* Calls that return a fault are marked, so that a compiler warns if you drop it. */
@@ -1095,6 +1095,9 @@ struct goblin_pe_import_cursor {
     size_t table_offset;
     /* The file offset of the next entry of that table, in a library. */
     size_t place;
+    /* The file offset of the next entry to test, where a part of an address table has been
+       tested. */
+    size_t tested;
     /* The RVA of the library's name. */
     uint32_t name_rva;
     /* The RVA of its address table. */
@@ -1109,6 +1112,9 @@ struct goblin_pe_import_cursor {
     bool has_place;
     /* Whether the address table is to be tested. */
     bool has_address_table;
+    /* Whether a part of an address table has been tested. */
+    bool has_tested;
+    uint8_t reserved[7];
 };
 
 /* An import. */
@@ -1196,13 +1202,14 @@ struct goblin_pe_library {
 /* Gives the next libraries: one for each entry of the import directory, also the skipped ones,
    which `skipped` counts. A walk over the imports of such a library does not count it again. So
    this walk and those over the imports of its rows count together what one walk over all imports
-   counts.
+   counts. Counts steps: one for each library, and one more for each 64 entries of its address
+   table.
 
-   Faults: as `goblin_pe_next_imports`, but no STEPS. In strict mode the walk ends with a fault
-   where the file ends before the import directory does. */
+   Faults: as `goblin_pe_next_imports`. In strict mode the walk ends with a fault where the file
+   ends before the import directory does. */
 GOBLIN_PE_MUST_USE struct goblin_pe_fault goblin_pe_next_libraries(
     const struct goblin_pe_image *image, struct goblin_pe_import_cursor *cursor,
-    struct goblin_pe_library *libraries, size_t room, struct goblin_pe_batch *batch);
+    struct goblin_pe_library *libraries, size_t room, size_t *steps, struct goblin_pe_batch *batch);
 
 /* ---- Exports ------------------------------------------------------------------------------- */
 

@@ -180,19 +180,22 @@ IS_AT(export_address, is_forwarder, 24);
 IS_AT(export_address, has_offset, 25);
 IS_AT(export_address, reserved, 26);
 
-HAS_SIZE(import_cursor, 56, 8);
+HAS_SIZE(import_cursor, 72, 8);
 IS_AT(import_cursor, first_record, 0);
 IS_AT(import_cursor, next_record, 8);
 IS_AT(import_cursor, library, 16);
 IS_AT(import_cursor, table_offset, 24);
 IS_AT(import_cursor, place, 32);
-IS_AT(import_cursor, name_rva, 40);
-IS_AT(import_cursor, rva, 44);
-IS_AT(import_cursor, address_table, 48);
-IS_AT(import_cursor, is_begun, 52);
-IS_AT(import_cursor, has_next, 53);
-IS_AT(import_cursor, has_place, 54);
-IS_AT(import_cursor, has_address_table, 55);
+IS_AT(import_cursor, tested, 40);
+IS_AT(import_cursor, name_rva, 48);
+IS_AT(import_cursor, rva, 52);
+IS_AT(import_cursor, address_table, 56);
+IS_AT(import_cursor, is_begun, 60);
+IS_AT(import_cursor, has_next, 61);
+IS_AT(import_cursor, has_place, 62);
+IS_AT(import_cursor, has_address_table, 63);
+IS_AT(import_cursor, has_tested, 64);
+IS_AT(import_cursor, reserved, 65);
 
 HAS_SIZE(import, 72, 8);
 IS_AT(import, name, 0);
@@ -213,15 +216,15 @@ IS_AT(import_directory_entry, forwarder_chain, 8);
 IS_AT(import_directory_entry, name_rva, 12);
 IS_AT(import_directory_entry, import_address_table_rva, 16);
 
-HAS_SIZE(library, 136, 8);
+HAS_SIZE(library, 152, 8);
 IS_AT(library, name, 0);
 IS_AT(library, name_fault, 16);
 IS_AT(library, index, 40);
 IS_AT(library, offset, 48);
 IS_AT(library, imports, 56);
-IS_AT(library, record, 112);
-IS_AT(library, is_skipped, 132);
-IS_AT(library, reserved, 133);
+IS_AT(library, record, 128);
+IS_AT(library, is_skipped, 148);
+IS_AT(library, reserved, 149);
 
 HAS_SIZE(memory, 48, 8);
 IS_AT(memory, bytes, 0);
@@ -452,14 +455,16 @@ struct goblin_pe_fault goblin_pe_next_imports(
 
 struct goblin_pe_fault goblin_pe_raw_next_libraries(
     const struct goblin_pe_image *image, struct goblin_pe_import_cursor *cursor,
-    struct goblin_pe_library *libraries, size_t room, struct goblin_pe_batch *batch);
+    struct goblin_pe_library *libraries, size_t room, size_t *steps, struct goblin_pe_batch *batch);
 struct goblin_pe_fault goblin_pe_next_libraries(
     const struct goblin_pe_image *image, struct goblin_pe_import_cursor *cursor,
-    struct goblin_pe_library *libraries, size_t room, struct goblin_pe_batch *batch)
+    struct goblin_pe_library *libraries, size_t room, size_t *steps, struct goblin_pe_batch *batch)
 {
     struct goblin_pe_image its_image;
+    size_t no_limit = SIZE_MAX;
     return goblin_pe_raw_next_libraries(
-        sound_image(image, &its_image), cursor, room ? libraries : (void *)&nowhere, room, batch);
+        sound_image(image, &its_image), cursor, room ? libraries : (void *)&nowhere, room,
+        steps ? steps : &no_limit, batch);
 }
 
 bool goblin_pe_raw_find_offset(const struct goblin_pe_image *image, size_t rva, size_t *offset);

@@ -3,7 +3,7 @@ import ctypes as c
 from typing import Any, Dict, List, Tuple
 
 # The number of this interface.
-INTERFACE = 0xd674d3c0
+INTERFACE = 0x0ebf9a3e
 
 
 class Slice(c.Structure):
@@ -243,6 +243,7 @@ class ImportCursor(c.Structure):
         ("library", c.c_size_t),
         ("table_offset", c.c_size_t),
         ("place", c.c_size_t),
+        ("tested", c.c_size_t),
         ("name_rva", c.c_uint32),
         ("rva", c.c_uint32),
         ("address_table", c.c_uint32),
@@ -250,6 +251,8 @@ class ImportCursor(c.Structure):
         ("has_next", c.c_bool),
         ("has_place", c.c_bool),
         ("has_address_table", c.c_bool),
+        ("has_tested", c.c_bool),
+        ("reserved", c.c_uint8 * 7),
     ]
 
 
@@ -477,7 +480,7 @@ CALLS: Dict[str, Tuple[Any, List[Any]]] = {
     "goblin_pe_next_export_addresses": (Fault, [c.POINTER(Image), c.POINTER(ExportAddressCursor), c.c_void_p, c.c_size_t, c.POINTER(Batch)]),
     "goblin_pe_forwarder_at": (Fault, [c.POINTER(Image), c.c_size_t, c.POINTER(Forwarder)]),
     "goblin_pe_next_imports": (Fault, [c.POINTER(Image), c.POINTER(ImportCursor), c.c_void_p, c.c_size_t, c.POINTER(c.c_size_t), c.POINTER(Batch)]),
-    "goblin_pe_next_libraries": (Fault, [c.POINTER(Image), c.POINTER(ImportCursor), c.c_void_p, c.c_size_t, c.POINTER(Batch)]),
+    "goblin_pe_next_libraries": (Fault, [c.POINTER(Image), c.POINTER(ImportCursor), c.c_void_p, c.c_size_t, c.POINTER(c.c_size_t), c.POINTER(Batch)]),
     "goblin_pe_find_offset": (c.c_bool, [c.POINTER(Image), c.c_size_t, c.POINTER(c.c_size_t)]),
     "goblin_pe_find_rva": (c.c_bool, [c.POINTER(Image), c.c_size_t, c.POINTER(c.c_size_t)]),
     "goblin_pe_memory_at": (c.c_bool, [c.POINTER(Image), c.c_size_t, c.c_size_t, c.POINTER(Memory)]),

@@ -10,11 +10,11 @@ use crate::headers::{
 };
 
 /// The number of this interface.
-pub const INTERFACE: u32 = 0xd674_d3c0;
+pub const INTERFACE: u32 = 0x0ebf_9a3e;
 
 // Programs link only with a library of this interface, as no other one has this call.
 #[used]
-static NEEDS_INTERFACE: extern "C" fn() -> u32 = goblin_pe_interface_d674d3c0;
+static NEEDS_INTERFACE: extern "C" fn() -> u32 = goblin_pe_interface_0ebf9a3e;
 
 /// Bytes of the file.
 #[repr(C)]
@@ -192,6 +192,7 @@ pub struct ImportCursor {
     pub library: usize,
     pub table_offset: usize,
     pub place: usize,
+    pub tested: usize,
     pub name_rva: u32,
     pub rva: u32,
     pub address_table: u32,
@@ -199,6 +200,8 @@ pub struct ImportCursor {
     pub has_next: bool,
     pub has_place: bool,
     pub has_address_table: bool,
+    pub has_tested: bool,
+    pub reserved: [u8; 7],
 }
 
 #[repr(C)]
@@ -557,19 +560,22 @@ const _: () = {
     assert!(offset_of!(ExportAddress, is_forwarder) == 24);
     assert!(offset_of!(ExportAddress, has_offset) == 25);
     assert!(offset_of!(ExportAddress, reserved) == 26);
-    assert!(size_of::<ImportCursor>() == 56 && align_of::<ImportCursor>() == 8);
+    assert!(size_of::<ImportCursor>() == 72 && align_of::<ImportCursor>() == 8);
     assert!(offset_of!(ImportCursor, first_record) == 0);
     assert!(offset_of!(ImportCursor, next_record) == 8);
     assert!(offset_of!(ImportCursor, library) == 16);
     assert!(offset_of!(ImportCursor, table_offset) == 24);
     assert!(offset_of!(ImportCursor, place) == 32);
-    assert!(offset_of!(ImportCursor, name_rva) == 40);
-    assert!(offset_of!(ImportCursor, rva) == 44);
-    assert!(offset_of!(ImportCursor, address_table) == 48);
-    assert!(offset_of!(ImportCursor, is_begun) == 52);
-    assert!(offset_of!(ImportCursor, has_next) == 53);
-    assert!(offset_of!(ImportCursor, has_place) == 54);
-    assert!(offset_of!(ImportCursor, has_address_table) == 55);
+    assert!(offset_of!(ImportCursor, tested) == 40);
+    assert!(offset_of!(ImportCursor, name_rva) == 48);
+    assert!(offset_of!(ImportCursor, rva) == 52);
+    assert!(offset_of!(ImportCursor, address_table) == 56);
+    assert!(offset_of!(ImportCursor, is_begun) == 60);
+    assert!(offset_of!(ImportCursor, has_next) == 61);
+    assert!(offset_of!(ImportCursor, has_place) == 62);
+    assert!(offset_of!(ImportCursor, has_address_table) == 63);
+    assert!(offset_of!(ImportCursor, has_tested) == 64);
+    assert!(offset_of!(ImportCursor, reserved) == 65);
     assert!(size_of::<Import>() == 72 && align_of::<Import>() == 8);
     assert!(offset_of!(Import, name) == 0);
     assert!(offset_of!(Import, dll) == 16);
@@ -587,15 +593,15 @@ const _: () = {
     assert!(offset_of!(ImportDirectoryEntry, forwarder_chain) == 8);
     assert!(offset_of!(ImportDirectoryEntry, name_rva) == 12);
     assert!(offset_of!(ImportDirectoryEntry, import_address_table_rva) == 16);
-    assert!(size_of::<Library>() == 136 && align_of::<Library>() == 8);
+    assert!(size_of::<Library>() == 152 && align_of::<Library>() == 8);
     assert!(offset_of!(Library, name) == 0);
     assert!(offset_of!(Library, name_fault) == 16);
     assert!(offset_of!(Library, index) == 40);
     assert!(offset_of!(Library, offset) == 48);
     assert!(offset_of!(Library, imports) == 56);
-    assert!(offset_of!(Library, record) == 112);
-    assert!(offset_of!(Library, is_skipped) == 132);
-    assert!(offset_of!(Library, reserved) == 133);
+    assert!(offset_of!(Library, record) == 128);
+    assert!(offset_of!(Library, is_skipped) == 148);
+    assert!(offset_of!(Library, reserved) == 149);
     assert!(size_of::<Memory>() == 48 && align_of::<Memory>() == 8);
     assert!(offset_of!(Memory, bytes) == 0);
     assert!(offset_of!(Memory, zeros) == 16);
@@ -710,7 +716,7 @@ const _: () = {
 #[rustfmt::skip]
 unsafe extern "C" {
     pub safe fn goblin_pe_interface() -> u32;
-    safe fn goblin_pe_interface_d674d3c0() -> u32;
+    safe fn goblin_pe_interface_0ebf9a3e() -> u32;
     pub safe fn goblin_pe_fault_string(fault: &Fault, text: &mut [u8; 256]) -> *const u8;
     pub safe fn goblin_pe_checksum<'a>(image: &Image<'a>, sum: &mut u32) -> bool;
     pub fn goblin_pe_next_exports<'a>(image: &Image<'a>, cursor: &mut ExportCursor, exports: *mut Export<'a>, room: usize, steps: &mut usize, batch: &mut Batch) -> Fault;
@@ -718,7 +724,7 @@ unsafe extern "C" {
     pub fn goblin_pe_next_export_addresses<'a>(image: &Image<'a>, cursor: &mut ExportAddressCursor, addresses: *mut ExportAddress, room: usize, batch: &mut Batch) -> Fault;
     pub safe fn goblin_pe_forwarder_at<'a>(image: &Image<'a>, rva: usize, forwarder: &mut Forwarder<'a>) -> Fault;
     pub fn goblin_pe_next_imports<'a>(image: &Image<'a>, cursor: &mut ImportCursor, imports: *mut Import<'a>, room: usize, steps: &mut usize, batch: &mut Batch) -> Fault;
-    pub fn goblin_pe_next_libraries<'a>(image: &Image<'a>, cursor: &mut ImportCursor, libraries: *mut Library<'a>, room: usize, batch: &mut Batch) -> Fault;
+    pub fn goblin_pe_next_libraries<'a>(image: &Image<'a>, cursor: &mut ImportCursor, libraries: *mut Library<'a>, room: usize, steps: &mut usize, batch: &mut Batch) -> Fault;
     pub safe fn goblin_pe_find_offset<'a>(image: &Image<'a>, rva: usize, offset: &mut usize) -> bool;
     pub safe fn goblin_pe_find_rva<'a>(image: &Image<'a>, offset: usize, rva: &mut usize) -> bool;
     pub safe fn goblin_pe_memory_at<'a>(image: &Image<'a>, rva: usize, size: usize, memory: &mut Memory<'a>) -> bool;

@@ -1,5 +1,5 @@
 -- A loop that fills records with the libraries of a file from a position on.
-use Rattle.std.proofs.Common.{◌≡◌, ◌≢◌, if◌then◌else◌, ℕ, ◌+◌, List, [], ◌∷◌, ◌++◌, ap, arith, sym, refl, ◌∙◌, ◌<◌, ◌≤◌, length, drop, take, set, subst, Bool, true, false, Option, None, Some, Ok, Err, IsSomeAnd, is_none, option_map, unwrap_or, inl, inr}
+use Rattle.std.proofs.Common.{◌≡◌, ◌≢◌, ℕ, ◌+◌, List, [], ◌∷◌, ◌++◌, ap, arith, sym, refl, ◌∙◌, ◌<◌, ◌≤◌, length, drop, take, set, subst, Bool, true, false, Option, None, Some, Ok, Err, IsSomeAnd, is_some, option_map, unwrap_or, inl, inr}
 use Rattle.goblin_pe_import.specs.declared.added.imports.ImportCursor.{ImportCursor}
 use Rattle.goblin_pe_import.specs.declared.added.library_walk.Libraries.{Libraries}
 use Rattle.goblin_pe_import.specs.{ImportEntries.EntryValue, added.ImportWalks.no_imports}
@@ -17,7 +17,7 @@ use Rattle.goblin_pe_c_tables.specs.Libraries.{GivesLibraries, GoesOnAt, library
 use Rattle.goblin_pe_c_headers.specs.Onward.{TellsEnd, values_before}
 use Rattle.goblin_pe_c_tables.specs.declared.library.PeLibrary.{PeLibrary}
 use Rattle.goblin_pe_c_headers.proofs.Batches.{AtItems, items-cut, items-end, items-full, items-gives, items-more, items-refused, items-start, items-taken, items-then, done-cut, done-end, done-full, done-refused}
-use Rattle.goblin_pe_c_tables.proofs.ImportBatches.{cursor-from_for, limit-left, limit-out, none-is, steps-then}
+use Rattle.goblin_pe_c_tables.proofs.ImportBatches.{cursor-from_for, limit-left, limit-out, steps-then}
 use Rattle.goblin_pe_import.specs.{Steps.AreCounted, TableSums.amount_of}
 
 module _ (m : MapOfAddresses) (places : TablePlaces) (bytes : List ℕ) where
@@ -80,6 +80,10 @@ module _ (m : MapOfAddresses) (places : TablePlaces) (bytes : List ℕ) where
   pub none-at_end : (p : PeImportCursor) → p ≡ cursor_for_c no_imports → (library_table m places bytes).from p ≡ Some []
   unfolding libraries_next
   none-at_end p numbers = ap (option_map comes) (at-numbers p no_imports numbers)
+
+none-left : {A : Type 0} (o : Option A) → is_some o ≡ false → o ≡ None
+none-left None is = refl
+none-left (Some x) is = absurd (cc is)
 
 -- ---- the loop
 
@@ -218,10 +222,10 @@ module _ {m : MapOfAddresses} {places : TablePlaces} {bytes : List ℕ} {steps :
         rw is (steps-then steps left limit (position_steps m places bytes from) (libraries_steps now) (libraries_steps next) h.looked given.moves.looked)
 
     -- nothing more comes
-    pub libraries-end : is_none (libraries_cursor next).next_record ≡ true → q ≡ cursor_for_c no_imports → Given q rest (libraries_passed next) true
+    pub libraries-end : is_some (libraries_cursor next).next_record ≡ false → q ≡ cursor_for_c no_imports → Given q rest (libraries_passed next) true
     unfolding libraries_next
     libraries-end ends numbers =
-        let at = none-is (libraries_cursor next).next_record ends in
+        let at = none-left (libraries_cursor next).next_record ends in
         let none : libraries_left next ≡ [] = rw at refl in
         let no_steps : libraries_steps next ≡ 0 = rw at refl in
         let cursor = at-numbers m places bytes q no_imports numbers in
@@ -241,10 +245,10 @@ module _ {m : MapOfAddresses} {places : TablePlaces} {bytes : List ℕ} {steps :
         )
 
     -- the steps have run out
-    pub libraries-cut : is_none (libraries_cursor next).next_record ≡ false → q ≡ cursor_for_c (libraries_cursor next)
+    pub libraries-cut : is_some (libraries_cursor next).next_record ≡ true → q ≡ cursor_for_c (libraries_cursor next)
         → Given q rest (libraries_passed next) false
     libraries-cut goes numbers = elim given.ended [
-      | inl ended ↦ absurd (cc (ap (λ (c : ImportCursor). is_none c.next_record) ended, goes))
+      | inl ended ↦ absurd (cc (ap (λ (c : ImportCursor). is_some c.next_record) ended, goes))
       | inr run ↦
           let out : rest ≡ 0 = is ∙ limit-out limit run in
           let cursor = at-numbers m places bytes q (libraries_cursor next) numbers in
@@ -262,7 +266,7 @@ module _ {m : MapOfAddresses} {places : TablePlaces} {bytes : List ℕ} {steps :
     ]
       where
         awaits : MovesTo (libraries_cursor now) None (libraries_cursor next) → Awaits (libraries_cursor now) (libraries_cursor next)
-        awaits (inl ended) = absurd (cc (ap (λ (c : ImportCursor). is_none c.next_record) ended, goes))
+        awaits (inl ended) = absurd (cc (ap (λ (c : ImportCursor). is_some c.next_record) ended, goes))
         awaits (inr at) = at
 
         there : IsSomeAnd (at_position m places bytes (position_after from (take count (values_before (libraries_left start)))))

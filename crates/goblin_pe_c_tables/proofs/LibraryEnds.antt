@@ -1,5 +1,5 @@
 -- The imports of a library, from the cursor of its row on.
-use Rattle.std.proofs.Common.{◌≡◌, ◌∙◌, ℕ, Bool, true, false, ◌+◌, ◌&&◌, not, is_none, List, [], Option, None, Some, IsSome, ap, append-nil, arith, refl, sym, unwrap_or}
+use Rattle.std.proofs.Common.{◌≡◌, ◌∙◌, ℕ, Bool, true, false, ◌+◌, ◌&&◌, not, List, [], Option, None, Some, IsSome, ap, append-nil, arith, refl, sym, unwrap_or}
 use Rattle.goblin_base.specs.Tables.{Format}
 use Rattle.readings.specs.{Reads.in_its_place, Walks.refusal_of, Walks.until_refused}
 use Rattle.goblin_pe_sect.specs.AddressReadings.{name_at}

@@ -105,6 +105,7 @@ cursor_for_c c = record {
   has_place = is_some c.place;
   has_address_table = is_some c.pending;
   has_tested = is_some c.tested;
+  reserved = 0 ∷ 0 ∷ 0 ∷ 0 ∷ 0 ∷ 0 ∷ 0 ∷ [];
 }
 
 -- the cursor at a position: the one that it says, or else where the imports begin

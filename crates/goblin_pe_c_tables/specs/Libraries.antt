@@ -86,8 +86,8 @@ position_steps m places bytes p =
     amount_of (rows_steps m (entry_format places.magic) bytes)
     ((import_cursor m places p).value bytes)
 
--- A walk goes on at the position q. Or its steps have run out, and it stands at the cursor there, or
--- in the address table of the entry that comes next.
+-- A walk goes on at the position q. Or its steps have run out, and it stands at the cursor there,
+-- or in the address table of the entry that comes next.
 abbrev pub GoesOnAt : MapOfAddresses → TablePlaces → List ℕ → (IsCut : Type 0) → PeImportCursor
     → PeImportCursor → Type 0
 GoesOnAt m places bytes IsCut q p =
@@ -95,8 +95,8 @@ GoesOnAt m places bytes IsCut q p =
     ⊎ (IsCut × IsSomeAnd ((import_cursor m places q).value bytes)
     (λ c. (d : ImportCursor) × (Awaits c d × (p ≡ cursor_for_c d))))
 
--- A step looks at 64 slots of an address table; the last one of a table looks at its library's entry,
--- too. Of the steps are gone as many as are no longer ahead. At the end none is ahead. The new
+-- A step looks at 64 slots of an address table; the last one of a table looks at its library's
+-- entry, too. Of the steps are gone as many as are no longer ahead. At the end none is ahead. The new
 -- position is the end if the call is done, or else after the libraries that are given. What is no
 -- longer ahead of what counts is counted.
 abbrev pub GivesLibraries : ℕ → ℕ → SaysBatch PeImportCursor PeLibrary
@@ -119,8 +119,8 @@ IsLibrariesFault m places bytes old e =
     (cursor_libraries m (entry_format places.magic) bytes) (IsCursorEndCause m bytes) old e
 
 -- From the cursor of a library come its imports, and nothing else: what a walk over all imports
--- gives of its entry, wherever the test of its address table began. Where that needs the name of the
--- library and can't read it, this one does not need it.
+-- gives of its entry, wherever the test of its address table began. Where that needs the name of
+-- the library and can't read it, this one does not need it.
 unfoldable pub LibrariesEnd : Type 0
 LibrariesEnd =
     (m : MapOfAddresses) (places : TablePlaces) (bytes : List ℕ) (first p : ℕ)

@@ -72,8 +72,8 @@ pub(crate) fn skip_table(position: &mut usize, room: usize) -> PeBatch
 
 /// Fills `records` with those of an image that come next, as many as there is room for, says in
 /// `batch` what it did, and leaves in `position` where the next call goes on. A table that takes
-/// steps takes no more looks than there are steps. With a fault for `refusal` the call is refused by
-/// that.
+/// steps takes no more looks than there are steps. With a fault for `refusal` the call is refused
+/// by that.
 ///
 /// After a fault only `batch` is changed.
 pub fn walk<'a, T: Batched<'a>>(

@@ -57,6 +57,7 @@ pub struct PeImportCursor {
     pub has_address_table: bool,
     /// Whether a part of an address table has been tested.
     pub has_tested: bool,
+    pub reserved: [u8; 7],
 }
 
 // The cursor that these numbers say.
@@ -96,6 +97,7 @@ pub(crate) fn cursor_for_c(at: ImportCursor) -> PeImportCursor
         has_place: at.place.is_some(),
         has_address_table: at.pending.is_some(),
         has_tested: at.tested.is_some(),
+        reserved: [0; 7],
     }
 }
 

@@ -48,7 +48,8 @@ pub extern "C" fn goblin_pe_raw_next_imports<'a>(
 /// Gives the next libraries: one for each entry of the import directory, also the skipped ones,
 /// which `skipped` counts. A walk over the imports of such a library does not count it again. So
 /// this walk and those over the imports of its rows count together what one walk over all imports
-/// counts. Counts steps.
+/// counts. Counts steps: one for each library, and one more for each 64 entries of its address
+/// table.
 ///
 /// Faults: as `goblin_pe_next_imports`. In strict mode the walk ends with a fault where the file
 /// ends before the import directory does.

@@ -6,15 +6,15 @@ ghost use Rattle.std.specs.Prelude.{◌≡◌};
 /// The number of this interface. A caller that declares another one has another number.
 #[unsafe(no_mangle)]
 pub extern "C" fn goblin_pe_interface() -> u32
-    ensures { result ≡ 3597980608 }
+    ensures { result ≡ 247437886 }
 {
-    3_597_980_608
+    247_437_886
 }
 
 /// The same, by a name that no other interface has, with which programs in C are linked.
 #[unsafe(no_mangle)]
-pub extern "C" fn goblin_pe_interface_d674d3c0() -> u32
-    ensures { result ≡ 3597980608 }
+pub extern "C" fn goblin_pe_interface_0ebf9a3e() -> u32
+    ensures { result ≡ 247437886 }
 {
-    3_597_980_608
+    247_437_886
 }

@@ -35,8 +35,8 @@ AreCounted None new before after = new ≡ None
 AreCounted (Some a) None before after = ⊥
 AreCounted (Some a) (Some b) before after = before + b ≡ after + a
 
--- A refused call has taken at least one step, and at most those that were ahead and the look that is
--- refused.
+-- A refused call has taken at least one step, and at most those that were ahead and the look that
+-- is refused.
 abbrev pub HasRefused : Option ℕ → Option ℕ → ℕ → Type 0
 HasRefused None new before = new ≡ None
 HasRefused (Some a) None before = ⊥

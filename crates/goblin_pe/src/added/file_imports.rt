@@ -57,7 +57,8 @@ impl<'a, 'm, 'e> FileImports<'a, 'm, 'e> {
 
     /// The next import within a budget of steps, as
     /// [`Imports::next_within`](crate::added::Imports::next_within) returns it. Each step looks at
-    /// one slot of a table or one import descriptor of the directory.
+    /// one slot of a lookup table, at one import descriptor of the directory, or at 64 slots of an
+    /// address table.
     ///
     /// `None` means one of two things. If the [`cursor`](FileImports::cursor) is at the end, so is
     /// the walk. Else the budget has run out.

@@ -45,8 +45,8 @@ abbrev pub in_next : Bool → Option ℕ → Option ℕ
 in_next strict None = None
 in_next strict (Some place) = if strict then None else Some place
 
--- the amount of a first descriptor, whose address table is tested from a place on, and then `later`;
--- or `end` where the directory ends
+-- the amount of a first descriptor, whose address table is tested from a place on, and then
+-- `later`; or `end` where the directory ends
 abbrev pub from_first : {V : Type 0} → (V → Bool) → (V → ℕ) → (end later : ℕ) → Option V → ℕ
 from_first is_last amount end later None = end
 from_first is_last amount end later (Some v) = if is_last v then end else amount v + later

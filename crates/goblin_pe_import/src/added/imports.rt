@@ -1,7 +1,7 @@
 //! A walk over all imports of an image.
 
 ghost use Rattle.std.specs.Prelude.{◌≡◌, ◌+◌, ◌-◌, ◌<◌, ◌≤◌, ◌^◌, IfErr, IfOk, IfSome, MatchOption};
-ghost use Rattle.std.specs.Prelude.{None, Some, false, length, List, true, ℕ, IsSome, IsOk, Ok};
+ghost use Rattle.std.specs.Prelude.{None, Some, false, length, List, ℕ, IsSome, IsOk, Ok};
 ghost use Rattle.std.specs.Prelude.{suc};
 ghost use Rattle.std.specs.Iterator.{UpTo, at_most};
 ghost use Rattle.std.specs.{Iterator.SizeHint.IsWithinCount, List.flat_map, Option.option_len};
@@ -15,12 +15,12 @@ ghost use Rattle.goblin_pe_import.specs.{Imports.numbered_imports, ImportRecords
 ghost use Rattle.goblin_pe_import.specs.added.ImportWalks.{GivesImport, GivesLibrary, GivesAscii};
 ghost use Rattle.goblin_pe_import.specs.added.ImportWalks.{HasName, IsCursorCause, IsNamed};
 ghost use Rattle.goblin_pe_import.specs.added.ImportWalks.{IsWalkAt, IsImportsCause, cursor_left};
-ghost use Rattle.goblin_pe_import.specs.added.ImportWalks.{cursor_of, IsWalkCause, is_skipped};
+ghost use Rattle.goblin_pe_import.specs.added.ImportWalks.{cursor_of, IsWalkCause};
 ghost use Rattle.goblin_pe_import.specs.added.ImportWalks.{bound_next, imports_bound, imports_map};
 ghost use Rattle.goblin_pe_import.specs.added.ImportWalks.{imports_bytes, imports_left};
 ghost use Rattle.goblin_pe_import.specs.added.ImportWalks.{kept_import, no_imports, finder_of};
 ghost use Rattle.goblin_pe_import.specs.added.ImportWalks.{ascii_at, ascii_walk};
-ghost use Rattle.goblin_pe_import.specs.added.ImportWalks.{record_index, pending_table, walk_bound};
+ghost use Rattle.goblin_pe_import.specs.added.ImportWalks.{record_index, walk_bound};
 ghost use Rattle.goblin_pe_import.specs.added.ImportWalks.{walk_left, walked_value};
 ghost use Rattle.goblin_pe_import.specs.KeptEntries.{kept_value, slots_bound};
 ghost use Rattle.goblin_pe_import.specs.Passed.{Count, HasRisen, count_of, nothing_passed};
@@ -94,8 +94,8 @@ pub struct ImportCursor {
     /// The address of its address table, if that table is yet to be tested after its entries.
     pub pending: Option<u32>,
     /// The file offset of the next slot to test, where a part of an address table has been tested:
-    /// in permissive mode that of the next library, before its entries; in strict mode that of
-    /// `pending`.
+    /// of that at `pending`, or else of that of the next import descriptor. A walk over imports in
+    /// strict mode has no use for the latter.
     pub tested: Option<usize>,
 }
 
@@ -359,9 +359,9 @@ impl<'a, 'm> Walk<'a, 'm> {
         slots.checked_add((self.bytes.len() + 2).checked_mul(records)?)
     }
 
-    // The next import within a budget of steps. Each step looks at a slot or an import descriptor.
-    // `None` means that the walk is at its end, if its cursor is, or else that the budget has run
-    // out.
+    // The next import within a budget of steps. Each step looks at a slot of a lookup table, at an
+    // import descriptor, or at a piece of an address table. `None` means that the walk is at its
+    // end, if its cursor is, or else that the budget has run out.
     #[inline(always)]
     #[tactic(auto, using(crate::proofs::added::StepsAhead::grown_then, crate::proofs::SlotSteps::grown_spent))]
     fn next_within<'e, T: Bitfield<'a>>(
@@ -552,8 +552,10 @@ impl<'a, 'm, 'e, T: Bitfield<'a>> Imports<'a, 'm, 'e, T> {
     }
 
     /// The next import within a budget of steps. `steps` is the budget, from which the call takes
-    /// what it spends. Each step looks at one slot of a lookup table, at one import descriptor of the
-    /// directory, or at 64 slots of an address table, whether or not that gives an import.
+    /// what it spends. Each step looks at one slot of a lookup table, at one import descriptor of
+    /// the directory, or at 64 slots of an address table, whether or not that gives an import. In
+    /// permissive mode an import descriptor is looked at with the last slots of its address table,
+    /// in one step.
     ///
     /// `None` means one of two things. If the [`cursor`](Imports::cursor) is at the end, so is the
     /// walk. Else the budget has run out; call again with a new one to go on.

@@ -239,8 +239,8 @@ impl<'a, 'm> Libraries<'a, 'm> {
     }
 
     // Takes one look: at a piece of an address table, and with its last piece at the import
-    // descriptor. Gives the library there, or none yet. `None` at the end, or if the budget of steps
-    // has run out.
+    // descriptor. Gives the library there, or none yet. `None` at the end, or if the budget of
+    // steps has run out.
     fn look(&mut self, steps: &mut Option<usize>) -> Option<Result<Option<WalkedLibrary<'a>>>>
         ensures moves { MovesWithin self.old steps.old (given_of result) self.new steps.new }
         ensures ended { EndsWithin result (libraries_cursor self.new) (IsOut steps.new) }
@@ -280,11 +280,11 @@ impl<'a, 'm> Libraries<'a, 'm> {
     }
 
     /// The next library within a budget of steps. `steps` is the budget, from which the call takes
-    /// what it spends. Each step looks at 64 slots of an address table; the last one of a table looks
-    /// at the import descriptor, too.
+    /// what it spends. Each step looks at 64 slots of an address table; the last one of a table
+    /// looks at the import descriptor, too.
     ///
-    /// `None` means one of two things. If the [`cursor`](Libraries::cursor) is at the end, so is the
-    /// walk. Else the budget has run out; call again with a new one to go on.
+    /// `None` means one of two things. If the [`cursor`](Libraries::cursor) is at the end, so is
+    /// the walk. Else the budget has run out; call again with a new one to go on.
     pub fn next_within(&mut self, steps: &mut Option<usize>) -> Option<Result<WalkedLibrary<'a>>>
         ensures { GivesLibraryWithin self.old steps.old result self.new steps.new }
     {

@@ -1,4 +1,4 @@
-//! A budget of steps: how many slots and import descriptors a call may look at.
+//! A budget of steps: how many looks a call may take.
 
 ghost use Rattle.std.specs.Prelude.{◌≡◌, false, true};
 ghost use Rattle.goblin_pe_import.specs.Steps.{HasSteps, IsOut, spent};

@@ -1,4 +1,4 @@
-use Rattle.std.proofs.Common.{◌∙◌, Result, Some, ap, subst, sym}
+use Rattle.std.proofs.Common.{◌∙◌, Result, Some, ap, is_some, not, subst, sym}
 use Rattle.goblin_base.specs.declared.error.ErrorOf.{ErrorOf}
 use Rattle.goblin_pe_import.specs.declared.added.imports.ImportCursor.{ImportCursor}
 use Rattle.goblin_pe_import.specs.declared.added.library_walk.WalkedLibrary.{WalkedLibrary}
@@ -27,6 +27,18 @@ pub returns-in-Some-Err-2-clause-filled : goal.returns-in-Some-Err-2-clause-fill
 returns-in-Some-Err-2-clause-filled c =
     let is = subst (λ (r : Result WalkedLibrary ErrorOf). GivesLibraryWithin c.libraries.libraries (Some c.libraries.left) (Some r) c.next_within.new.self c.next_within.new.steps) c.in-Some-Err.field-0-is c.in-Some-Err.ensures in
     rw c.passed_batch.ensures (libraries-refused c.libraries.invariant.0 c.in-Some-Err.error c.next_within.new.self c.next_within.new.steps is c.if-count-eq0.false)
+
+pub returns-then-is_none-clause-filled : goal.returns-then-is_none-clause-filled
+returns-then-is_none-clause-filled c =
+    let ends = ap (λ (at : ImportCursor). is_some at.next_record) (sym c.cursor-at.ensures.is) ∙ c.is_none.ensures ∙ ap not c.if-is_none.true in
+    rw (c.passed_batch-then-is_none.ensures, c.passed.ensures) (libraries-end c.libraries.invariant.0 c.next_within.new.self c.next_within.new.steps c.in-None.ensures c.libraries-test.true c.unwrap_or-left-in-None.result c.unwrap_or-left-in-None.ensures
+    c.cursor_for_c-then-is_none.result ends (c.cursor_for_c-then-is_none.ensures ∙ ap cursor_for_c c.end.ensures))
+
+pub returns-in-None-clause-filled : goal.returns-in-None-clause-filled
+returns-in-None-clause-filled c =
+    let goes = ap (λ (at : ImportCursor). is_some at.next_record) (sym c.cursor-at.ensures.is) ∙ c.is_none.ensures ∙ ap not c.if-is_none.false in
+    rw (c.passed_batch-in-None.ensures, c.passed-in-None.ensures) (libraries-cut c.libraries.invariant.0 c.next_within.new.self c.next_within.new.steps c.in-None.ensures c.libraries-test.true c.unwrap_or-left-in-None.result c.unwrap_or-left-in-None.ensures
+    c.cursor_for_c-in-None.result goes (c.cursor_for_c-in-None.ensures ∙ ap cursor_for_c c.cursor-at.ensures.is))
 
 pub returns-clause-filled : goal.returns-clause-filled
 returns-clause-filled c =
