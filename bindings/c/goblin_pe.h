@@ -96,7 +96,8 @@
 
    Their sums over a walk do not depend on the room and the steps of its calls.
 
-   next_imports and next_exports also have an argument `steps`: see below. Every walk is this loop:
+   next_imports, next_libraries and next_exports also have an argument `steps`: see below. Every walk
+   is this loop:
 
        do {
            fault = goblin_pe_next_X(&image, &cursor, rows, ROOM, &batch);
@@ -108,8 +109,8 @@
 
    - The loop ends, whatever the file holds: a call with room gives a row, uses a step or sets
      is_done. (With room 0 it does not end: is_done is false unless the call returns a fault.)
-   - Before the end, a call may give fewer rows than there is room for. A call of next_imports or
-     next_exports may even give none. Only is_done says that the walk is over.
+   - Before the end, a call may give fewer rows than there is room for. One that counts steps may
+     even give none. Only is_done says that the walk is over.
    - After a fault, is_done is true, and the numbers of the batch are 0. The cursor, the rows and the
      steps are unchanged, so you can call again, with more steps or more memory.
    - If a row is damaged, a call first gives the rows before it. The next call returns the fault.
@@ -122,21 +123,20 @@
    Steps
    -----
    Entries of import and export tables may give no row: a damaged image can hold millions of them.
-   So next_imports and next_exports count steps. A step is one look at an import
-   directory entry, at an entry of a lookup or address table, or at an export name pointer. The
-   calls subtract the steps that they used from *steps. If no steps are left, a call with room
-   returns GOBLIN_PE_STATUS_STEPS. To see the end of a table may need a step, too. Pass a null
-   pointer to have no limit.
+   So next_imports, next_libraries and next_exports count steps. A step is one look at an import
+   directory entry, at an entry of a lookup table, at 64 entries of an address table, or at an export
+   name pointer. The calls subtract the steps that they used from *steps. If no steps are left, a
+   call with room returns GOBLIN_PE_STATUS_STEPS. To see the end of a table may need a step, too.
+   Pass a null pointer to have no limit.
 
    If the image has more than 96 sections, each call also uses a step for each section above 96,
    because it has to look at all of them first.
 
-   A call looks at an address table as a whole. So it may look at more entries than it had steps,
-   at most at those of one table. Then no steps are left.
+   An address table gives no rows. It is looked at to its end before the row of its library, and
+   before its imports, or in strict mode after them. So a call may use all its steps, and give no
+   row.
 
    The other walks look only at entries that give a row, so the room of their calls limits them.
-   There is one exception: next_libraries may look at a whole address table for each row. See
-   "Hostile files".
 
    One number of steps can serve several walks, and so limit their sum.
 
@@ -187,8 +187,8 @@
    next_relocation_blocks     sections, and the rows
    next_export_addresses      sections, and the rows
    next_exports               sections, the image's name, two names for each step
-   next_imports               sections, the DLL's name, a name for each step, the address tables
-   next_libraries             sections; for each row a name and its address table
+   next_imports               sections, the DLL's name, a name for each step
+   next_libraries             sections, a name for each step
    read_export_directory      sections, and a name
    read_auxiliary, string_at  a name
    find_offset                sections
@@ -206,9 +206,6 @@
      longest_name.
    - Dead entries cost time and give no row: without a limit 1 MiB may cost a minute. Set steps:
      100,000 need 10 to 200 milliseconds, depending on the length of the names.
-   - next_libraries counts no steps, and libraries may share one long address table: 5,000 rows of
-     a file of 1 MB cost a second, and 100,000 rows of a file of 16 MB three minutes. Stop after
-     some hundreds.
    - Each call costs up to 25 milliseconds more if the image has many sections: a million imports
      cost 7 minutes in batches of 64, but 6 seconds in batches of 4,096. */
 #ifndef GOBLIN_PE_H
