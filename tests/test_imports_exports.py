@@ -412,7 +412,8 @@ class Forged(unittest.TestCase):
     def forged(self, kind, size):
         made = kind()
         for name, field in kind._fields_:
-            setattr(made, name, self.random.random() < 0.6 if field is ctypes.c_bool else self.number(size, 8 * ctypes.sizeof(field)))
+            if name != "reserved":
+                setattr(made, name, self.random.random() < 0.6 if field is ctypes.c_bool else self.number(size, 8 * ctypes.sizeof(field)))
         made.is_begun = self.random.random() < 0.9
         return made
 

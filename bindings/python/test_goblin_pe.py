@@ -498,8 +498,9 @@ class Walks(unittest.TestCase):
                     self.assertRaises(StopIteration, next, rows)
 
     def test_a_walk_ends_after_so_many_steps(self):
-        """A record, the slot of its one import, and the end are a step each. Permissive mode tests the address table first."""
-        for options, wanted in (Options(), [0, 0, 1, 1]), (PERMISSIVE, [0, 0, 0, 1, 1]):
+        """A record, the slot of its one import, and the end are a step each. Permissive mode tests the address table with the record,
+        strict mode after the slot."""
+        for options, wanted in (Options(), [0, 0, 1, 1, 1]), (PERMISSIVE, [0, 0, 1, 1]):
             for steps, count in enumerate(wanted):
                 found, budget = [], Budget(steps)
                 with self.subTest(steps=steps), contextlib.nullcontext() if steps == len(wanted) - 1 else self.assertRaises(OutOfSteps):
