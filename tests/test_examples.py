@@ -124,7 +124,7 @@ class Changes(Case):
         printed = succeed([built("damage"), self.written("many.dll", images.large_image(libraries=70, functions=1024, exports=0, blocks=0))])
         counts = "71680, 0 skipped, 0 lead nowhere"
         self.assertEqual(printed, f"imports as Windows maps: {counts}\nexports: 0, 0 skipped, 0 lead nowhere\nimports as goblin maps: {counts}\n")
-        printed = succeed([built("damage"), self.written("more.dll", images.large_image(libraries=256, functions=1024, exports=0, blocks=0))])
+        printed = succeed([built("damage"), self.written("more.dll", images.large_image(libraries=256, functions=2048, exports=0, blocks=0))])
         self.assertEqual(printed.count("maps: not known, because it needs more than 500000 steps\n"), 2)
 
     def test_damage_is_reported(self):
