@@ -15,7 +15,7 @@ from tests.programs import BY_NAME, CC, FLAGS, TOP, Case, beside, environment, n
 CARGO = ["cargo", "-q", "--offline", "--locked"]
 # What the package for Python lists of a sample, and what the crate's example `imports` does.
 LISTED = (0, beside(BY_NAME, "listing"), b"")
-IMPORTS = (0, b"%s      0 0x000020a8 KERNEL32.dll GetTickCount\n" % str(BY_NAME).encode(), b"")
+IMPORTS = (0, b"%s      0 0x000020a8 KERNEL32.dll GetTickCount\n%s: 0 skipped, 0 lead nowhere\n" % ((str(BY_NAME).encode(),) * 2), b"")
 
 
 def setUpModule():

@@ -145,7 +145,7 @@ class Packages(Case):
         manifest, env = ["--manifest-path", user / "Cargo.toml"], environment(PKG_CONFIG_LIBDIR="/", CARGO_TARGET_DIR=str(self.folder / "target"))
         succeed([*away(), "cargo", "add", "-q", "--offline", *manifest, "--path", crate], env=env)
         succeed([*away(), *CARGO[:-1], "build", *manifest], env=env)
-        printed = b"%s      0 0x000020a8 KERNEL32.dll GetTickCount\n" % str(self.sample).encode()
+        printed = b"%s      0 0x000020a8 KERNEL32.dll GetTickCount\n%s: 0 skipped, 0 lead nowhere\n" % ((str(self.sample).encode(),) * 2)
         self.assert_runs([*away(), self.folder / "target/debug/user", self.sample], (0, printed, b""), cwd="/")
 
     def test_the_package_for_debian(self):
