@@ -138,7 +138,8 @@
 
    The other walks look only at entries that give a row, so the room of their calls limits them.
 
-   One number of steps can serve several walks, and so limit their sum.
+   One number of steps can serve several walks, and so limit their sum. The looks of a call that
+   returns a fault, and those before a fault that the next call returns, are not subtracted.
 
    What the caller must do
    -----------------------
@@ -164,8 +165,9 @@
    ------
    Calls need memory only for an image with more than 96 sections. Then read_export_directory, and
    next_imports, _libraries, _exports, _export_addresses and _relocation_blocks make an index of the
-   sections, and free it before they return. Only these return GOBLIN_PE_STATUS_MEMORY. The index has 300 bytes for each section. With 65,535 sections
-   it costs 25 milliseconds a call, so walk such an image in batches of thousands of rows.
+   sections, and free it before they return. Only these return GOBLIN_PE_STATUS_MEMORY. The index
+   has 300 bytes for each section. With 65,535 sections it costs 25 milliseconds a call, so walk
+   such an image in batches of thousands of rows.
 
    Time
    ----
