@@ -269,9 +269,9 @@ struct goblin_pe_slice {
 struct goblin_pe_batch {
     /* How many records the call gave. */
     size_t count;
-    /* How many entries permissive mode skipped: at the first of them strict mode returns a fault. A
-       record whose name can't be read does not count. If the table is skipped as a whole, the call
-       that begins the walk counts 1. */
+    /* How many entries permissive mode skipped. Strict mode refuses these, or of a library its
+       imports. A record whose name can't be read does not count. If the table is skipped as a
+       whole, the call that begins the walk counts 1. */
     size_t skipped;
     /* How many entries lead nowhere. Neither mode gives a record for them, nor a fault. */
     size_t unmapped;
@@ -1144,8 +1144,9 @@ struct goblin_pe_import {
 
 /* Gives the next imports, in the order of the import directory. Counts steps.
 
-   `skipped` counts libraries without an address table, imports whose hint can't be read, and tables
-   that the file cuts short, each once. `unmapped` counts imports whose name has no offset.
+   `skipped` counts libraries without an address table, imports whose hint can't be read, tables
+   that the file cuts short, and a directory that is skipped as a whole, each once. `unmapped`
+   counts imports whose name has no offset.
 
    Faults: STEPS; in strict mode damage, after the imports that come before it; READ if the file has
    no room for the section headers; OPTIONS; MEMORY if there are more than 96 sections. */

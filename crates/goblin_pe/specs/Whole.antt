@@ -306,12 +306,6 @@ by_layout opts read =
     let strict = is_strict opts.parse_mode in
     pe_header strict >>= λ h. sections_after strict h >>= read h
 
--- the tables of a file with this header and these sections, in a view
-abbrev pub tables_with : View → ParseOptions → PeHeader → List Section → Reading NumberedTables
-tables_with view opts h sections =
-    let places = places_in h.optional_header in
-    table_parts opts (addressing_by opts (mapped_in view h sections) places) places
-
 -- a whole file: its header, its sections and its tables, with addresses mapped as the view says
 unfoldable pub whole_in : View → ParseOptions → Reading WholeFile
 whole_in view opts = by_layout opts (whole_with view opts)

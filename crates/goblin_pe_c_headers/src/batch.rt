@@ -10,9 +10,9 @@ ghost use Rattle.goblin_pe_c_headers.specs.Onward.{batch_of, rows_given};
 pub struct PeBatch {
     /// How many records the call gave.
     pub count: usize,
-    /// How many entries permissive mode skipped: at the first of them strict mode returns a fault.
-    /// A record whose name can't be read does not count. If the table is skipped as a whole, the
-    /// call that begins the walk counts 1.
+    /// How many entries permissive mode skipped. Strict mode refuses these, or of a library its
+    /// imports. A record whose name can't be read does not count. If the table is skipped as a
+    /// whole, the call that begins the walk counts 1.
     pub skipped: usize,
     /// How many entries lead nowhere. Neither mode gives a record for them, nor a fault.
     pub unmapped: usize,

@@ -19,8 +19,9 @@ use std::alloc::Global;
 
 /// Gives the next imports, in the order of the import directory. Counts steps.
 ///
-/// `skipped` counts libraries without an address table, imports whose hint can't be read, and tables
-/// that the file cuts short, each once. `unmapped` counts imports whose name has no offset.
+/// `skipped` counts libraries without an address table, imports whose hint can't be read, tables
+/// that the file cuts short, and a directory that is skipped as a whole, each once. `unmapped`
+/// counts imports whose name has no offset.
 ///
 /// Faults: STEPS; in strict mode damage, after the imports that come before it; READ if the file
 /// has no room for the section headers; OPTIONS; MEMORY if there are more than 96 sections.

@@ -20,9 +20,6 @@ module _ (size : ℕ) (dll : List ℕ) (rva : ℕ) (entries : List LookupEntry) 
     pub so_far : all_at (import_at size dll rva entries slots) position ≡ Some made
     pub after : now ≡ old ++ made
 
-  pub entry-start : (old : List ImportValue) → AtEntry 0 old old
-  entry-start old = record { made = []; so_far = all_at-zero (import_at size dll rva entries slots); after = sym (append-nil old) }
-
   -- one entry further
   pub entry-next : (position slot offset : ℕ) (entry : LookupEntry) (x : ImportValue) (old now : List ImportValue) → AtEntry position old now → slice_get entries position ≡ Some entry → slice_get slots position ≡ Some slot → Some offset ≡ import_offset rva size slot → Some (import_of dll slot offset size entry) ≡ Some x → AtEntry (position + 1) old (now ++ x ∷ [])
   entry-next position slot offset entry x old now h is in_slot fits same =

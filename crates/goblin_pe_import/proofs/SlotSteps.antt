@@ -67,10 +67,3 @@ refused-one None now before ahead has grown h = rw h refl
 refused-one (Some a) None before ahead has grown h = absurd h
 refused-one (Some a) (Some b) before ahead has grown h =
     (omega (arith, has, grown), omega (arith, has, h))
-
--- a limit has steps left where one is looked at
-pub counted-given : (old now : Option ℕ) (before ahead : ℕ) → HasSteps now → ahead ≤ before
-    → AreCounted old now before ahead → HasSteps old
-counted-given None now before ahead has less h = tt
-counted-given (Some a) None before ahead has less h = absurd h
-counted-given (Some a) (Some b) before ahead has less h = omega (arith, has, less, h)

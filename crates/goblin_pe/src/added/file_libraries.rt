@@ -30,6 +30,7 @@ impl<'a> Layout<'a> {
         ensures over { IfOk result (λ it.
             AreLibrariesAt (layout_map self.now) (entry_format (layout_places self.now).magic)
             (layout_bytes self.now) (libraries_cursor it) it) }
+        ensures fresh { IfOk result (λ it. libraries_passed it ≡ nothing_passed) }
     {
         let at = self.imports_begin()?;
         Ok(self.libraries_at(at))

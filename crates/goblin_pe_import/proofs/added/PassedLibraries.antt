@@ -78,15 +78,6 @@ module _ (strict : Bool) (format : Format EntryValue) (addressing : Addressing) 
       → HasRisen (count_of k now) (count_of k new) (records k (Some p) tested) 0
   records-end p tested = counted-end (record_counts strict format addressing bytes) bytes p tested
 
-  -- a piece was tested of an address table, after its library's entries
-  pub records-tested : (next tested after : Option ℕ) → strict ≡ true → (old : ℕ) (k : Count)
-      → HasRisen old old (records k next (in_next strict tested))
-      (entries k None + records k next (in_next strict after))
-  records-tested next tested after is old k =
-      rw (in_strict strict tested is, in_strict strict after is)
-      (risen-same old old (records k next None) (records k next None) _ (risen-start old (records k next None))
-      (omega arith))
-
   module _ (p : ℕ) (tested : Option ℕ) (v : ImportDirectoryEntry)
       (r : reads import_slots bytes p ≡ Some v) (going : is_last_record v ≡ false) where
     first : (k : Count) (tested : Option ℕ)

@@ -75,39 +75,6 @@ module _ (format : Format EntryValue) (s : Walk) where
   abbrev pending : Option ℕ → Option ℕ → ℕ
   pending = pending_ahead strict format places s.bytes.now
 
-  -- a piece was tested of an address table, after its library's entries
-  pub pending-piece : (rva : ℕ) (tested more next : Option ℕ) (left : Option ℕ) → strict ≡ true
-      → left ≡ Some rva
-      → pieces (tested_slots format places s.bytes.now tested rva) ≡ suc (pending more next)
-      → (place : Option ℕ) → place ≡ None → (after : Option ℕ)
-      → later tested left after ≡ suc (slots_ahead format s.bytes.now place + later more next after)
-  pending-piece rva tested more next left is there one place none after =
-      let both : sum after (in_next strict tested) ≡ sum after (in_next strict more) =
-      ap (sum after) (in_strict strict tested is ∙ sym (in_strict strict more is)) in
-      let first : pending tested left ≡ pieces (tested_slots format places s.bytes.now tested rva) =
-      rw (there, is) refl in
-      let here : slots_ahead format s.bytes.now place ≡ 0 = rw none refl in
-      omega (arith, both, first, one, here)
-
-  -- the last piece
-  pub pending-last : (rva : ℕ) (tested left : Option ℕ) → strict ≡ true → left ≡ Some rva
-      → pieces (tested_slots format places s.bytes.now tested rva) ≡ 1 → (after : Option ℕ)
-      → later tested left after ≡ suc (slots_ahead format s.bytes.now None + later None None after)
-  pending-last rva tested left is there one after =
-      let none = pending-none strict format places s.bytes.now None in
-      pending-piece rva tested None None left is there (omega (arith, one, none)) None refl after
-
-  -- one of more
-  pub pending-more : (rva place : ℕ) (tested left : Option ℕ) → strict ≡ true → left ≡ Some rva
-      → pieces (tested_slots format places s.bytes.now tested rva)
-      ≡ suc (pieces (slots_ahead format s.bytes.now (Some place))) → (after : Option ℕ)
-      → later tested left after
-      ≡ suc (slots_ahead format s.bytes.now None + later (Some place) left after)
-  pending-more rva place tested left is there one after =
-      let more : pending (Some place) left ≡ pieces (slots_ahead format s.bytes.now (Some place)) =
-      rw (there, is) refl in
-      pending-piece rva tested (Some place) left left is there (omega (arith, one, more)) None refl after
-
   -- there is no next record
   pub later-none : (tested left next : Option ℕ) → pending tested left ≡ 0 → next ≡ None
       → later tested left next ≡ 0

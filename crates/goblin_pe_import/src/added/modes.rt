@@ -4,6 +4,8 @@ ghost use Rattle.std.specs.Prelude.{◌≡◌, false, true};
 ghost use Rattle.goblin_pe_sect.specs.Addresses.{map_of, reads_strictly};
 ghost use Rattle.goblin_base.specs.Answers.{all_of};
 ghost use Rattle.goblin_pe_import.specs.Passed.Count.{Skipped};
+ghost use Rattle.goblin_pe_import.specs.added.ImportCursors.{BeginsAt, first_import};
+ghost use Rattle.goblin_pe_import.specs.added.Libraries.{AreLibrariesAt, entries_by};
 ghost use Rattle.goblin_pe_import.specs.added.Libraries.{libraries_ahead, libraries_left, tested_at};
 ghost use Rattle.goblin_pe_import.specs.added.WholeReads.{AreWhole, SkipsLeftOut};
 
@@ -30,7 +32,12 @@ pub fn mode_imports<'a, 'm, 'e, T: Bitfield<'a>>(
     ResultOf<'e, Imports<'a, 'm, 'e, T>>,
     ResultOf<'e, Imports<'a, 'm, 'e, T>>,
 )
-    ensures { let m = map_of strict.now in
+    ensures begin { let m = map_of strict.now in
+        let n = map_of permissive.now in
+        let rva = directory.virtual_address in
+        BeginsAt m bytes.now (first_import (reads_strictly m) m.addressing rva) result.0
+        × BeginsAt n bytes.now (first_import (reads_strictly n) n.addressing rva) result.1 }
+    ensures whole { let m = map_of strict.now in
         let n = map_of permissive.now in
         reads_strictly m ≡ true → reads_strictly n ≡ false → n.addressing ≡ m.addressing
         → AreWhole T.format m.addressing bytes.now directory.virtual_address result.0 result.1 }
@@ -54,7 +61,10 @@ pub fn mode_libraries<'a, 'm>(
     strict: Finder<'m>,
     permissive: Finder<'m>,
 ) -> (Libraries<'a, 'm>, Libraries<'a, 'm>)
-    ensures { let m = map_of strict.entry in
+    ensures begin { let format = entries_by is_narrow in
+        AreLibrariesAt (map_of strict.entry) format bytes.now at result.0
+        × AreLibrariesAt (map_of permissive.entry) format bytes.now at result.1 }
+    ensures whole { let m = map_of strict.entry in
         let n = map_of permissive.entry in
         reads_strictly m ≡ true → reads_strictly n ≡ false → n.addressing ≡ m.addressing
         → tested_at at ≡ None → SkipsLeftOut (libraries_ahead result.1 Skipped) (all_of (libraries_left result.0))

@@ -18,7 +18,7 @@ use goblin_pe_sect::address_map::Finder;
 pub struct Passed {
     /// How many permissive mode left out where strict mode has an error: libraries whose address
     /// table can't be read, entries whose hint can't be read, and ends of tables that the file cuts
-    /// short. [`usize::MAX`] if there are more.
+    /// short. A directory that is skipped as a whole is one. [`usize::MAX`] if there are more.
     pub skipped: usize,
     /// How many entries lead nowhere, because the address of their hint and name has no file
     /// offset. Both modes pass over them. [`usize::MAX`] if there are more.
