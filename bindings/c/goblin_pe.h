@@ -90,7 +90,7 @@
    The batch says what the call did:
 
        count     how many rows the call gave
-       skipped   how many entries it skipped in permissive mode: strict mode returns a fault there
+       skipped   how many entries it skipped in permissive mode, because strict mode refuses them
        unmapped  how many entries led nowhere: in both modes they give no row and no fault
        is_done   whether to stop: there are no more rows, or the call returned a fault
 

@@ -62,9 +62,9 @@ class Options:
 
 class Budget:
     """How many steps calls may still take. A step is one look at an entry of an import or export
-    table, or one row of another walk. A call that needs more steps raises OutOfSteps. If the options
-    limit names, 100,000 steps take 10 to 200 milliseconds in the library, depending on the length of
-    the names.
+    table, or at 64 entries of an address table of imports, or one row of another walk. A call that
+    needs more steps raises OutOfSteps. If the options limit names, 100,000 steps take 10 to 200
+    milliseconds in the library, depending on the length of the names.
 
     Walks read their rows in batches. So the budget may already have paid for rows that you do not
     have yet. Threads can share a budget; their calls then wait for one another.

@@ -50,10 +50,10 @@
 //!
 //! A small file can list very much: 256 KiB can list 850 million imports. So each call whose work
 //! the file decides has a [`Budget`] of steps as an argument, and each walk has the method
-//! [`within`](Walk::within). A step is one look at an entry of an import or export table, or one row
-//! of another walk. Several calls can share one budget, which then limits their sum. When the steps
-//! are used up, a call returns an error of the kind [`ErrorKind::Steps`]. It never leaves anything
-//! out without that error.
+//! [`within`](Walk::within). A step is one look at an entry of an import or export table, or at 64
+//! entries of an address table of imports, or one row of another walk. Several calls can share one
+//! budget, which then limits their sum. When the steps are used up, a call returns an error of the
+//! kind [`ErrorKind::Steps`]. It never leaves anything out without that error.
 //!
 //! [`Options::with_longest_name`] limits how much of a name is read. Without it a file of a megabyte
 //! can list a million names of a megabyte.

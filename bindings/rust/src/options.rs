@@ -100,9 +100,9 @@ pub enum Mapping {
 /// The number of steps that are left for calls. Lend one budget to several walks and calls, and it
 /// limits their sum.
 ///
-/// A step is one look at an entry of an import or export table, whether or not the entry gives a
-/// row, or one row of another walk. To see the end of a table may need a step, too. A call that needs
-/// more steps than are left returns an error of the kind
+/// A step is one look at an entry of an import or export table, or at 64 entries of an address table
+/// of imports, whether or not they give a row, or one row of another walk. To see the end of a table
+/// may need a step, too. A call that needs more steps than are left returns an error of the kind
 /// [`ErrorKind::Steps`](crate::ErrorKind::Steps).
 ///
 /// A walk reads its rows in batches. So the steps of rows that you have not seen yet may already be
