@@ -1,6 +1,5 @@
 """What the package for Python says of files, in the words of dump.rs, which prints the same by the crate for Rust."""
 import enum
-import itertools
 
 from tests.bindings import package, records
 
@@ -22,11 +21,11 @@ class Out(list):
     def put(self, *words):
         self.append(" ".join(map(str, words)))
 
-    def rows(self, name, walk, most=None):
+    def rows(self, name, walk):
         """The rows of a walk, the error at which they end, and what it counts."""
         rows = []
         try:
-            for row in itertools.islice(walk, most):
+            for row in walk:
                 self.put(shown(row))
                 rows.append(row)
         except package().PeError as error:
@@ -135,7 +134,7 @@ def tables(out, image):
         out.put(shown(section.data(image)))
         out.rows("relocations", section.relocations(image, budget(100)))
         out.put(some(image.section_by_name(section.name)))
-    out.rows("rich_entries", image.rich_entries(), 100)
+    out.rows("rich_entries", image.rich_entries(budget(100)))
     out.rows("imports", image.imports(budget(300)))
     for it in out.rows("libraries", image.libraries(budget(300))):
         out.rows("imports", it.imports(image, budget(100)))

@@ -14,10 +14,8 @@ fn rows<T: Debug>(rows: impl Iterator<Item = Result<T, Error>>) -> Vec<T> {
     rows.inspect(shown).filter_map(Result::ok).collect()
 }
 
-// Prints the rows of a walk within so many steps, and what gave no row.
-fn walked<'a, T: Row<'a> + Debug>(name: &str, walk: Walk<'a, T>, steps: usize) -> Vec<T> {
-    let mut budget = Budget::steps(steps);
-    let mut walk = walk.within(&mut budget);
+// Prints the rows of a walk, and what gave no row.
+fn walked<'a, T: Row<'a> + Debug>(name: &str, mut walk: Walk<'a, '_, T>) -> Vec<T> {
     let found = rows(walk.by_ref());
     println!("{name} skipped={} unmapped={}", walk.skipped(), walk.unmapped());
     found
@@ -32,32 +30,31 @@ fn headers(image: &Image) {
 }
 
 fn tables(image: &Image) {
+    let budget = Budget::steps;
     for section in image.sections() {
         println!("{section:?} {:?}", section.to_bytes());
         println!("{:?}", section.data(image));
-        walked("relocations", section.relocations(image), 100);
+        walked("relocations", section.relocations(image, &budget(100)));
         println!("{:?}", image.section_by_name(section.name));
     }
-    let mut entries = image.rich_entries();
-    rows(entries.by_ref().take(100));
-    println!("rich_entries skipped={} unmapped={}", entries.skipped(), entries.unmapped());
-    walked("imports", image.imports(), 300);
-    for library in walked("libraries", image.libraries(), 300) {
-        walked("imports", library.imports(image), 100);
+    walked("rich_entries", image.rich_entries(&budget(100)));
+    walked("imports", image.imports(&budget(300)));
+    for library in walked("libraries", image.libraries(&budget(300))) {
+        walked("imports", library.imports(image, &budget(100)));
     }
     println!("{:?}", image.export_directory());
-    for export in walked("exports", image.exports(), 300).into_iter().take(20) {
+    for export in walked("exports", image.exports(&budget(300))).into_iter().take(20) {
         println!("{:?}", image.find_export_by_ordinal(export.ordinal));
         let name = export.name.unwrap_or_default();
-        println!("{:?}", image.find_export(name, &mut Budget::steps(300)));
+        println!("{:?}", image.find_export(name, &budget(300)));
     }
-    for address in walked("export_addresses", image.export_addresses(), 300) {
+    for address in walked("export_addresses", image.export_addresses(&budget(300))) {
         println!("{:?}", address.is_forwarder.then(|| image.forwarder_at(address.rva)));
     }
-    for block in walked("relocation_blocks", image.relocation_blocks(), 20) {
+    for block in walked("relocation_blocks", image.relocation_blocks(&budget(20))) {
         println!("{:?}", Vec::from_iter(block.relocations()));
     }
-    for symbol in walked("symbols", image.symbols(), 300) {
+    for symbol in walked("symbols", image.symbols(&budget(300))) {
         println!("{:?} {:?}", symbol.auxiliary(), image.symbol_at(symbol.index));
         println!("{:?}", image.section_by_number(symbol.section_number));
     }

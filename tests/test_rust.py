@@ -48,7 +48,7 @@ fn main() -> Result<(), Box<dyn std::error::Error>> {
         let image = Image::read(&bytes, Options::permissive())?;
         let overlay = bytes.len() - image.overlay().len();
         let rich = image.rich_header().map_or(String::new(), |it| hex(&it.cleared()));
-        let imports = image.imphash_text(&mut Budget::steps(100_000))?.unwrap_or_default();
+        let imports = image.imphash_text(&Budget::default())?.unwrap_or_default();
         let kinds = [image.is_exe(), image.is_dll(), image.is_driver(), image.is_lib(), image.is_64()];
         println!("[{overlay}, {rich:?}, {imports:?}, {kinds:?}]");
     }

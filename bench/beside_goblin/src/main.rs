@@ -10,7 +10,7 @@ use std::hint::black_box;
 // How many sections, imports and exports this library finds. Each name is looked at.
 fn ours(bytes: &[u8]) -> Option<[usize; 3]> {
     let options = Options::default().with_mapping(Mapping::AsStored);
-    let pe = Pe::read(bytes, options, &mut Budget::unlimited()).ok()?;
+    let pe = Pe::read(bytes, options, &Budget::unlimited()).ok()?;
     for section in &pe.sections {
         black_box(section.name);
     }

@@ -6,7 +6,7 @@
 #[path = "../../beside_goblin/src/measure.rs"]
 mod measure;
 
-use goblin_pe::{Image, Kind, Options, Pe};
+use goblin_pe::{Budget, Image, Kind, Options, Pe};
 use object::pe::{IMAGE_NT_OPTIONAL_HDR64_MAGIC, ImageNtHeaders32, ImageNtHeaders64};
 use object::read::coff::CoffFile;
 use object::read::pe::{ExportTarget, ImageNtHeaders, Import, PeFile, optional_header_magic};
@@ -33,16 +33,16 @@ fn our_lists(bytes: &[u8]) -> Option<[usize; 4]> {
 // How many imports, exports and blocks of base relocations this library's walks give.
 fn our_walks(bytes: &[u8]) -> Option<[usize; 3]> {
     let image = Image::parse(bytes).ok()?;
-    let mut counts = [0; 3];
-    for import in image.imports() {
+    let (mut counts, budget) = ([0; 3], Budget::unlimited());
+    for import in image.imports(&budget) {
         black_box(import.ok()?);
         counts[0] += 1;
     }
-    for export in image.exports() {
+    for export in image.exports(&budget) {
         black_box(export.ok()?);
         counts[1] += 1;
     }
-    for block in image.relocation_blocks() {
+    for block in image.relocation_blocks(&budget) {
         black_box(block.ok()?);
         counts[2] += 1;
     }
@@ -160,7 +160,7 @@ fn object_walks(bytes: &[u8]) -> Option<[usize; 3]> {
 fn our_symbols(bytes: &[u8]) -> Option<usize> {
     let object = Image::read_object(bytes, Options::default()).ok()?;
     let mut count = 0;
-    for symbol in object.symbols() {
+    for symbol in object.symbols(&Budget::unlimited()) {
         let symbol = symbol.ok()?;
         black_box((symbol.name, symbol.value));
         count += 1;
@@ -171,9 +171,9 @@ fn our_symbols(bytes: &[u8]) -> Option<usize> {
 // How many relocations this library finds in its sections.
 fn our_relocations(bytes: &[u8]) -> Option<usize> {
     let object = Image::read_object(bytes, Options::default()).ok()?;
-    let mut count = 0;
+    let (mut count, budget) = (0, Budget::unlimited());
     for section in object.sections() {
-        for relocation in section.relocations(&object) {
+        for relocation in section.relocations(&object, &budget) {
             black_box(relocation.ok()?);
             count += 1;
         }

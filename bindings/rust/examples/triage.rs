@@ -11,7 +11,7 @@ fn entropy(data: &[u8]) -> f64 {
 }
 
 // (a crate for MD5 makes the two hashes of these texts)
-fn report(image: &Image, budget: &mut Budget) -> Result<(), Error> {
+fn report(image: &Image, budget: &Budget) -> Result<(), Error> {
     println!("machine {}", names::machine(image.coff_header().machine));
     println!("exe {}, dll {}, driver {}", image.is_exe(), image.is_dll(), image.is_driver());
     let rich = image.rich_header().map_or(0, |it| it.cleared().len());
@@ -30,10 +30,10 @@ fn report(image: &Image, budget: &mut Budget) -> Result<(), Error> {
     println!("text of the imphash: {imports} bytes");
     // what only goblin, or only Windows finds
     let stored = image.with_options(image.options().with_mapping(Mapping::AsStored));
-    let mut walk = image.imports().within(budget);
+    let mut walk = image.imports(budget);
     let loaded: HashSet<_> = walk.by_ref().collect::<Result<_, _>>()?;
     println!("imports: {} skipped, {} lead nowhere", walk.skipped(), walk.unmapped());
-    let stored: HashSet<_> = stored.imports().within(budget).collect::<Result<_, _>>()?;
+    let stored: HashSet<_> = stored.imports(budget).collect::<Result<_, _>>()?;
     for import in loaded.symmetric_difference(&stored).take(100) {
         println!("hidden {:.200} {:.200}", import.dll, import.name);
     }
@@ -49,7 +49,7 @@ fn main() -> std::io::Result<()> {
         for (part, error) in faults.errors() {
             println!("{part}: {error}");
         }
-        if let Err(error) = report(&image, &mut Budget::steps(200_000)) {
+        if let Err(error) = report(&image, &Budget::steps(200_000)) {
             println!("cut off: {error}");
         }
     }

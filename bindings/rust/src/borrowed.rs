@@ -13,6 +13,7 @@ macro_rules! program {
         concat!(
             "let bytes = vec![0_u8];\n",
             "let image = goblin_pe::Image::parse(&bytes).unwrap();\n",
+            "let budget = goblin_pe::Budget::default();\n",
             "let it = ", $made, ";\n", $before, "\nprintln!(\"{it:?}\");\n", $after, "\n"
         )
     };
@@ -25,16 +26,15 @@ borrow! {
     RichHeader: "image.rich_header()";
     Section: "image.sections().next()";
     Rows: "image.sections()";
-    Walk: "image.imports()";
-    Within: "image.imports().within(Box::leak(Box::new(goblin_pe::Budget::unlimited())))";
-    Import: "image.imports().next()";
-    Imported: "image.imports().next().unwrap().unwrap().name";
-    Library: "image.libraries().next()";
-    Export: "image.exports().next()";
+    Walk: "image.imports(&budget)";
+    Import: "image.imports(&budget).next()";
+    Imported: "image.imports(&budget).next().unwrap().unwrap().name";
+    Library: "image.libraries(&budget).next()";
+    Export: "image.exports(&budget).next()";
     ExportDirectory: "image.export_directory()";
     Forwarder: "image.forwarder_at(0)";
-    RelocationBlock: "image.relocation_blocks().next()";
-    Symbol: "image.symbols().next()";
+    RelocationBlock: "image.relocation_blocks(&budget).next()";
+    Symbol: "image.symbols(&budget).next()";
     Auxiliary: "image.symbol_at(0).unwrap().unwrap().auxiliary()";
     Memory: "image.memory_at(0, 1)";
     Text: "image.text_at(0)";

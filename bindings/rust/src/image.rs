@@ -158,12 +158,13 @@ impl<'a> Image<'a> {
     /// limit for names. The header itself is not read again.
     ///
     /// ```no_run
-    /// use goblin_pe::{Image, Mapping};
+    /// use goblin_pe::{Budget, Image, Mapping};
     ///
     /// # let bytes = [];
     /// let image = Image::parse(&bytes)?;
     /// let as_goblin = image.with_options(image.options().with_mapping(Mapping::AsStored));
-    /// if image.imports().ne(as_goblin.imports()) {
+    /// let budget = Budget::default();
+    /// if image.imports(&budget).ne(as_goblin.imports(&budget)) {
     ///     println!("goblin sees other imports than Windows");
     /// }
     /// # Ok::<(), goblin_pe::Error>(())
@@ -318,48 +319,48 @@ impl<'a> Image<'a> {
     }
 
     /// A walk over the entries of the Rich header.
-    pub fn rich_entries(&self) -> Walk<'a, RichEntry> {
-        Walk::of(self)
+    pub fn rich_entries<'b>(&self, budget: &'b Budget) -> Walk<'a, 'b, RichEntry> {
+        Walk::of(self, budget)
     }
 
     /// A walk over the imports, in the order of the import directory.
     ///
     /// It skips libraries without an address table, imports whose hint can't be read, and tables that
     /// the file cuts short. Each counts once. Imports whose name has no offset are unmapped.
-    pub fn imports(&self) -> Walk<'a, Import<'a>> {
-        Walk::of(self)
+    pub fn imports<'b>(&self, budget: &'b Budget) -> Walk<'a, 'b, Import<'a>> {
+        Walk::of(self, budget)
     }
 
     /// A walk over the libraries: one for each entry of the import directory, also the skipped ones.
     ///
     /// A step of a budget is one look at an entry of the import directory, or at 64 entries of an
     /// address table. Libraries may share one long address table, which is read for each of them.
-    pub fn libraries(&self) -> Walk<'a, Library<'a>> {
-        Walk::of(self)
+    pub fn libraries<'b>(&self, budget: &'b Budget) -> Walk<'a, 'b, Library<'a>> {
+        Walk::of(self, budget)
     }
 
     /// A walk over the exports that have a name pointer, in the order of the name pointers.
     ///
     /// Name pointers without an ordinal, with an ordinal past the address table, or with a forwarder
     /// that can't be read are unmapped.
-    pub fn exports(&self) -> Walk<'a, Export<'a>> {
-        Walk::of(self)
+    pub fn exports<'b>(&self, budget: &'b Budget) -> Walk<'a, 'b, Export<'a>> {
+        Walk::of(self, budget)
     }
 
     /// A walk over the export address table: all ordinals, also those without a name.
-    pub fn export_addresses(&self) -> Walk<'a, ExportAddress> {
-        Walk::of(self)
+    pub fn export_addresses<'b>(&self, budget: &'b Budget) -> Walk<'a, 'b, ExportAddress> {
+        Walk::of(self, budget)
     }
 
     /// A walk over the blocks of base relocations. If bytes are no block, the walk gives the blocks
     /// before them, and then an error, in both modes.
-    pub fn relocation_blocks(&self) -> Walk<'a, RelocationBlock<'a>> {
-        Walk::of(self)
+    pub fn relocation_blocks<'b>(&self, budget: &'b Budget) -> Walk<'a, 'b, RelocationBlock<'a>> {
+        Walk::of(self, budget)
     }
 
     /// A walk over the symbols of an image or an object.
-    pub fn symbols(&self) -> Walk<'a, Symbol<'a>> {
-        Walk::of(self)
+    pub fn symbols<'b>(&self, budget: &'b Budget) -> Walk<'a, 'b, Symbol<'a>> {
+        Walk::of(self, budget)
     }
 
     // Tests that a table is not refused as a whole.
@@ -418,13 +419,13 @@ impl<'a> Image<'a> {
     ///
     /// # let bytes = [];
     /// let image = Image::parse(&bytes)?;
-    /// let is_server = image.find_export("DllGetClassObject", &mut Budget::steps(100_000))?.is_some();
+    /// let is_server = image.find_export("DllGetClassObject", &Budget::default())?.is_some();
     /// # Ok::<(), goblin_pe::Error>(())
     /// ```
     pub fn find_export(
         &self,
         name: impl AsRef<[u8]>,
-        budget: &mut Budget,
+        budget: &Budget,
     ) -> Result<Option<Export<'a>>, Error> {
         let (name, longest) = (name.as_ref(), self.options().longest_name as usize);
         if longest > 0 && longest < name.len() {
@@ -432,7 +433,7 @@ impl<'a> Image<'a> {
         }
         let name = Some(Text(name));
         let is_it = |row: &Result<Export, _>| row.as_ref().map_or(true, |it| it.name == name);
-        self.exports().within(budget).find(is_it).transpose()
+        self.exports(budget).find(is_it).transpose()
     }
 
     /// The export of this ordinal, also one without a name; `None` if there is none, or the ordinal
@@ -556,9 +557,9 @@ impl<'a> Image<'a> {
     ///
     /// # Errors
     /// As a walk over the imports, and [`ErrorKind::Steps`](crate::ErrorKind::Steps).
-    pub fn imphash_text(&self, budget: &mut Budget) -> Result<Option<String>, Error> {
+    pub fn imphash_text(&self, budget: &Budget) -> Result<Option<String>, Error> {
         let longest = self.options().longest_name as usize;
-        imphash::text(self.imports().within(budget), longest)
+        imphash::text(self.imports(budget), longest)
     }
 
     /// The overlay: the bytes after the data of all sections; empty if there are none. Its file offset

@@ -8,14 +8,14 @@
 //!
 //! fn list(bytes: &[u8]) -> Result<(), Error> {
 //!     let image = Image::read(bytes, Options::permissive().with_longest_name(512))?;
-//!     let mut budget = Budget::steps(1_000_000);
-//!     let mut imports = image.imports().within(&mut budget);
+//!     let budget = Budget::default();
+//!     let mut imports = image.imports(&budget);
 //!     for import in imports.by_ref() {
 //!         let import = import?;
 //!         println!("{} {}", import.dll, import.name);
 //!     }
 //!     println!("{} skipped, {} lead nowhere", imports.skipped(), imports.unmapped());
-//!     for export in image.exports().within(&mut budget) {
+//!     for export in image.exports(&budget) {
 //!         println!("exports {}", export?.name.unwrap_or_default());
 //!     }
 //!     let entry = image.memory_at(image.entry(), 16);
@@ -49,11 +49,11 @@
 //! # Limits
 //!
 //! A small file can list very much: 256 KiB can list 850 million imports. So each call whose work
-//! the file decides has a [`Budget`] of steps as an argument, and each walk has the method
-//! [`within`](Walk::within). A step is one look at an entry of an import or export table, or at 64
-//! entries of an address table of imports, or one row of another walk. Several calls can share one
-//! budget, which then limits their sum. When the steps are used up, a call returns an error of the
-//! kind [`ErrorKind::Steps`]. It never leaves anything out without that error.
+//! the file decides has a [`Budget`] of steps as an argument. Its default is 1,000,000. A step is one
+//! look at an entry of an import or export table, or at 64 entries of an address table of imports, or
+//! one row of another walk. Several calls can share one budget, which then limits their sum. When the
+//! steps are used up, a call returns an error of the kind [`ErrorKind::Steps`]. It never leaves
+//! anything out without that error.
 //!
 //! [`Options::with_longest_name`] limits how much of a name is read. Without it a file of a megabyte
 //! can list a million names of a megabyte.
@@ -115,7 +115,7 @@ pub use rows::{
     Import, Imported, Library, RelocationBlock, RichEntry, RichHeader, Section, Symbol,
 };
 pub use text::Text;
-pub use walk::{Row, Rows, Walk, Within};
+pub use walk::{Row, Rows, Walk};
 
 // The programs of the page.
 #[cfg(doctest)]

@@ -1,5 +1,6 @@
 //! How a file is read, and how much work may be done for it.
 
+use std::cell::Cell;
 use std::fmt;
 
 use crate::ffi;
@@ -97,8 +98,8 @@ pub enum Mapping {
     Identity = 3,
 }
 
-/// The number of steps that are left for calls. Lend one budget to several walks and calls, and it
-/// limits their sum.
+/// The number of steps that are left for calls. Lend one budget to several walks and calls, also to a
+/// walk inside another one, and it limits their sum. The default is 1,000,000 steps.
 ///
 /// A step is one look at an entry of an import or export table, or at 64 entries of an address table
 /// of imports, whether or not they give a row, or one row of another walk. To see the end of a table
@@ -108,14 +109,16 @@ pub enum Mapping {
 /// A walk reads its rows in batches. So the steps of rows that you have not seen yet may already be
 /// used.
 ///
+/// A budget and the walks that share it stay in one thread. A clone is a budget of its own.
+///
 /// ```no_run
 /// use goblin_pe::{Budget, Image};
 ///
 /// # let bytes = [];
 /// let image = Image::parse(&bytes)?;
-/// let mut budget = Budget::steps(100_000);
-/// let imports = image.imports().within(&mut budget).collect::<Result<Vec<_>, _>>()?;
-/// let exports = image.exports().within(&mut budget).collect::<Result<Vec<_>, _>>()?;
+/// let budget = Budget::steps(100_000);
+/// let imports = image.imports(&budget).collect::<Result<Vec<_>, _>>()?;
+/// let exports = image.exports(&budget).collect::<Result<Vec<_>, _>>()?;
 /// println!("{} imports, {} exports", imports.len(), exports.len());
 /// println!("{} steps are left", budget.left());
 /// # Ok::<(), goblin_pe::Error>(())
@@ -123,42 +126,65 @@ pub enum Mapping {
 #[derive(Clone, PartialEq, Eq)]
 #[must_use]
 pub struct Budget {
-    steps: usize,
+    steps: Cell<usize>,
 }
 
 impl Budget {
     /// A budget with this number of steps. If the options limit the length of names, 100,000 steps
     /// need 10 to 200 milliseconds, depending on that length.
     pub const fn steps(steps: usize) -> Budget {
-        Budget { steps }
+        Budget {
+            steps: Cell::new(steps),
+        }
     }
 
     /// A budget that is never used up. Use it for files that you trust.
     pub const fn unlimited() -> Budget {
-        Budget { steps: usize::MAX }
+        Budget::steps(usize::MAX)
     }
 
     /// How many steps are left; `usize::MAX` if there is no limit.
     #[must_use]
-    pub const fn left(&self) -> usize {
-        self.steps
+    pub fn left(&self) -> usize {
+        self.steps.get()
     }
 
-    // The steps, which calls count down; `usize::MAX` stays.
-    pub(crate) fn take<T>(&mut self, call: impl FnOnce(&mut usize) -> T) -> T {
-        let is_limited = self.steps != usize::MAX;
-        let answer = call(&mut self.steps);
-        if !is_limited {
-            self.steps = usize::MAX;
+    /// Sets how many steps are left. A walk that has ended because they were used up goes on.
+    ///
+    /// ```no_run
+    /// use goblin_pe::{Budget, Error, Import, Walk};
+    ///
+    /// // Prints the next hundred imports of a walk that has this budget.
+    /// fn page<'a>(walk: &mut Walk<'a, '_, Import<'a>>, budget: &Budget) -> Result<(), Error> {
+    ///     budget.set(10_000);
+    ///     for import in walk.take(100) {
+    ///         println!("{}", import?.name);
+    ///     }
+    ///     Ok(())
+    /// }
+    /// ```
+    pub fn set(&self, steps: usize) {
+        self.steps.set(steps);
+    }
+
+    // Sets how many steps a call has left, unless there is no limit.
+    pub(crate) fn count_down(&self, left: usize) {
+        if self.left() != usize::MAX {
+            self.set(left);
         }
-        answer
+    }
+}
+
+impl Default for Budget {
+    fn default() -> Budget {
+        Budget::steps(1_000_000)
     }
 }
 
 impl fmt::Debug for Budget {
     /// How many steps are left.
     fn fmt(&self, f: &mut fmt::Formatter<'_>) -> fmt::Result {
-        match self.steps {
+        match self.left() {
             usize::MAX => f.write_str("Budget(unlimited)"),
             left => write!(f, "Budget({left} steps left)"),
         }

@@ -18,7 +18,7 @@ use crate::walk::{Sums, append};
 /// use goblin_pe::{Budget, Options, Pe};
 ///
 /// let bytes = std::fs::read("some.dll")?;
-/// let pe = Pe::read(&bytes, Options::permissive(), &mut Budget::steps(1_000_000))?;
+/// let pe = Pe::read(&bytes, Options::permissive(), &Budget::default())?;
 /// println!("{} imports of {:?}", pe.imports.len(), pe.libraries());
 /// if let Some(export) = pe.exports.iter().find(|it| it.name == Some("DllGetClassObject".into())) {
 ///     println!("{:#x}", export.rva);
@@ -62,7 +62,7 @@ impl<'a> Pe<'a> {
     /// As [`Image::read`]. In strict mode also the error of the first table that is refused, and in
     /// both modes [`ErrorKind::Steps`](crate::ErrorKind::Steps) and
     /// [`ErrorKind::Memory`](crate::ErrorKind::Memory).
-    pub fn read(bytes: &'a [u8], options: Options, budget: &mut Budget) -> Result<Pe<'a>, Error> {
+    pub fn read(bytes: &'a [u8], options: Options, budget: &Budget) -> Result<Pe<'a>, Error> {
         Pe::of(Image::read(bytes, options)?, budget)
     }
 
@@ -72,14 +72,14 @@ impl<'a> Pe<'a> {
     /// # Errors
     /// As [`Pe::read`].
     pub fn parse(bytes: &'a [u8]) -> Result<Pe<'a>, Error> {
-        Pe::read(bytes, Options::default(), &mut Budget::steps(10_000_000))
+        Pe::read(bytes, Options::default(), &Budget::steps(10_000_000))
     }
 
     /// Lists the tables of an image, such as a partial one.
     ///
     /// # Errors
     /// As [`Pe::read`].
-    pub fn of(image: Image<'a>, budget: &mut Budget) -> Result<Pe<'a>, Error> {
+    pub fn of(image: Image<'a>, budget: &Budget) -> Result<Pe<'a>, Error> {
         let mut pe = Pe {
             image,
             sections: Vec::new(),

@@ -6,6 +6,7 @@ use crate::constants::IMAGE_SCN_LNK_NRELOC_OVFL;
 use crate::error::Error;
 use crate::ffi;
 use crate::image::{Image, Memory, Table};
+use crate::options::Budget;
 use crate::text::Text;
 use crate::walk::{Listed, Rows, Walk, Walked};
 
@@ -131,10 +132,14 @@ impl<'a> Section<'a> {
     /// A walk over the relocations of a section of an object. If there are more than 65,535, the first
     /// record is only their number, and the walk leaves it out.
     #[inline]
-    pub fn relocations(&self, image: &Image<'a>) -> Walk<'a, CoffRelocation> {
+    pub fn relocations<'b>(
+        &self,
+        image: &Image<'a>,
+        budget: &'b Budget,
+    ) -> Walk<'a, 'b, CoffRelocation> {
         let mut cursor = self.record().relocations;
         cursor.index = cursor.is_extended.into();
-        let mut walk = Walk::at(image, cursor);
+        let mut walk = Walk::at(image, cursor, budget);
         // (most sections have none, and need no call)
         walk.is_over = cursor.count == 0;
         walk
@@ -373,18 +378,18 @@ impl<'a> Library<'a> {
     ///
     /// # let bytes = [];
     /// let image = Image::read(&bytes, Options::permissive())?;
-    /// let mut budget = Budget::steps(100_000);
-    /// for library in image.libraries().take(50) {
+    /// let budget = Budget::default();
+    /// for library in image.libraries(&budget).take(50) {
     ///     let library = library?;
     ///     println!("{}:", library.name.unwrap_or_default());
-    ///     for import in library.imports(&image).within(&mut budget) {
+    ///     for import in library.imports(&image, &budget) {
     ///         println!("    {}", import?.name);
     ///     }
     /// }
     /// # Ok::<(), goblin_pe::Error>(())
     /// ```
-    pub fn imports(&self, image: &Image<'a>) -> Walk<'a, Import<'a>> {
-        Walk::at(image, self.imports)
+    pub fn imports<'b>(&self, image: &Image<'a>, budget: &'b Budget) -> Walk<'a, 'b, Import<'a>> {
+        Walk::at(image, self.imports, budget)
     }
 
     fn of(it: &ffi::Library<'a>) -> Library<'a> {
@@ -636,11 +641,11 @@ impl<'a> Symbol<'a> {
     /// kind of auxiliary record.
     ///
     /// ```no_run
-    /// use goblin_pe::{Auxiliary, Image, Options};
+    /// use goblin_pe::{Auxiliary, Budget, Image, Options};
     ///
     /// # let bytes = [];
     /// let object = Image::read_object(&bytes, Options::default())?;
-    /// for symbol in object.symbols() {
+    /// for symbol in object.symbols(&Budget::default()) {
     ///     match symbol?.auxiliary() {
     ///         Some(Auxiliary::File(name)) => println!("made of {name}"),
     ///         Some(Auxiliary::FileAt(offset)) => println!("made of {:?}", object.string_at(offset)),

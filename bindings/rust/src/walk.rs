@@ -5,7 +5,7 @@ use std::iter::FusedIterator;
 use std::mem::MaybeUninit;
 use std::slice;
 
-use crate::error::Error;
+use crate::error::{Error, ErrorKind};
 use crate::ffi;
 use crate::image::Image;
 use crate::options::Budget;
@@ -16,26 +16,32 @@ use crate::options::Budget;
 /// it gives the rows before it, then one error, and then it ends. In permissive mode it gives an error
 /// only if no row can follow the damage.
 ///
-/// A walk has no limit of its own. If you don't trust the file, call [`within`](Self::within).
+/// It takes its steps from a [`Budget`]. If they are used up before the walk is over, it gives one
+/// error of the kind [`ErrorKind::Steps`](crate::ErrorKind::Steps), and then it ends, too. If you then
+/// set new steps by [`Budget::set`], the walk goes on after the last row that it gave.
 ///
 /// ```no_run
-/// use goblin_pe::{Error, Image, Import};
+/// use goblin_pe::{Budget, Error, Image, Import};
 ///
 /// fn of_kernel<'a>(image: &Image<'a>) -> Result<Vec<Import<'a>>, Error> {
 ///     let is_of_kernel = |it: &Import| it.dll.eq_ignore_ascii_case(b"kernel32.dll");
-///     image.imports().filter(|row| row.as_ref().map_or(true, is_of_kernel)).collect()
+///     let budget = Budget::default();
+///     image.imports(&budget).filter(|row| row.as_ref().map_or(true, is_of_kernel)).collect()
 /// }
 /// ```
 #[derive(Clone)]
 #[must_use = "walks do nothing unless they are consumed"]
-pub struct Walk<'a, T: Row<'a>> {
+pub struct Walk<'a, 'b, T: Row<'a>> {
     image: Image<'a>,
+    budget: &'b Budget,
     cursor: T::Cursor,
     // What the last call gave, and how many of these were handed out.
     records: Vec<T::Record>,
     given: usize,
     sums: Sums,
     pub(crate) is_over: bool,
+    // Whether it gave the error that its steps are used up: it has ended until there are new ones.
+    has_run_out: bool,
 }
 
 // How many entries gave no row.
@@ -59,30 +65,22 @@ const ROOM: usize = 256;
 // How many records `append` has on the stack.
 const STACK: usize = 128;
 
-impl<'a, T: Row<'a>> Walk<'a, T> {
-    pub(crate) const fn at(image: &Image<'a>, cursor: T::Cursor) -> Walk<'a, T> {
+impl<'a, 'b, T: Row<'a>> Walk<'a, 'b, T> {
+    pub(crate) const fn at(image: &Image<'a>, cursor: T::Cursor, budget: &'b Budget) -> Self {
         Walk {
             image: *image,
+            budget,
             cursor,
             records: Vec::new(),
             given: 0,
             sums: Sums::ZEROS,
             is_over: false,
+            has_run_out: false,
         }
     }
 
-    pub(crate) fn of(image: &Image<'a>) -> Walk<'a, T> {
-        Walk::at(image, T::Cursor::default())
-    }
-
-    /// The same walk, which counts its steps down in a budget. If the budget is used up before the walk
-    /// is over, it gives an error of the kind [`ErrorKind::Steps`](crate::ErrorKind::Steps), and ends.
-    pub fn within<'b>(self, budget: &'b mut Budget) -> Within<'a, 'b, T> {
-        Within {
-            walk: self,
-            budget,
-            is_over: false,
-        }
+    pub(crate) fn of(image: &Image<'a>, budget: &'b Budget) -> Self {
+        Walk::at(image, T::Cursor::default(), budget)
     }
 
     /// How many entries permissive mode skipped in what the walk has read so far, where strict mode
@@ -99,41 +97,104 @@ impl<'a, T: Row<'a>> Walk<'a, T> {
         self.sums.unmapped
     }
 
-    // Reads the next records, at most `most`. Returns `false` if there are none.
+    // Reads until there is a row to give. Returns `false` if the walk has ended.
     #[inline(never)]
-    fn refill(&mut self, most: usize, steps: &mut usize) -> Result<bool, Error> {
+    fn refill(&mut self) -> Result<bool, Error> {
         while self.given == self.records.len() {
-            if self.is_over {
+            if self.is_over || self.has_run_out && self.budget.left() == 0 {
                 return Ok(false);
             }
-            let room = room_within::<T>(most, *steps)?;
-            self.given = 0;
-            self.records.clear();
-            if self.records.try_reserve_exact(room).is_err() {
-                return Err(Error::memory(Some(T::TABLE)));
+            let read = self.read();
+            self.has_run_out = read.is_err_and(|it| it.kind() == ErrorKind::Steps);
+            self.is_over = !self.has_run_out && read.unwrap_or(true);
+            if self.has_run_out {
+                // (some may be left, but too few for an image with many sections)
+                self.budget.count_down(0);
             }
-            let rows = self.records.as_mut_ptr();
-            // SAFETY: there is room for the records, and the library has filled `count` of them.
-            unsafe {
-                let (cursor, sums) = (&mut self.cursor, &mut self.sums);
-                let batch = fill::<T>(&self.image, cursor, rows, room, steps, sums);
-                self.is_over = match &batch {
-                    Ok(batch) => batch.is_done,
-                    // (with more steps or memory it goes on)
-                    Err(error) => !error.is_no_damage(),
-                };
-                self.records.set_len(batch?.count);
-            }
+            read?;
         }
         Ok(true)
     }
 
-    // The next row, for as many steps as there are.
+    // Reads the next records. Returns whether they are the last ones.
+    fn read(&mut self) -> Result<bool, Error> {
+        let room = if self.records.capacity() == 0 { FIRST } else { ROOM };
+        self.given = 0;
+        self.records.clear();
+        if self.records.try_reserve_exact(room).is_err() {
+            return Err(Error::memory(Some(T::TABLE)));
+        }
+        let rows = self.records.as_mut_ptr();
+        let (cursor, sums) = (&mut self.cursor, &mut self.sums);
+        // SAFETY: there is room for the records, and the library has filled `count` of them.
+        unsafe {
+            let batch = fill::<T>(&self.image, cursor, rows, room, self.budget, sums)?;
+            self.records.set_len(batch.count);
+            Ok(batch.is_done)
+        }
+    }
+}
+
+// Fills at most `room` records with the next ones, as the budget allows, and says how many it filled.
+//
+// SAFETY: the caller has room for them.
+unsafe fn fill<'a, T: Row<'a>>(
+    image: &Image<'a>,
+    cursor: &mut T::Cursor,
+    rows: *mut T::Record,
+    room: usize,
+    budget: &Budget,
+    sums: &mut Sums,
+) -> Result<ffi::Batch, Error> {
+    let (mut batch, mut left) = (ffi::Batch::default(), budget.left());
+    let room = if T::COUNTS_STEPS { room } else { room.min(left) };
+    if room == 0 {
+        return Err(Error::steps(Some(T::TABLE)));
+    }
+    // SAFETY: as above.
+    let fault = unsafe { T::next(&image.record, cursor, rows, room, &mut left, &mut batch) };
+    Error::test(fault, Some(T::TABLE))?;
+    batch.count = batch.count.min(room);
+    sums.skipped += batch.skipped;
+    sums.unmapped += batch.unmapped;
+    budget.count_down(if T::COUNTS_STEPS { left } else { left - batch.count });
+    Ok(batch)
+}
+
+// Appends all rows of a table, and returns the error at which the walk ends. (The records lie on the
+// stack, so it needs no memory but that of the rows.)
+pub(crate) fn append<'a, T: Row<'a>>(
+    image: &Image<'a>,
+    rows: &mut Vec<T>,
+    sums: &mut Sums,
+    budget: &Budget,
+) -> Result<(), Error> {
+    let mut cursor = T::Cursor::default();
+    let mut records = [MaybeUninit::<T::Record>::uninit(); STACK];
+    let first = records.as_mut_ptr().cast::<T::Record>();
+    loop {
+        // SAFETY: there is room for the records, and the library has filled `count` of them.
+        let (records, is_done) = unsafe {
+            let batch = fill::<T>(image, &mut cursor, first, STACK, budget, sums)?;
+            (slice::from_raw_parts(first, batch.count), batch.is_done)
+        };
+        if rows.try_reserve(records.len()).is_err() {
+            return Err(Error::memory(Some(T::TABLE)));
+        }
+        rows.extend(records.iter().map(|record| T::of(record, image)));
+        if is_done {
+            return Ok(());
+        }
+    }
+}
+
+impl<'a, T: Row<'a>> Iterator for Walk<'a, '_, T> {
+    type Item = Result<T, Error>;
+
     #[inline]
-    fn step(&mut self, steps: &mut usize) -> Option<Result<T, Error>> {
+    fn next(&mut self) -> Option<Result<T, Error>> {
         if self.given == self.records.len() {
-            let most = if self.records.capacity() == 0 { FIRST } else { ROOM };
-            match self.refill(most, steps) {
+            match self.refill() {
                 Ok(true) => {}
                 Ok(false) => return None,
                 Err(error) => return Some(Err(error)),
@@ -145,146 +206,11 @@ impl<'a, T: Row<'a>> Walk<'a, T> {
     }
 }
 
-// How many records to ask for: as many as the steps allow, and at most `most`.
-fn room_within<'a, T: Row<'a>>(most: usize, steps: usize) -> Result<usize, Error> {
-    let room = if T::COUNTS_STEPS { most } else { most.min(steps) };
-    if room == 0 { Err(Error::steps(Some(T::TABLE))) } else { Ok(room) }
-}
-
-// Fills at most `room` records with the next ones, and says how many it filled.
-//
-// SAFETY: the caller has room for them.
-unsafe fn fill<'a, T: Row<'a>>(
-    image: &Image<'a>,
-    cursor: &mut T::Cursor,
-    rows: *mut T::Record,
-    room: usize,
-    steps: &mut usize,
-    sums: &mut Sums,
-) -> Result<ffi::Batch, Error> {
-    let mut batch = ffi::Batch::default();
-    // SAFETY: as above.
-    let fault = unsafe { T::next(&image.record, cursor, rows, room, steps, &mut batch) };
-    Error::test(fault, Some(T::TABLE))?;
-    batch.count = batch.count.min(room);
-    sums.skipped += batch.skipped;
-    sums.unmapped += batch.unmapped;
-    if !T::COUNTS_STEPS {
-        *steps -= batch.count.min(*steps);
-    }
-    Ok(batch)
-}
-
-// Appends all rows of a table, and returns the error at which the walk ends. (The records lie on the
-// stack, so it needs no memory but that of the rows.)
-pub(crate) fn append<'a, T: Row<'a>>(
-    image: &Image<'a>,
-    rows: &mut Vec<T>,
-    sums: &mut Sums,
-    budget: &mut Budget,
-) -> Result<(), Error> {
-    let mut cursor = T::Cursor::default();
-    let mut records = [MaybeUninit::<T::Record>::uninit(); STACK];
-    let first = records.as_mut_ptr().cast::<T::Record>();
-    budget.take(|steps| {
-        loop {
-            let room = room_within::<T>(STACK, *steps)?;
-            // SAFETY: there is room for the records, and the library has filled `count` of them.
-            let (records, is_done) = unsafe {
-                let batch = fill::<T>(image, &mut cursor, first, room, steps, sums)?;
-                (slice::from_raw_parts(first, batch.count), batch.is_done)
-            };
-            if rows.try_reserve(records.len()).is_err() {
-                return Err(Error::memory(Some(T::TABLE)));
-            }
-            rows.extend(records.iter().map(|record| T::of(record, image)));
-            if is_done {
-                return Ok(());
-            }
-        }
-    })
-}
-
-impl<'a, T: Row<'a>> Iterator for Walk<'a, T> {
-    type Item = Result<T, Error>;
-
-    #[inline]
-    fn next(&mut self) -> Option<Result<T, Error>> {
-        let row = self.step(&mut { usize::MAX });
-        if let Some(Err(_)) = row {
-            self.is_over = true;
-        }
-        row
-    }
-}
-
-impl<'a, T: Row<'a>> FusedIterator for Walk<'a, T> {}
-
-impl<'a, T: Row<'a>> fmt::Debug for Walk<'a, T> {
+impl<'a, T: Row<'a>> fmt::Debug for Walk<'a, '_, T> {
     fn fmt(&self, f: &mut fmt::Formatter<'_>) -> fmt::Result {
         f.debug_struct("Walk").finish_non_exhaustive()
     }
 }
-
-/// A walk that counts its steps down in a budget. [`Walk::within`] makes it.
-#[derive(Debug)]
-#[must_use = "walks do nothing unless they are consumed"]
-pub struct Within<'a, 'b, T: Row<'a>> {
-    walk: Walk<'a, T>,
-    budget: &'b mut Budget,
-    is_over: bool,
-}
-
-impl<'a, T: Row<'a>> Within<'a, '_, T> {
-    /// As [`Walk::skipped`].
-    #[must_use]
-    pub const fn skipped(&self) -> usize {
-        self.walk.skipped()
-    }
-
-    /// As [`Walk::unmapped`].
-    #[must_use]
-    pub const fn unmapped(&self) -> usize {
-        self.walk.unmapped()
-    }
-
-    /// The walk itself, which goes on after the last row that it gave. So you can go on with another
-    /// budget, also after an error of the kind [`ErrorKind::Steps`](crate::ErrorKind::Steps).
-    ///
-    /// ```no_run
-    /// use goblin_pe::{Budget, Error, Import, Walk};
-    ///
-    /// // Prints the next hundred imports, and returns the walk over the others.
-    /// fn page<'a>(walk: Walk<'a, Import<'a>>) -> Result<Walk<'a, Import<'a>>, Error> {
-    ///     let mut budget = Budget::steps(10_000);
-    ///     let mut walk = walk.within(&mut budget);
-    ///     for import in walk.by_ref().take(100) {
-    ///         println!("{}", import?.name);
-    ///     }
-    ///     Ok(walk.into_inner())
-    /// }
-    /// ```
-    pub fn into_inner(self) -> Walk<'a, T> {
-        self.walk
-    }
-}
-
-impl<'a, T: Row<'a>> Iterator for Within<'a, '_, T> {
-    type Item = Result<T, Error>;
-
-    #[inline]
-    fn next(&mut self) -> Option<Result<T, Error>> {
-        if self.is_over {
-            return None;
-        }
-        let walk = &mut self.walk;
-        let row = self.budget.take(|steps| walk.step(steps));
-        self.is_over = matches!(row, None | Some(Err(_)));
-        row
-    }
-}
-
-impl<'a, T: Row<'a>> FusedIterator for Within<'a, '_, T> {}
 
 /// An iterator over rows whose number is known, and that can always be read: the sections of an image,
 /// and the base relocations of a block.

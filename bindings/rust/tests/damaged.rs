@@ -31,7 +31,7 @@ fn entry(image: &Image, which: DirectoryType) -> usize {
 }
 
 // What a walk skips, and what leads nowhere.
-fn sums<'a, T: Row<'a>>(mut walk: Walk<'a, T>) -> [usize; 2] {
+fn sums<'a, T: Row<'a>>(mut walk: Walk<'a, '_, T>) -> [usize; 2] {
     walk.by_ref().for_each(drop);
     [walk.skipped(), walk.unmapped()]
 }
@@ -51,7 +51,7 @@ fn errors_have_kinds_numbers_and_texts() {
     assert_eq!(format!("{error:.^60}"), format!("{text:.^60}"));
     let bytes = sample("imports_by_name_x64.dll");
     let image = Image::parse(&bytes).expect("an image");
-    let error = image.imports().within(&mut Budget::steps(0)).next();
+    let error = image.imports(&Budget::steps(0)).next();
     let error = error.expect("a row").expect_err("no step");
     assert_eq!(error.to_string(), "imports: no steps are left");
     let error = image.text_at(0x9000).expect_err("a look-up");
@@ -60,22 +60,22 @@ fn errors_have_kinds_numbers_and_texts() {
 
 #[test]
 fn strict_walks_have_an_error_where_permissive_ones_skip() -> Result<(), Error> {
-    fn has_error<'a, T: Row<'a>>(mut walk: Walk<'a, T>) -> bool {
+    fn has_error<'a, T: Row<'a>>(mut walk: Walk<'a, '_, T>) -> bool {
         walk.any(|it| it.is_err())
     }
-    let whole = sample("imports_by_name_x64.dll");
+    let (whole, budget) = (sample("imports_by_name_x64.dll"), &Budget::unlimited());
     for length in 0..whole.len() {
         let (image, _) = Image::read_partial(&whole[..length], Options::permissive());
         let strict = image.with_options(Options::default());
         // (a row whose name can't be read is not skipped)
-        let imports = image.imports().collect::<Result<Vec<_>, _>>()?;
+        let imports = image.imports(budget).collect::<Result<Vec<_>, _>>()?;
         let is_named = |it: &Import| !it.dll.is_empty() && !it.name.to_string().is_empty();
-        let is_read = sums(image.imports())[0] == 0 && imports.iter().all(is_named);
-        assert_eq!(has_error(strict.imports()), !is_read, "{length}");
-        let is_skipped = sums(image.exports())[0] > 0;
-        assert_eq!(has_error(strict.exports()), is_skipped, "{length}");
-        let is_skipped = sums(image.export_addresses())[0] > 0;
-        assert_eq!(has_error(strict.export_addresses()), is_skipped, "{length}");
+        let is_read = sums(image.imports(budget))[0] == 0 && imports.iter().all(is_named);
+        assert_eq!(has_error(strict.imports(budget)), !is_read, "{length}");
+        let is_skipped = sums(image.exports(budget))[0] > 0;
+        assert_eq!(has_error(strict.exports(budget)), is_skipped, "{length}");
+        let is_skipped = sums(image.export_addresses(budget))[0] > 0;
+        assert_eq!(has_error(strict.export_addresses(budget)), is_skipped, "{length}");
     }
     Ok(())
 }
@@ -88,15 +88,15 @@ fn a_walk_ends_with_the_error_of_a_read() -> Result<(), Error> {
     let error = Pe::parse(&bytes).expect_err("a bad name");
     assert_eq!(error.kind(), ErrorKind::Malformed(Cause::Unmapped));
     assert_eq!(error.table(), Some(Table::Imports));
-    let image = Image::parse(&bytes)?;
-    let mut walk = image.imports();
+    let (image, budget) = (Image::parse(&bytes)?, &Budget::default());
+    let mut walk = image.imports(budget);
     assert_eq!((walk.next(), walk.next()), (Some(Err(error)), None));
-    let library = image.libraries().next().expect("a library")?;
+    let library = image.libraries(budget).next().expect("a library")?;
     assert_eq!(library.name, Err(error));
-    let import = library.imports(&image).next().expect("an import")?;
+    let import = library.imports(&image, budget).next().expect("an import")?;
     assert_eq!((import.dll, import.name.to_string().as_str()), (Text(b""), "GetTickCount"));
     let image = Image::read(&bytes, Options::permissive())?;
-    assert_eq!((image.imports().count(), sums(image.imports())), (1, [0, 0]));
+    assert_eq!((image.imports(budget).count(), sums(image.imports(budget))), (1, [0, 0]));
     Ok(())
 }
 
@@ -114,7 +114,8 @@ fn relocation_blocks_end_with_the_error_of_what_follows() -> Result<(), Error> {
     let kinds = Vec::from_iter(pe.errors.iter().map(|it| (it.table(), it.kind())));
     let wanted = ErrorKind::Malformed(Cause::BlockSize);
     assert_eq!(kinds, [(Some(Table::Relocations), wanted)]);
-    let mut walk = pe.image.relocation_blocks().skip(blocks);
+    let budget = Budget::default();
+    let mut walk = pe.image.relocation_blocks(&budget).skip(blocks);
     assert_eq!((walk.next(), walk.next()), (Some(Err(pe.errors[0])), None));
     Ok(())
 }
@@ -131,8 +132,8 @@ fn exports_with_too_many_counted() -> Result<(), Error> {
         let error = Pe::parse(&changed).expect_err("too many exports");
         assert_eq!(error.table(), Some(Table::Exports));
         let image = Image::read(&changed, Options::permissive())?;
-        assert_eq!(sums(image.exports()), [1, 0]);
-        let pe = Pe::of(image, &mut Budget::unlimited())?;
+        assert_eq!(sums(image.exports(&Budget::default())), [1, 0]);
+        let pe = Pe::of(image, &Budget::unlimited())?;
         assert_eq!((pe.exports, pe.unmapped), (vec![], 0));
         assert_eq!(pe.skipped, if are_addresses_read { 1 } else { 2 });
         if are_addresses_read {
@@ -152,12 +153,11 @@ fn name_pointers_without_exports_are_steps_and_unmapped() -> Result<(), Error> {
     put(&mut bytes, record + 0x14, 0);
     let (pointers, image) = (number(&bytes, record + 0x18) as usize, Image::parse(&bytes)?);
     for steps in 0..pointers + 2 {
-        let mut budget = Budget::steps(steps);
-        let last = image.exports().within(&mut budget).last();
+        let last = image.exports(&Budget::steps(steps)).last();
         let wanted = (steps < pointers).then_some(ErrorKind::Steps);
         assert_eq!(last.and_then(Result::err).map(|it| it.kind()), wanted, "{steps}");
     }
-    assert_eq!(sums(image.exports()), [0, pointers]);
+    assert_eq!(sums(image.exports(&Budget::default())), [0, pointers]);
     assert_eq!(Pe::parse(&bytes)?.unmapped, pointers);
     Ok(())
 }
@@ -194,11 +194,11 @@ fn an_export_is_found_as_a_walk_gives_it() -> Result<(), Error> {
     bytes[text.expect("a dot")] = b'x';
     put(&mut bytes, pointer.expect("a pointer"), name);
     let image = Image::parse(&bytes)?;
-    let found = image.find_export("fo", &mut Budget::steps(100))?;
-    assert_eq!(found, image.exports().nth(1).transpose()?);
+    let found = image.find_export("fo", &Budget::steps(100))?;
+    assert_eq!(found, image.exports(&Budget::default()).nth(1).transpose()?);
     assert_eq!(found.map(|it| it.rva), Some(wanted));
     let cut = image.with_options(Options::default().with_longest_name(1));
-    assert_eq!(cut.find_export("fo", &mut Budget::steps(100))?, None);
+    assert_eq!(cut.find_export("fo", &Budget::steps(100))?, None);
     Ok(())
 }
 
@@ -216,10 +216,10 @@ fn names_in_the_headers_are_read_as_windows_maps_them() -> Result<(), Error> {
     bytes[hint as usize..][..15].copy_from_slice(b"\0\0VirtualAlloc\0");
     for (mapping, is_seen) in [(Mapping::AsStored, false), (Mapping::AsLoaded, true)] {
         let image = Image::read(&bytes, Options::permissive().with_mapping(mapping))?;
-        let first = image.imports().next().transpose()?;
+        let first = image.imports(&Budget::default()).next().transpose()?;
         let wanted = is_seen.then(|| String::from("VirtualAlloc"));
         assert_eq!(first.map(|it| it.name.to_string()), wanted);
-        assert_eq!(sums(image.imports()), [0, usize::from(!is_seen)]);
+        assert_eq!(sums(image.imports(&Budget::default())), [0, usize::from(!is_seen)]);
         assert_eq!(image.find_offset(hint).is_some(), is_seen);
         let region = if is_seen { Region::Headers } else { Region::Unmapped };
         assert_eq!(image.memory_at(hint, 2).region, region);
@@ -253,15 +253,17 @@ fn libraries_of_shared_imports() -> Vec<u8> {
 }
 
 // How many items a walk gives. It gives the same whenever its steps run out, and it goes on then.
-fn count<'a, T: Row<'a> + Clone + PartialEq + Debug>(walk: &Walk<'a, T>) -> usize {
-    let all = Vec::from_iter(walk.clone());
+fn count<'a, T>(walk: &Walk<'a, '_, T>, budget: &Budget) -> usize
+where
+    T: Row<'a> + Clone + PartialEq + Debug,
+{
+    budget.set(usize::MAX);
+    let (all, sums) = (Vec::from_iter(walk.clone()), sums(walk.clone()));
     for steps in 1..12 {
         let (mut rest, mut found, mut calls) = (walk.clone(), Vec::new(), 0);
         loop {
-            let mut budget = Budget::steps(steps);
-            let mut within = rest.within(&mut budget);
-            found.extend(within.by_ref());
-            rest = within.into_inner();
+            budget.set(steps);
+            found.extend(rest.by_ref());
             match found.last() {
                 Some(Err(error)) if error.kind() == ErrorKind::Steps => found.pop(),
                 _ => break,
@@ -270,32 +272,53 @@ fn count<'a, T: Row<'a> + Clone + PartialEq + Debug>(walk: &Walk<'a, T>) -> usiz
             assert!(calls < 1000, "a walk has no end");
         }
         assert_eq!(found, all, "{steps} steps at a time");
-        assert_eq!([rest.skipped(), rest.unmapped()], sums(walk.clone()));
+        assert_eq!([rest.skipped(), rest.unmapped()], sums);
     }
     all.len()
 }
 
 #[test]
 fn walks_go_on_after_their_steps_ran_out() -> Result<(), Error> {
-    let mut counts = [0; 5];
+    let (mut counts, budget) = ([0; 5], &Budget::default());
     for bytes in [sample("forwarders_x64.dll"), libraries_of_shared_imports()] {
         for options in [Options::default(), Options::permissive()] {
             let image = Image::read(&bytes, options)?;
-            counts[0] += count(&image.imports());
-            counts[1] += count(&image.libraries());
-            counts[2] += count(&image.exports());
-            counts[3] += count(&image.export_addresses());
-            counts[4] += count(&image.relocation_blocks());
+            counts[0] += count(&image.imports(budget), budget);
+            counts[1] += count(&image.libraries(budget), budget);
+            counts[2] += count(&image.exports(budget), budget);
+            counts[3] += count(&image.export_addresses(budget), budget);
+            counts[4] += count(&image.relocation_blocks(budget), budget);
         }
     }
     // (strict mode refuses the last library after its imports)
     assert_eq!(counts, [13 + 9, 8, 10, 14, 4]);
     let bytes = libraries_of_shared_imports();
-    let image = Image::read(&bytes, Options::permissive())?;
-    assert_eq!((sums(image.imports()), sums(image.libraries())), ([1, 12], [1, 0]));
-    let last = image.with_options(Options::default()).imports().last();
+    let (image, budget) = (Image::read(&bytes, Options::permissive())?, &Budget::default());
+    assert_eq!((sums(image.imports(budget)), sums(image.libraries(budget))), ([1, 12], [1, 0]));
+    let last = image.with_options(Options::default()).imports(budget).last();
     let error = last.expect("a row").expect_err("a library without an address table");
     assert_eq!(error.kind(), ErrorKind::Malformed(Cause::Unmapped));
+    Ok(())
+}
+
+// Each call of the library needs a step for each section above 96, too.
+#[test]
+fn too_few_steps_for_many_sections_are_used_up() -> Result<(), Error> {
+    let mut bytes = sample("imports_by_name_x64.dll");
+    let signature = Image::parse(&bytes)?.dos_header().pe_pointer as usize;
+    bytes[signature + 7] = 0xFF;
+    bytes.resize(1 << 16, 0);
+    let (image, _) = Image::read_partial(&bytes, Options::permissive());
+    let budget = Budget::default();
+    let mut walk = image.imports(&budget);
+    for _ in 0..3 {
+        budget.set(100);
+        let kind = walk.next().and_then(Result::err).map(|it| it.kind());
+        assert_eq!((kind, budget.left()), (Some(ErrorKind::Steps), 0));
+        assert!(walk.next().is_none());
+    }
+    budget.set(10_000);
+    assert!(walk.next().is_some_and(|it| it.is_ok()));
     Ok(())
 }
 
@@ -305,7 +328,7 @@ fn a_limit_of_the_length_of_all_names_changes_no_imphash() -> Result<(), Error> 
     let bytes = libraries_of_shared_imports();
     for (longest, is_there) in [(0, true), (5, true), (4, false)] {
         let image = Image::read(&bytes, Options::permissive().with_longest_name(longest))?;
-        let text = image.imphash_text(&mut Budget::unlimited())?;
+        let text = image.imphash_text(&Budget::unlimited())?;
         assert_eq!(text.is_some_and(|it| it.starts_with("a.ord7,a.ord8,a.ord900,")), is_there);
     }
     Ok(())
@@ -322,10 +345,10 @@ fn addresses_may_pass_32_bits() -> Result<(), Error> {
     put(&mut bytes, entry, 0xFFFF_FF00);
     put(&mut bytes, imports + 16, 0xFFFF_FFF0);
     put(&mut bytes, block, u32::MAX);
-    let image = Image::read(&bytes, Options::permissive())?;
-    let found = image.imports().map(|it| it.map(|it| it.iat_rva)).take(3);
+    let (image, budget) = (Image::read(&bytes, Options::permissive())?, &Budget::default());
+    let found = image.imports(budget).map(|it| it.map(|it| it.iat_rva)).take(3);
     assert_eq!(found.collect::<Result<Vec<_>, _>>()?, [0xFFFF_FFF8, 1 << 32, 0x1_0000_0020]);
-    let page = image.relocation_blocks().next().expect("a block")?;
+    let page = image.relocation_blocks(budget).next().expect("a block")?;
     assert!(page.relocations().all(|it| it.rva >= page.rva as usize));
     Ok(())
 }
@@ -335,10 +358,10 @@ fn names_are_cut_after_the_limit() -> Result<(), Error> {
     let mut bytes = sample("imports_by_name_x64.dll");
     let long = Options::default().with_longest_name(8);
     let image = Image::read(&bytes, long)?;
-    let import = image.imports().next().expect("an import")?;
+    let import = image.imports(&Budget::default()).next().expect("an import")?;
     assert_eq!(import.dll, Text(b"KERNEL32."));
     assert!(matches!(import.name, Imported::Name { name: Text(b"GetTickCo"), .. }));
-    assert_eq!(image.imphash_text(&mut Budget::unlimited())?, None);
+    assert_eq!(image.imphash_text(&Budget::unlimited())?, None);
     let (header, end) = (image.dos_header().pe_pointer as usize, bytes.len());
     let name = bytes.windows(8).position(|it| it == b".text\0\0\0").expect("a name");
     put(&mut bytes, header + 12, u32::try_from(end).expect("a small file"));
@@ -395,7 +418,7 @@ fn a_partial_image_has_what_is_there_of_a_refused_header() -> Result<(), Error> 
                 assert_eq!(found.virtual_address, section.virtual_address);
             }
             if missing == 0 && faults.windows_fields.is_none() {
-                assert_eq!(image.imports().collect::<Result<Vec<_>, _>>()?, whole.imports);
+                assert_eq!(image.imports(&Budget::default()).collect::<Result<Vec<_>, _>>()?, whole.imports);
                 assert_eq!(image.text_at(0x2000), whole.image.text_at(0x2000));
                 let sections = Vec::from_iter(image.sections());
                 assert_eq!(image.patched(&image.header(), &sections)?, changed);
@@ -413,7 +436,7 @@ fn a_partial_image_of_a_sound_file_is_that_image() -> Result<(), Error> {
     assert_eq!((faults.refusal, faults.errors().count()), (None, 0));
     assert_eq!(format!("{image:?}"), format!("{:?}", whole.image));
     assert_eq!(image.header(), whole.image.header());
-    assert_eq!(Pe::of(image, &mut Budget::unlimited())?.exports, whole.exports);
+    assert_eq!(Pe::of(image, &Budget::unlimited())?.exports, whole.exports);
     Ok(())
 }
 
@@ -425,7 +448,7 @@ fn a_partial_image_of_other_bytes_is_zeros() {
     assert!(faults.errors().all(|(_, error)| Some(error) == faults.refusal));
     assert!(image.optional_header().is_none() && image.coff_header().machine == 0);
     assert_eq!((image.sections().len(), image.find_offset(0x1000)), (0, None));
-    assert!(image.imports().next().is_none() && image.relocation_blocks().next().is_none());
+    assert!(image.imports(&Budget::default()).next().is_none() && image.relocation_blocks(&Budget::default()).next().is_none());
     // (a DOS header that leads past the file has no stub, and no place for another header)
     let mut bytes = sample("imports_by_name_x64.dll");
     put(&mut bytes, 0x3C, u32::MAX);
@@ -443,6 +466,6 @@ fn a_partial_image_has_the_sections_that_fit_into_the_file() -> Result<(), Error
     assert_eq!(image.coff_header().number_of_sections, 0xFF04);
     let room = (bytes.len() - signature - 24 - 240) / 40;
     assert_eq!((image.sections().len(), faults.section_table.is_some()), (room, true));
-    assert!(image.imports().next().is_some());
+    assert!(image.imports(&Budget::default()).next().is_some());
     Ok(())
 }

@@ -60,13 +60,13 @@ fn requests<T>(call: impl Fn() -> Result<T, Error>) -> usize {
 
 #[test]
 fn each_refused_request_is_an_error() -> Result<(), Error> {
-    let (bytes, unlimited) = (sample("imports_by_name_x64.dll"), Budget::unlimited);
+    let (bytes, budget) = (sample("imports_by_name_x64.dll"), &Budget::default());
     let image = Image::parse(&bytes)?;
     assert!(requests(|| Pe::parse(&bytes)) > 4);
-    assert!(requests(|| image.imphash_text(&mut unlimited())) > 0);
+    assert!(requests(|| image.imphash_text(budget)) > 0);
     assert!(requests(|| image.patched(&image.header(), &[])) > 0);
     assert!(requests(|| image.memory_at(0x1000, 0x1000).to_vec()) > 0);
-    assert!(requests(|| image.imports().try_for_each(|it| it.map(drop))) > 0);
+    assert!(requests(|| image.imports(budget).try_for_each(|it| it.map(drop))) > 0);
     Ok(())
 }
 
@@ -99,13 +99,13 @@ fn the_stub_in_place_of_an_unreadable_one_takes_no_memory() -> Result<(), Error>
 
 #[test]
 fn a_walk_without_memory_ends_with_the_error() -> Result<(), Error> {
-    let bytes = sample("forwarders_x64.dll");
-    let mut walk = Image::parse(&bytes)?.exports();
+    let (bytes, budget) = (sample("forwarders_x64.dll"), Budget::default());
+    let mut walk = Image::parse(&bytes)?.exports(&budget);
     let found = starved(|| (walk.next(), walk.next()));
     let kind = found.0.and_then(Result::err).map(|it| it.kind());
     assert_eq!((kind, found.1.is_none()), (Some(ErrorKind::Memory), true));
     // (one that has begun needs no more for what it has read)
-    let mut walk = Image::parse(&bytes)?.exports();
+    let mut walk = Image::parse(&bytes)?.exports(&budget);
     assert!(walk.next().is_some() && starved(|| walk.next().is_some_and(|it| it.is_ok())));
     Ok(())
 }
@@ -119,7 +119,7 @@ fn a_walk_over_many_rows_takes_memory_as_it_begins() -> Result<(), Error> {
     bytes.extend([4, 0, 0, 0]);
     let object = Image::read_object(&bytes, Options::default())?;
     let asked = ASKED.get();
-    assert!(object.symbols().map(|it| it.expect("a symbol").index).eq(0..count));
+    assert!(object.symbols(&Budget::default()).map(|it| it.expect("a symbol").index).eq(0..count));
     assert!(ASKED.get() - asked <= 3);
     Ok(())
 }

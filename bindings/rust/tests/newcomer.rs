@@ -22,7 +22,7 @@ fn sample() -> Vec<u8> {
 fn an_image_is_declared_before_its_bytes() {
     let pe;
     let bytes = sample();
-    pe = Pe::read(&bytes, Options::default(), &mut Budget::steps(1000)).unwrap();
+    pe = Pe::read(&bytes, Options::default(), &Budget::steps(1000)).unwrap();
     assert_eq!(pe.imports.len(), 1);
 }
 
@@ -46,13 +46,13 @@ fn a_main_that_returns_any_error() {
 fn a_loop_over_rows_pushes_strings() {
     let (bytes, mut names) = (sample(), Vec::new());
     let image = Image::parse(&bytes).unwrap();
-    for import in image.imports() {
+    for import in image.imports(&Budget::default()) {
         let import = import.unwrap();
         if let Imported::Name { name, .. } = import.name {
             names.push(format!("{}!{name}", import.dll));
         }
     }
-    for (i, export) in image.exports().flatten().enumerate() {
+    for (i, export) in image.exports(&Budget::default()).flatten().enumerate() {
         assert_eq!(export.hint, i);
     }
     assert_eq!(names, ["KERNEL32.dll!GetTickCount"]);
@@ -96,16 +96,11 @@ fn threads_share_an_image() {
     let bytes = sample();
     let image = Image::parse(&bytes).unwrap();
     let (imports, exports) = thread::scope(|scope| {
-        let imports = scope.spawn(|| image.imports().count());
-        let exports = scope.spawn(|| image.exports().count());
+        let imports = scope.spawn(|| image.imports(&Budget::default()).count());
+        let exports = scope.spawn(|| image.exports(&Budget::default()).count());
         (imports.join().unwrap(), exports.join().unwrap())
     });
     assert_eq!((imports, exports), (1, 2));
-    // (a walk goes on in another thread)
-    let mut walk = image.exports();
-    let first = walk.next();
-    let last = thread::scope(|scope| scope.spawn(move || walk.last()).join().unwrap());
-    assert!(first.is_some() && last.is_some() && first != last);
     let shared: Arc<[u8]> = bytes.into();
     let thread = thread::spawn(move || Image::parse(&shared).map(|image| image.sections().len()));
     assert_eq!(thread.join().unwrap(), Ok(4));
@@ -167,12 +162,13 @@ fn an_iterator_is_returned() {
     fn libraries<'p>(pe: &'p Pe<'_>) -> impl Iterator<Item = String> + 'p {
         pe.imports.iter().map(|x| x.dll.to_string())
     }
-    fn boxed<'a>(image: &Image<'a>) -> Box<dyn Iterator<Item = Result<Import<'a>, Error>> + 'a> {
-        Box::new(image.imports().take(10))
+    type Boxed<'a, 'b> = Box<dyn Iterator<Item = Result<Import<'a>, Error>> + 'b>;
+    fn boxed<'a: 'b, 'b>(image: &Image<'a>, budget: &'b Budget) -> Boxed<'a, 'b> {
+        Box::new(image.imports(budget).take(10))
     }
     let bytes = sample();
     let pe = Pe::parse(&bytes).unwrap();
-    let walked: Result<Vec<_>, _> = boxed(&pe.image).collect();
+    let walked: Result<Vec<_>, _> = boxed(&pe.image, &Budget::default()).collect();
     assert_eq!(libraries(&pe).count(), walked.unwrap().len());
 }
 

@@ -22,7 +22,7 @@ fn relocations_and_symbols_are_those_of_the_file() -> Result<(), Error> {
     let bytes = sample("object_x64.obj");
     let object = object(&bytes);
     for section in object.sections() {
-        let rows = section.relocations(&object).collect::<Result<Vec<_>, _>>()?;
+        let rows = section.relocations(&object, &Budget::default()).collect::<Result<Vec<_>, _>>()?;
         assert_eq!(rows.len(), usize::from(section.number_of_relocations));
         for (index, it) in rows.iter().enumerate() {
             let place = section.pointer_to_relocations as usize + 10 * index;
@@ -32,7 +32,7 @@ fn relocations_and_symbols_are_those_of_the_file() -> Result<(), Error> {
         }
     }
     let mut definitions = 0;
-    for symbol in object.symbols() {
+    for symbol in object.symbols(&Budget::default()) {
         let symbol = symbol?;
         assert!(symbol.name.is_some());
         assert_eq!(object.symbol_at(symbol.index)?, Some(symbol));
@@ -53,7 +53,8 @@ fn relocations_and_symbols_are_those_of_the_file() -> Result<(), Error> {
 fn auxiliary_records_have_a_kind() -> Result<(), Error> {
     let bytes = sample("object_x64.obj");
     let with_one = |it: &Symbol| it.number_of_aux_symbols == 1;
-    let mut symbols = object(&bytes).symbols().map_while(Result::ok);
+    let budget = Budget::default();
+    let mut symbols = object(&bytes).symbols(&budget).map_while(Result::ok);
     let first = symbols.find(with_one).expect("a symbol with one");
     for (storage_class, typ, section_number, kind) in [
         (2, 0x20, 1, "FunctionDefinition"),
@@ -91,12 +92,11 @@ fn a_section_has_more_relocations_than_its_header_counts() -> Result<(), Error> 
     }
     let object = object(&bytes);
     let section = object.sections().next().expect("a section");
-    let rows = section.relocations(&object).collect::<Result<Vec<_>, _>>()?;
+    let rows = section.relocations(&object, &Budget::default()).collect::<Result<Vec<_>, _>>()?;
     // (without the first, which is their number; the end is seen by a step)
     assert!(rows.iter().map(|it| it.virtual_address).eq(1..count));
     for (steps, is_seen) in [(65_536, false), (65_537, true)] {
-        let mut budget = Budget::steps(steps);
-        let last = section.relocations(&object).within(&mut budget).last();
+        let last = section.relocations(&object, &Budget::steps(steps)).last();
         assert_eq!(last.is_some_and(|it| it.is_ok()), is_seen);
     }
     Ok(())
@@ -109,7 +109,8 @@ fn more_symbols_than_a_walk_reads_at_once() {
         bytes[8] = 20;
         bytes[12..16].copy_from_slice(&count.to_le_bytes());
         bytes.extend([4, 0, 0, 0]);
-        let symbols = object(&bytes).symbols().map(|it| it.expect("a symbol").index);
+        let (object, budget) = (object(&bytes), Budget::default());
+        let symbols = object.symbols(&budget).map(|it| it.expect("a symbol").index);
         assert!(symbols.eq(0..count), "{count}");
     }
 }
@@ -145,7 +146,8 @@ fn uninitialized_data_is_zeros_and_a_bad_name_is_none() -> Result<(), Error> {
     let bss = object.section_by_name(".bss").expect("a section").data(&object);
     assert_eq!((bss.bytes, bss.zeros, bss.missing), (&[][..], 400_000, 0));
     assert_eq!((object.string_at(4), object.string_at(6)), (None, Some(Text(b"ok"))));
-    let names = object.symbols().map(|it| it.map(|it| it.name));
+    let budget = Budget::default();
+    let names = object.symbols(&budget).map(|it| it.map(|it| it.name));
     assert_eq!(names.collect::<Result<Vec<_>, _>>()?, [None]);
     Ok(())
 }

@@ -28,7 +28,10 @@ fn sample(name: &str) -> Vec<u8> {
     std::fs::read(samples().join(name)).expect("a sample")
 }
 
-fn heading<'a, T: Row<'a>>(mut walk: Walk<'a, T>, table: Option<DataDirectory>, name: Table) -> String {
+fn heading<'a, T>(mut walk: Walk<'a, '_, T>, table: Option<DataDirectory>, name: Table) -> String
+where
+    T: Row<'a>,
+{
     let count = walk.by_ref().filter(Result::is_ok).count();
     if table.is_none() {
         format!("{name} absent")
@@ -56,8 +59,8 @@ fn listed(pe: &Pe) -> Result<String, std::fmt::Error> {
         let (raw, pointer) = (it.size_of_raw_data, it.pointer_to_raw_data);
         writeln!(to, " raw={raw:#x} ptr={pointer:#x} name={}", it.name)?;
     }
-    let table = |it| image.directory(it);
-    let (walk, directory) = (image.imports(), table(DirectoryType::ImportTable));
+    let (table, budget) = (|it| image.directory(it), Budget::unlimited());
+    let (walk, directory) = (image.imports(&budget), table(DirectoryType::ImportTable));
     writeln!(to, "{}", heading(walk, directory, Table::Imports))?;
     for it in &pe.imports {
         let (number, name) = match it.name {
@@ -72,7 +75,7 @@ fn listed(pe: &Pe) -> Result<String, std::fmt::Error> {
         )?;
         writeln!(to, "size={size} slot={slot} dll={} name={name}", it.dll)?;
     }
-    let (walk, directory) = (image.exports(), table(DirectoryType::ExportTable));
+    let (walk, directory) = (image.exports(&budget), table(DirectoryType::ExportTable));
     writeln!(to, "{}", heading(walk, directory, Table::Exports))?;
     for it in &pe.exports {
         write!(to, "export rva={:#x}", it.rva)?;
@@ -83,7 +86,8 @@ fn listed(pe: &Pe) -> Result<String, std::fmt::Error> {
         it.name.map_or(Ok(()), |it| write!(to, " name={it}"))?;
         writeln!(to)?;
     }
-    let (walk, directory) = (image.relocation_blocks(), table(DirectoryType::BaseRelocationTable));
+    let walk = image.relocation_blocks(&budget);
+    let directory = table(DirectoryType::BaseRelocationTable);
     writeln!(to, "{}", heading(walk, directory, Table::Relocations))?;
     for it in &pe.relocation_blocks {
         let words = it.relocations().len();
@@ -111,7 +115,7 @@ fn samples_are_listed() {
             (Options::permissive(), "permissive"),
         ] {
             let options = options.with_mapping(Mapping::AsStored);
-            let pe = Pe::read(&bytes, options, &mut Budget::unlimited()).expect("a sample is read");
+            let pe = Pe::read(&bytes, options, &Budget::unlimited()).expect("a sample is read");
             let wanted = std::fs::read_to_string(format!("{}.{kind}", path.display()));
             assert_eq!(listed(&pe).ok(), wanted.ok(), "{}", path.display());
         }
@@ -121,19 +125,19 @@ fn samples_are_listed() {
 #[test]
 fn walks_give_what_lists_hold() -> Result<(), Error> {
     for (_, bytes) in images() {
-        let pe = Pe::parse(&bytes)?;
+        let (pe, budget) = (Pe::parse(&bytes)?, &Budget::default());
         let image = pe.image;
         assert!(image.sections().eq(pe.sections.iter().copied()));
         assert!(image.sections().rev().eq(pe.sections.iter().rev().copied()));
-        assert_eq!(image.imports().collect::<Result<Vec<_>, _>>()?, pe.imports);
-        assert_eq!(image.exports().collect::<Result<Vec<_>, _>>()?, pe.exports);
+        assert_eq!(image.imports(budget).collect::<Result<Vec<_>, _>>()?, pe.imports);
+        assert_eq!(image.exports(budget).collect::<Result<Vec<_>, _>>()?, pe.exports);
         let by_library = image
-            .libraries()
-            .flat_map(|it| it.expect("a library").imports(&image));
+            .libraries(budget)
+            .flat_map(|it| it.expect("a library").imports(&image, budget));
         assert_eq!(by_library.collect::<Result<Vec<_>, _>>()?, pe.imports);
         for export in &pe.exports {
             let name = export.name.unwrap_or_default();
-            let found = image.find_export(name, &mut Budget::steps(1000))?;
+            let found = image.find_export(name, budget)?;
             assert_eq!(found, Some(*export));
             let address = image.find_export_by_ordinal(export.ordinal)?;
             assert_eq!(address.map(|it| it.rva), Some(export.rva));
@@ -146,10 +150,12 @@ fn walks_give_what_lists_hold() -> Result<(), Error> {
 fn a_budget_ends_each_walk_and_a_kept_walk_goes_on() -> Result<(), Error> {
     let bytes = sample("imports_by_name_x64.dll");
     let image = Image::parse(&bytes)?;
-    let wanted: Vec<_> = image.exports().collect::<Result<_, _>>()?;
+    let unlimited = Budget::unlimited();
+    let wanted: Vec<_> = image.exports(&unlimited).collect::<Result<_, _>>()?;
+    assert_eq!(unlimited, Budget::unlimited());
     for steps in 0..8 {
-        let mut budget = Budget::steps(steps);
-        let rows: Vec<_> = image.exports().within(&mut budget).collect();
+        let budget = Budget::steps(steps);
+        let rows: Vec<_> = image.exports(&budget).collect();
         let read: Vec<_> = rows.iter().filter_map(|it| it.ok()).collect();
         assert_eq!(read, wanted[..read.len()]);
         if let Some(Err(error)) = rows.last() {
@@ -159,15 +165,12 @@ fn a_budget_ends_each_walk_and_a_kept_walk_goes_on() -> Result<(), Error> {
             assert_eq!(read.len(), wanted.len());
         }
     }
-    let mut unlimited = Budget::unlimited();
-    assert_eq!(image.exports().within(&mut unlimited).count(), wanted.len());
-    assert_eq!(unlimited, Budget::unlimited());
-    let (mut walk, mut rows) = (image.exports(), Vec::new());
+    let budget = Budget::default();
+    let (mut walk, mut rows) = (image.exports(&budget), Vec::new());
     for _ in 0..10 {
-        let mut budget = Budget::steps(1);
-        let mut within = walk.within(&mut budget);
-        rows.extend(within.by_ref().filter_map(Result::ok));
-        walk = within.into_inner();
+        budget.set(1);
+        rows.extend(walk.by_ref().filter_map(Result::ok));
+        assert!(walk.next().is_none());
     }
     assert_eq!(rows, wanted);
     Ok(())

@@ -151,7 +151,7 @@ type Lines = Vec<String>;
 /// The answers of this library, and the file offset of the import directory; or the refusal.
 fn ours(file: &[u8]) -> Result<(Lines, Option<usize>), goblin_pe::Error> {
     let options = Options::default().with_mapping(Mapping::ByFileAlignment);
-    let pe = Pe::read(file, options, &mut Budget::unlimited())?;
+    let pe = Pe::read(file, options, &Budget::unlimited())?;
     let sections = pe.sections.iter().map(|s| section_line!(s.name.0, s));
     let mut lines: Lines = sections.collect();
     // goblin counts the entries that were kept, this library those in the file.
