@@ -518,6 +518,22 @@ class Walks(unittest.TestCase):
             with self.subTest(steps=steps), contextlib.nullcontext() if steps == pointers else self.assertRaises(OutOfSteps):
                 self.assertEqual(list(image.exports(Budget(steps))), [])
 
+    def test_a_call_without_a_budget_has_a_million_steps(self):
+        """Of so many name pointers, none gives an export."""
+        data = bytearray(with_names(1000000, 1))
+        directory = Image(data).directories[DirectoryType.EXPORT_TABLE].virtual_address
+        struct.pack_into("<II", data, directory + 20, 0, 1000000)
+        longer = bytearray(data)
+        struct.pack_into("<I", longer, directory + 24, 1000001)
+        for call in lambda it, *budget: [*it.exports(*budget)], lambda it, *budget: it.find_export("a", *budget):
+            self.assertFalse(call(Image(data, IDENTITY)))
+            self.assertRaises(OutOfSteps, call, Image(longer, IDENTITY))
+            self.assertFalse(call(Image(longer, IDENTITY), Budget()))
+        walks = self.walks()
+        with unittest.mock.patch("goblin_pe._walk._STEPS", 0):
+            for walk in walks:
+                self.assertRaises(OutOfSteps, next, walk())
+
     def test_each_row_of_another_table_is_a_step(self):
         for walk in self.walks()[5:]:
             rows = list(walk())

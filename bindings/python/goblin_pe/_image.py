@@ -50,11 +50,11 @@ class Kind(Number):
 class Image:
     """A PE image, a COFF object or a Terse Executable: its header, and the bytes of the file.
 
-    Properties say what is in the header. Methods read the tables; they may raise PeError, and some
-    need a Budget. The image keeps the bytes until close(), or until the end of a `with`. After that,
-    methods, `data`, `dos_stub` and `rich_header` raise ValueError, and so does `sections` if you did
-    not ask for it before. The other properties stay, and so do all rows. An image can be pickled,
-    with its bytes."""
+    Properties say what is in the header. Methods read the tables; they may raise PeError. If the file
+    decides how much work that is, they have an argument `budget`. The image keeps the bytes until
+    close(), or until the end of a `with`. After that, methods, `data`, `dos_stub` and `rich_header`
+    raise ValueError, and so does `sections` if you did not ask for it before. The other properties
+    stay, and so do all rows. An image can be pickled, with its bytes."""
 
     def __init__(self, data: Data, options: Options = Options()) -> None:
         """Reads the header and the section table of an image. PeError is raised if they can't be

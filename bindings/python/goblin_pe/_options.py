@@ -63,8 +63,8 @@ class Options:
 class Budget:
     """How many steps calls may still take. A step is one look at an entry of an import or export
     table, or at 64 entries of an address table of imports, or one row of another walk. A call that
-    needs more steps raises OutOfSteps. If the options limit names, 100,000 steps take 10 to 200
-    milliseconds in the library, depending on the length of the names.
+    needs more steps raises OutOfSteps. A call without a budget has 1,000,000 steps, Pe ten million;
+    Budget() has no limit. If the options limit names, 100,000 steps take 10 to 200 milliseconds.
 
     Walks read their rows in batches. So the budget may already have paid for rows that you do not
     have yet. Threads can share a budget; their calls then wait for one another.
@@ -95,9 +95,9 @@ class Budget:
 
 
 @contextlib.contextmanager
-def lent(budget: Budget | None) -> Iterator[Any]:
+def lent(budget: Budget) -> Iterator[Any]:
     """The steps of a budget, for a call that counts them down; None if there is no limit."""
-    if budget is None or budget.left is None:
+    if budget.left is None:
         yield None
     else:
         with budget._turn:

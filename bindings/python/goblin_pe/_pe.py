@@ -40,8 +40,7 @@ def jsonable(value: Any) -> Any:
 class Pe:
     """An image and the rows of all its tables, as tuples: what the walks of an Image give. It reads
     everything at once. A budget limits how many rows that are, and `longest_name` how long their
-    names are. Without a budget, the limit is ten million steps; with Budget() there is none. The
-    tuples stay when the file is closed.
+    names are. Without a budget it has ten million steps. The tuples stay when the file is closed.
 
     image: the image itself, with the headers and the look-ups.
     sections, rich_entries, imports, exports, export_addresses, relocation_blocks: the rows.

@@ -13,8 +13,8 @@ if TYPE_CHECKING:
 
 _Row = TypeVar("_Row", covariant=True)
 
-# How many rows are read at once: at first, and later.
-_FIRST, _ROOM = 32, 256
+# How many rows are read at once: at first, and later. How many steps a walk has if a caller names no budget.
+_FIRST, _ROOM, _STEPS = 32, 256, 1_000_000
 
 
 class Texts:
@@ -57,7 +57,8 @@ class Walk(Generic[_Row]):
     unmapped: int
 
     def __init__(self, image: Image, kind: Kind, cursor: Any = None, budget: Budget | None = None) -> None:
-        if not (budget is None or isinstance(budget, Budget)):
+        budget = Budget(_STEPS) if budget is None else budget
+        if not isinstance(budget, Budget):
             raise TypeError("a Budget is wanted, not %r" % (budget,))
         self._image, self._kind, self._budget = image, kind, budget
         self._cursor = kind.cursor() if cursor is None else cursor
