@@ -301,6 +301,24 @@ fn walks_go_on_after_their_steps_ran_out() -> Result<(), Error> {
     Ok(())
 }
 
+#[test]
+fn walks_inside_a_walk_share_its_steps() -> Result<(), Error> {
+    let bytes = libraries_of_shared_imports();
+    let image = Image::read(&bytes, Options::permissive())?;
+    let walked = |libraries, imports| -> Result<Vec<Import>, Error> {
+        let inside = image.libraries(libraries).map(|it| Ok(it?.imports(&image, imports)));
+        inside.flat_map(|it| it.map_or_else(|error| vec![Err(error)], Vec::from_iter)).collect()
+    };
+    let used = |it: &Budget| Budget::default().left() - it.left();
+    let [outer, inner, both] = [(); 3].map(|()| Budget::default());
+    assert_eq!(walked(&outer, &inner)?, walked(&both, &both)?);
+    assert_eq!(used(&both), used(&outer) + used(&inner));
+    let few = Budget::steps(used(&both) / 2);
+    let error = walked(&few, &few).expect_err("no step is left");
+    assert_eq!((error.kind(), few.left()), (ErrorKind::Steps, 0));
+    Ok(())
+}
+
 // Each call of the library needs a step for each section above 96, too.
 #[test]
 fn too_few_steps_for_many_sections_are_used_up() -> Result<(), Error> {
@@ -418,7 +436,8 @@ fn a_partial_image_has_what_is_there_of_a_refused_header() -> Result<(), Error> 
                 assert_eq!(found.virtual_address, section.virtual_address);
             }
             if missing == 0 && faults.windows_fields.is_none() {
-                assert_eq!(image.imports(&Budget::default()).collect::<Result<Vec<_>, _>>()?, whole.imports);
+                let imports = image.imports(&Budget::default()).collect::<Result<Vec<_>, _>>();
+                assert_eq!(imports?, whole.imports);
                 assert_eq!(image.text_at(0x2000), whole.image.text_at(0x2000));
                 let sections = Vec::from_iter(image.sections());
                 assert_eq!(image.patched(&image.header(), &sections)?, changed);
@@ -448,7 +467,9 @@ fn a_partial_image_of_other_bytes_is_zeros() {
     assert!(faults.errors().all(|(_, error)| Some(error) == faults.refusal));
     assert!(image.optional_header().is_none() && image.coff_header().machine == 0);
     assert_eq!((image.sections().len(), image.find_offset(0x1000)), (0, None));
-    assert!(image.imports(&Budget::default()).next().is_none() && image.relocation_blocks(&Budget::default()).next().is_none());
+    let budget = &Budget::default();
+    assert!(image.imports(budget).next().is_none());
+    assert!(image.relocation_blocks(budget).next().is_none());
     // (a DOS header that leads past the file has no stub, and no place for another header)
     let mut bytes = sample("imports_by_name_x64.dll");
     put(&mut bytes, 0x3C, u32::MAX);
