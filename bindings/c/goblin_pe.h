@@ -1042,8 +1042,9 @@ bool goblin_pe_find_rva(const struct goblin_pe_image *image, size_t offset, size
 bool goblin_pe_memory_at(
     const struct goblin_pe_image *image, size_t rva, size_t size, struct goblin_pe_memory *memory);
 
-/* Gives the text at an RVA, up to a NUL, the end of the file or `options.longest_name`. The
-   section's end is not looked at. To read bytes that may not be UTF-8, use `goblin_pe_find_offset`.
+/* Gives the text at an RVA, up to a NUL, the end of the file or `options.longest_name`. As a loader
+   maps, it also ends where the section does in memory; as goblin maps, the section's end is not
+   looked at. To read bytes that may not be UTF-8, use `goblin_pe_find_offset`.
 
    Faults: UNMAPPED; READ if the offset is at or past the end, or the text is not UTF-8; OPTIONS. */
 GOBLIN_PE_MUST_USE struct goblin_pe_fault goblin_pe_text_at(
@@ -1147,6 +1148,9 @@ struct goblin_pe_import {
    `skipped` counts libraries without an address table, imports whose hint can't be read, tables
    that the file cuts short, and a directory that is skipped as a whole, each once. `unmapped`
    counts imports whose name has no offset.
+
+   As a loader maps, a name ends where its section does in memory. The tables of imports do not:
+   they are read on in the file.
 
    Faults: STEPS; in strict mode damage, after the imports that come before it; READ if the file has
    no room for the section headers; OPTIONS; MEMORY if there are more than 96 sections. */

@@ -134,6 +134,31 @@ front-same m bytes few =
     same_text bytes bytes 0 (length bytes) t (before_nul bytes) own
     (stretch_ends bytes 0 (omega arith)) refl (omega arith) (λ i le below. refl)
 
+-- the bytes before a NUL are the same in a shorter list that has one more byte, or all
+pub front-kept : (m : ℕ) (bytes : List ℕ) → length (before_nul bytes) < m
+    → before_nul (take m bytes) ≡ before_nul bytes
+front-kept m bytes few =
+    let front = take m bytes in
+    let t = before_nul bytes in
+    let long = length-take m bytes in
+    let h = stretch_ends bytes 0 (omega arith) in
+    let all : 0 + length t - 0 ≡ length t = omega arith in
+    let own : IsTextTo front 0 (length front) t = record {
+      is = h.is ∙ rw all (sym (take-take (length t) m bytes (omega (arith, few))));
+      inside = omega (arith, h.inside, long, few);
+      free = h.free;
+      ends = elim h.ends [
+        | inl end ↦ inl (omega (arith, end, long, few))
+        | inr nul ↦
+            inr (
+              omega (arith, nul.0, long, few),
+              get_or-take m bytes (0 + length t) 0 (omega (arith, few)) ∙ nul.1,
+            )
+      ];
+    } in
+    same_text front front 0 (length front) (before_nul front) t
+    (stretch_ends front 0 (omega arith)) own refl (omega arith) (λ i le below. refl)
+
 pub short_is_whole : (n : ℕ) (bytes : List ℕ) (p : ℕ) (s : List ℕ)
     → text_within (Some n) bytes p ≡ Some s → length s ≤ n → text_at bytes p ≡ Some s
 short_is_whole n bytes p s is few =

@@ -104,6 +104,9 @@ module _ (bytes : List ℕ) where
         last.0 last.1 in
         omega (arith, is.end)
 
+    pub slots-own-in : AreInside bytes (positions o (slot_place slots o (slots_reached slots bytes o)))
+    slots-own-in = positions-in o (slot_place slots o (slots_reached slots bytes o)) (slots_fit (slots_reached slots bytes o) reached_there)
+
     pub slots-in : (leads_to : V → List Range) → ((v : V) → AreInside bytes (leads_to v))
         → AreInside bytes (slot_footprint slots leads_to bytes o)
     unfolding slot_footprint
@@ -113,7 +116,7 @@ module _ (bytes : List ℕ) where
         both-in (concat_below leads (stop slots bytes o)) (positions o (slot_place slots o n))
         (below-in leads (stop slots bytes o)
         (λ i. led-in (slot_at slots bytes o i) leads_to h))
-        (positions-in o (slot_place slots o n) (slots_fit n reached_there))
+        slots-own-in
 
   -- ---- tables of a given count
 

@@ -36,7 +36,7 @@ agree-moved p ranges a b h = record {
       ∙ sym (get_or-drop p b i 0);
 }
 
-byte_of_slice : (bytes : List ℕ) (begin end i : ℕ) → i < end - begin
+pub byte_of_slice : (bytes : List ℕ) (begin end i : ℕ) → i < end - begin
     → slice_index (slice_range bytes begin end) i ≡ slice_index bytes (begin + i)
 byte_of_slice bytes begin end i lt =
     get_or-take (end - begin) (drop begin bytes) i 0 lt ∙ get_or-drop begin bytes i 0

@@ -1,16 +1,15 @@
 -- The laws of readings, once for each way to put them together; and what they give for two files.
-use Rattle.std.proofs.Common.{◌≡◌, ◌<◌, ◌+◌, ◌-◌, ◌++◌, ℕ, Bool, nat_lt, length, drop, List, Option, Some, None, Result, ap, subst, sym, inl, inr, ◌∙◌, arith, IsSomeAnd, option_map, slice_range}
+use Rattle.std.proofs.Common.{◌≡◌, ◌<◌, ◌+◌, ◌-◌, ◌++◌, ℕ, nat_lt, length, drop, List, Option, Some, None, Result, ap, subst, sym, ◌∙◌, arith, option_map, slice_range}
 use Rattle.std.proofs.lemmas.Bool.{ltb-true}
 use Rattle.std.specs.declared.alloc.AllocError.{AllocError}
 use Rattle.goblin_base.specs.{declared.endian.Endian.Endian, declared.error.CauseOf.CauseOf}
 use Rattle.goblin_base.specs.{declared.error.ErrorOf.ErrorOf, Values.value_at}
 use Rattle.goblin_base.specs.Answers.{BadMagic, BufferTooShort, Malformed, Memory, Read, ◌>>=◌, FirstFault, IsMemory, IsSliceFault, IsNoText, IsOffsetFault, IsTextFault}
-use Rattle.goblin_base.specs.Footprints.{Agree, led_to, rest_footprint, slot_footprint}
-use Rattle.goblin_base.specs.Reading.{IsRefused, Reading, Reads, ReadsOrMemory, Twins, TwinsOrMemory}
-use Rattle.goblin_base.specs.Tables.{IsTableFault, SlotFormat, kept_slots, slot_at, slot_place, slot_table, stop}
-use Rattle.goblin_base.proofs.Footprints.{agree-left, agree-right, alike_answers, alike_or_memory_answers, same-kept_slots, same-led, same-slot_table, same-within, same_if}
+use Rattle.goblin_base.specs.Footprints.{Agree, led_to, rest_footprint}
+use Rattle.goblin_base.specs.Reading.{Reading, Reads, ReadsOrMemory, Twins, TwinsOrMemory}
+use Rattle.goblin_base.proofs.Footprints.{agree-left, agree-right, alike_answers, alike_or_memory_answers, same-led, same-within, same_if}
 use Rattle.goblin_base.proofs.Numbers.{rest_is_drop}
-use Rattle.goblin_base.proofs.Inside.{AreInside, both-in, led-in, slots-in}
+use Rattle.goblin_base.proofs.Inside.{AreInside, both-in, led-in}
 
 -- ---- a read, and one that depends on its value
 
@@ -107,46 +106,6 @@ pub beside-inside : {A B : Type 0} (r : Reading A) (s : Reading B) (bytes : List
     → AreInside bytes (r.reaches bytes ++ s.reaches bytes)
 beside-inside r s bytes =
     both-in bytes (r.reaches bytes) (s.reaches bytes) (r.is_inside bytes) (s.is_inside bytes)
-
--- ---- tables of slots, each entry read on its own
-
-module _ {V A : Type 0} (slots : SlotFormat V) (piece : V → Reading (List A)) (o : ℕ) where
-  pub table-local : (needs_end : Bool) (a b : List ℕ)
-      → Agree (slot_footprint slots (λ v. (piece v).reaches a) a o) a b
-      → slot_table slots needs_end (λ v. (piece v).value a) a o
-      ≡ slot_table slots needs_end (λ v. (piece v).value b) b o
-  table-local needs_end a b h =
-      same-slot_table slots needs_end (λ v. (piece v).reaches a) (λ v. (piece v).value a)
-      (λ v. (piece v).value b) a b o (λ v agree. (piece v).is_local a b agree) h
-
-  pub kept-local : (a b : List ℕ)
-      → Agree (slot_footprint slots (λ v. (piece v).reaches a) a o) a b
-      → kept_slots slots (λ v. (piece v).value a) a o
-      ≡ kept_slots slots (λ v. (piece v).value b) b o
-  kept-local a b h =
-      same-kept_slots slots (λ v. (piece v).reaches a) (λ v. (piece v).value a)
-      (λ v. (piece v).value b) a b o (λ v agree. (piece v).is_local a b agree) h
-
-  pub table-inside : (bytes : List ℕ)
-      → AreInside bytes (slot_footprint slots (λ v. (piece v).reaches bytes) bytes o)
-  table-inside bytes =
-      slots-in bytes slots o (λ v. (piece v).reaches bytes) (λ v. (piece v).is_inside bytes)
-
-  some_no_memory : (bytes : List ℕ) (slot : Option V) (e : ErrorOf)
-      → IsSomeAnd slot (λ v. IsRefused (piece v) bytes e)
-      → ¬ IsMemory e
-  some_no_memory bytes None e h = absurd h
-  some_no_memory bytes (Some v) e h = (piece v).not_memory bytes e h.1
-
-  pub table-not_memory : (needs_end : Bool) (missing : ℕ → Reading V) (bytes : List ℕ)
-      (e : ErrorOf)
-      → IsTableFault slots needs_end (λ v. (piece v).value bytes)
-      (λ p. (missing p).IsCause bytes) (λ v. (piece v).IsCause bytes) bytes o e
-      → ¬ IsMemory e
-  table-not_memory needs_end missing bytes e (inl h) =
-      (missing (slot_place slots o (stop slots bytes o))).not_memory bytes e h.1.2
-  table-not_memory needs_end missing bytes e (inr h) =
-      some_no_memory bytes (slot_at slots bytes o h.0) e h.3
 
 -- ---- two files
 

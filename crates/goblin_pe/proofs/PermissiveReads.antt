@@ -182,7 +182,7 @@ module _ (opts : ParseOptions) (addressing : Addressing) (places : TablePlaces) 
             numbered-kept (entry_format places.magic) addressing bytes opts.parse_imports (directory_at places 1);
       })
       (repeats-part_at (numbered_read addressing) (directory_at places 0)))
-      (repeats-part_at (relocation_data addressing.offset) (directory_at places 5)))
+      (repeats-part_at (relocation_data addressing) (directory_at places 5)))
       (λ all. refl)
 
   -- what it has of their lists

@@ -70,7 +70,7 @@ module _ {D Y : Type 0} (format : Format EntryValue) (model : D → Y)
               (ap (λ (m : Map). (export_read m request.exports).value bytes) same);
           relocations =
               alike_answers relocation_bytes _ _ _ _ _ _ one.relocations two.relocations
-              (ap (λ (m : Map). (relocation_data m.offset request.relocations).value bytes) same);
+              (ap (λ (m : Map). (relocation_data m request.relocations).value bytes) same);
           name =
               alike_answers (option_map (λ s. s.now)) _ _ _ _ _ _ one.name two.name
               (ap (λ (m : Map). (name_or_none strict m request.name).value bytes) same);
@@ -101,7 +101,7 @@ module _ {D Y : Type 0} (format : Format EntryValue) (model : D → Y)
           (repeats-same (export_read addressing request.exports)) one.exports two.exports;
       relocations =
           reads_in_modes relocation_bytes (λ x. x) _ _ _ _ _
-          (repeats-same (relocation_data addressing.offset request.relocations)) one.relocations
+          (repeats-same (relocation_data addressing request.relocations)) one.relocations
           two.relocations;
       name =
           reads_in_modes (option_map (λ s. s.now)) (λ x. x) _ _ _ _ _

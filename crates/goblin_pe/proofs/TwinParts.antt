@@ -32,7 +32,7 @@ are_twin_parts model value_of refusal strict addressing asked a b first second o
       strings = twins (λ t. t) (strings_of asked.coff_header) a b _ _ one.strings two.strings;
       te = twins_or_memory te_model (te_image asked.offset) a b _ _ one.te two.te;
       relocations =
-          twins relocation_bytes (relocation_data addressing.offset asked.relocations) a b _ _
+          twins relocation_bytes (relocation_data addressing asked.relocations) a b _ _
           one.relocations two.relocations;
       value =
           twins model (data_at addressing.offset value_of refusal asked.value.virtual_address)

@@ -26,7 +26,7 @@ pub record AreTables {D Y : Type 0} (format : Format EntryValue) (model : D → 
   pub exports : ReadsOrMemory export_read_model tables.exports
       (export_read addressing request.exports) bytes
   pub relocations : Reads relocation_bytes tables.relocations
-      (relocation_data addressing.offset request.relocations) bytes
+      (relocation_data addressing request.relocations) bytes
   pub name : Reads (option_map (λ s. s.now)) tables.name
       (name_or_none strict addressing request.name) bytes
   pub value : Reads model tables.value
@@ -61,8 +61,8 @@ pub record AreInModes {D Y : Type 0} (format : Format EntryValue) (model : D →
   pub exports : InModes export_read_model (λ x. x) (export_read addressing request.exports)
       (export_read addressing request.exports) bytes (both.0.exports, both.1.exports)
   pub relocations : ReadsInModes relocation_bytes (λ x. x)
-      (relocation_data addressing.offset request.relocations)
-      (relocation_data addressing.offset request.relocations) bytes
+      (relocation_data addressing request.relocations)
+      (relocation_data addressing request.relocations) bytes
       (both.0.relocations, both.1.relocations)
   pub name : ReadsInModes (option_map (λ s. s.now)) (λ x. x)
       (name_or_none true addressing request.name) (name_or_none false addressing request.name) bytes

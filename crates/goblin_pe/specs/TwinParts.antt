@@ -53,7 +53,7 @@ pub record AreParts {D Y : Type 0} (model : D → Y) (value_of : Endian → List
   pub strings : Reads (λ t. t) parts.strings (strings_of asked.coff_header) bytes
   pub te : ReadsOrMemory te_model parts.te (te_image asked.offset) bytes
   pub relocations : Reads relocation_bytes parts.relocations
-      (relocation_data addressing.offset asked.relocations) bytes
+      (relocation_data addressing asked.relocations) bytes
   pub value : Reads model parts.value
       (data_at addressing.offset value_of refusal asked.value.virtual_address) bytes
 
@@ -72,7 +72,7 @@ pub record AreTwinParts {D Y : Type 0} (model : D → Y)
   pub strings : Twins (λ t. t) (strings_of asked.coff_header) a b
       (both.0.strings, both.1.strings)
   pub te : TwinsOrMemory te_model (te_image asked.offset) a b (both.0.te, both.1.te)
-  pub relocations : Twins relocation_bytes (relocation_data addressing.offset asked.relocations) a b
+  pub relocations : Twins relocation_bytes (relocation_data addressing asked.relocations) a b
       (both.0.relocations, both.1.relocations)
   pub value : Twins model
       (data_at addressing.offset value_of refusal asked.value.virtual_address) a b

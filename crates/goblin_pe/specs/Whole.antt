@@ -13,8 +13,8 @@ use Rattle.goblin_pe_sect.specs.declared.options.View.{View}
 use Rattle.goblin_pe_sect.specs.declared.options.View.TheVariants.{Sections}
 use Rattle.goblin_pe_sect.specs.{AddressReadings.relocation_data, BaseRelocations.relocation_bytes}
 use Rattle.goblin_pe_sect.specs.DataDirectories.{directory_or_zeros, zero_directory}
-use Rattle.goblin_pe_sect.specs.Addresses.{table_offset, Addressing, with_whole_names}
-use Rattle.goblin_pe_sect.specs.Options.{front_of, is_strict, mapping_in}
+use Rattle.goblin_pe_sect.specs.Addresses.{Addressing, map_in}
+use Rattle.goblin_pe_sect.specs.Options.{front_of, is_strict}
 use Rattle.goblin_pe_sect.specs.SectionTable.{MappedSections, Section}
 use Rattle.goblin_pe_head.specs.declared.optional_header.OptionalHeader.{OptionalHeader}
 use Rattle.goblin_pe_head.specs.{HeaderReadings.pe_header, PeHeader.PeHeader}
@@ -134,7 +134,7 @@ mapped_in view h sections =
 -- where the addresses in tables lead; names are read whole
 abbrev pub addressing_by : ParseOptions → MappedSections → TablePlaces → Addressing
 addressing_by opts mapped places =
-    with_whole_names (table_offset (mapping_in mapped.view opts) mapped places.file_alignment)
+    (map_in opts mapped places.file_alignment).addressing
 
 -- ---- the tables
 
@@ -211,7 +211,7 @@ export_part opts addressing places =
 unfoldable pub relocation_part : ParseOptions → Addressing → TablePlaces
     → Reading (Part (List ℕ))
 relocation_part opts addressing places =
-    part_at (is_strict opts.parse_mode) (relocation_data addressing.offset) (directory_at places 5)
+    part_at (is_strict opts.parse_mode) (relocation_data addressing) (directory_at places 5)
 
 -- what is kept of the tables of a file: imports, exports and base relocations
 pub record TableParts (I E : Type 0) : Type 0 where

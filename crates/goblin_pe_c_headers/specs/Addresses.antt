@@ -4,7 +4,8 @@ use Rattle.std.specs.Prelude.{None, find, option_and_then, option_map}
 use Rattle.std.specs.{Int.is_power_of_two, Option.is_some}
 use Rattle.goblin_base.specs.{Answers.◌>>=◌, Reading.Reading}
 use Rattle.readings.specs.Reads.{text_within}
-use Rattle.goblin_pe_sect.specs.{AddressReadings.at_address, declared.options.Mapping.Mapping}
+use Rattle.goblin_pe_sect.specs.{AddressReadings.at_address, Addresses.Addressing}
+use Rattle.goblin_pe_sect.specs.{declared.options.Mapping.Mapping, Mapping.file_end}
 use Rattle.goblin_pe_sect.specs.{Mapping.file_offset, added.Backward.is_at, added.Backward.rva_in}
 use Rattle.goblin_pe_sect.specs.Options.{front_of, mapping_in}
 use Rattle.goblin_pe_sect.specs.SectionTable.{Section, mapped_sections, with_front}
@@ -58,6 +59,16 @@ mapped_offset m rva =
 abbrev pub image_map : PeImage → ℕ → Option ℕ
 image_map i rva = option_and_then (λ m. mapped_offset m rva) (mapped_image i)
 
+-- How the addresses of an image are used: its file offsets, where a read at an address ends, and
+-- the limit for texts that its options say.
+abbrev pub image_addressing : PeImage → Addressing
+image_addressing i = record {
+  offset = image_map i;
+  end = λ rva.
+      option_and_then (λ m. file_end m.mapping m.sections m.alignment rva) (mapped_image i);
+  longest = longest_of i.options;
+}
+
 -- the address that the first section whose raw data holds the offset has there
 abbrev pub first_address : MappedImage → ℕ → Option ℕ
 first_address m offset =
@@ -74,4 +85,4 @@ image_address i offset =
 
 -- the text at an address, cut if the options set a limit
 abbrev pub text_at : PeImage → ℕ → Reading (List ℕ)
-text_at i rva = at_address (image_map i) rva (text_within (longest_of i.options))
+text_at i rva = at_address (image_addressing i) rva (text_within (longest_of i.options))

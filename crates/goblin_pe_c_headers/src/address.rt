@@ -1,18 +1,18 @@
 //! The file offset of an RVA, the RVA of a file offset, and the text at an RVA.
 
-ghost use Rattle.std.specs.Prelude.{◌≡◌, option_map};
+ghost use Rattle.std.specs.Prelude.{◌≡◌, IfSome, option_map};
+ghost use Rattle.goblin_base.specs.Parts.{bytes_in, in_memory};
 ghost use Rattle.goblin_pe_c_headers.specs.Addresses.{first_address, image_address, image_map};
-ghost use Rattle.goblin_pe_c_headers.specs.Addresses.{mapped_image, mapped_offset};
-ghost use Rattle.goblin_pe_c_headers.specs.Addresses.{mapped_model, text_at};
+ghost use Rattle.goblin_pe_c_headers.specs.Addresses.{image_addressing, mapped_image};
+ghost use Rattle.goblin_pe_c_headers.specs.Addresses.{mapped_model, mapped_offset, text_at};
 ghost use Rattle.goblin_pe_c_headers.specs.{Calls.ReadsWithout, Images.slice_model};
 
 use crate::image::{PeImage, PeSlice, places_of};
 use crate::kind::Kind;
 use crate::options::{are_known, longest_of, maps_addresses, options_at, view_of};
 use crate::places::section_records;
-use goblin_base::read::pread_str_within;
-use goblin_base::{Cause, Error, Result};
-use goblin_pe_sect::added::{offset_by_records, rva_in};
+use goblin_base::{Cause, Error, MappedBytes, Result};
+use goblin_pe_sect::added::{offset_by_records, part_by_records, rva_in};
 use goblin_pe_sect::address_map::MappedRecords;
 use goblin_pe_sect::options::Mapping;
 use goblin_pe_sect::section_table::SectionRecords;
@@ -70,6 +70,26 @@ pub fn offset_of(image: &PeImage, rva: usize) -> Option<usize>
     mapped_offset(&mapped_by(image)?, rva)
 }
 
+/// What a read at an RVA sees, and the RVA's file offset, if it has one. Offsets in it are file
+/// offsets. In a loader's view it ends with the section's window, and zeros follow, up to the end
+/// of the section's last page; in goblin's view it is all bytes of the file.
+pub fn part_of<'a>(image: &PeImage<'a>, rva: usize) -> Option<(MappedBytes<'a>, usize)>
+    ensures part { let end = (image_addressing image.now).end rva in
+        IfSome result (λ part. bytes_in part.0 ≡ in_memory end image.now.bytes.now) }
+    ensures offset { option_map (λ part. part.1) result ≡ image_map image.now rva }
+{
+    let mapped = mapped_by(image)?;
+    let rva = u32::try_from(rva).ok()?;
+    let (part, offset) = part_by_records(
+        image.bytes,
+        mapped.records,
+        mapped.file_alignment,
+        mapped.mapping,
+        rva,
+    );
+    Some((part, offset?))
+}
+
 // The RVA that the first section whose raw data holds the offset has there.
 fn first_address(mapped: &Mapped, offset: usize) -> Option<usize>
     ensures { result ≡ first_address (mapped_model mapped.now) offset }
@@ -96,7 +116,8 @@ pub fn rva_of(image: &PeImage, offset: usize) -> Option<usize>
     }
 }
 
-/// Reads the text at an RVA, up to a NUL, the end of the file or the options' limit.
+/// Reads the text at an RVA, up to a NUL, the end of the file or the options' limit. In a loader's
+/// view it also ends where the section does in memory.
 ///
 /// # Errors
 /// [`Error::Malformed`] with [`Cause::Unmapped`] if the RVA has no file offset, and
@@ -105,10 +126,10 @@ pub fn read_text<'a>(image: &PeImage<'a>, rva: usize, text: &mut PeSlice<'a>) ->
     ensures { ReadsWithout (text_at image.now rva) image.now.bytes.now
         (λ whole. slice_model text.new ≡ whole) (text.new ≡ text.old) result }
 {
-    let Some(offset) = offset_of(image, rva) else {
+    let Some((part, offset)) = part_of(image, rva) else {
         return Err(Error::Malformed(Cause::Unmapped(rva)));
     };
-    let found = pread_str_within(image.bytes, offset, longest_of(&image.options))?;
+    let found = part.text_within(offset, longest_of(&image.options))?;
     *text = PeSlice {
         bytes: found.as_bytes(),
     };

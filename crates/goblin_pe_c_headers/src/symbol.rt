@@ -16,7 +16,9 @@ ghost use Rattle.goblin_pe_c_headers.specs.Symbols.{texts_of};
 use crate::batch::{PeBatch, ended, goes_on};
 use crate::image::PeImage;
 use crate::options::longest_of;
-use goblin_base::read::{no_text, pread_ascii_str, pread_slice, pread_str_within, pread_u32};
+use goblin_base::read::{
+    no_text, pread_ascii_str_within, pread_slice, pread_str_within, pread_u32,
+};
 use goblin_base::{Cause, Endian, Error, Result};
 use goblin_pe_head::header::CoffHeader;
 use goblin_pe_symbol::symbol::{COFF_SYMBOL_SIZE, Symbol};
@@ -56,8 +58,8 @@ fn is_in_piece(strings: &[u8], offset: usize) -> bool
     offset < strings.len() || offset == strings.len() && 0 < offset && strings[offset - 1] != 0
 }
 
-// The name at an offset of the bytes of a string table, also if it is not ASCII, ends within the
-// last bytes or has a limit.
+// The name at an offset of the bytes of a string table, also if it is not ASCII, is long or ends
+// within the last bytes.
 #[inline(never)]
 fn any_name_in_piece(strings: &[u8], offset: usize, longest: Option<u32>) -> Option<&str>
     ensures { option_map (λ s. s.now) result ≡ name_in_piece longest strings.now offset }
@@ -72,16 +74,13 @@ fn any_name_in_piece(strings: &[u8], offset: usize, longest: Option<u32>) -> Opt
     }
 }
 
-// The same if there is no limit, of a name that is ASCII and ends before the last bytes; else
-// `None`, which says nothing about it.
+// The same of a name that is ASCII and ends before the last bytes, and not long after the limit;
+// else `None`, which says nothing about it.
 #[inline(always)]
 fn ascii_name_in_piece(strings: &[u8], offset: usize, longest: Option<u32>) -> Option<&str>
     ensures { IfSome result (λ s. name_in_piece longest strings.now offset ≡ Some s.now) }
 {
-    match longest {
-        None => pread_ascii_str(strings, offset),
-        Some(_) => None,
-    }
+    pread_ascii_str_within(strings, offset, longest)
 }
 
 // The name at an offset of the bytes of a string table.

@@ -1,6 +1,6 @@
 -- A loop that fills records with the blocks of a directory from an offset on.
-use Rattle.std.proofs.Common.{◌≡◌, ◌≢◌, ◌⊎◌, ℕ, ◌+◌, ◌-◌, ◌<◌, Bool, true, false, cond, nat_lt, IfErr, ◌≤◌, List, [], ◌∷◌, ◌++◌, length, set, take, ap, refl, subst, sym, arith, ◌∙◌, inl, inr, zero, suc, MatchResult, sum_by, unwrap_or, Option, None, Some, Result, Ok, Err}
-use Rattle.std.proofs.lemmas.List.Sums.{sum_by_push}
+use Rattle.std.proofs.Common.{◌≡◌, ◌≢◌, ◌⊎◌, ℕ, ◌+◌, ◌-◌, ◌<◌, Bool, true, false, cond, nat_lt, IfErr, ◌≤◌, List, [], ◌∷◌, ◌++◌, length, set, take, ap, refl, subst, sym, arith, ◌∙◌, inl, inr, zero, suc, MatchResult, sum_by, unwrap_or, Option, None, Some, Result, Ok, Err, length-take, option_map}
+use Rattle.std.proofs.{lemmas.Bool.cases_lt, lemmas.List.Sums.sum_by_push}
 use Rattle.goblin_base.specs.{declared.error.ErrorOf.ErrorOf, Reading.Reads}
 use Rattle.goblin_base.specs.declared.endian.Endian.TheVariants.{Little}
 use Rattle.goblin_base.specs.declared.error.CauseOf.TheVariants.{BlockSize}
@@ -14,6 +14,8 @@ use Rattle.goblin_pe_sect.specs.declared.data_directories.DataDirectory.{DataDir
 use Rattle.goblin_pe_sect.specs.BaseRelocations.{Block, FindsItem, block_at, block_items, block_value, first_items, relocation_bytes, then_items, with_head, with_words}
 use Rattle.goblin_pe.specs.Whole.{TablePlaces, directory_at, offset_in, part_at, part_map, part_of, relocation_part}
 use Rattle.goblin_base.proofs.{Numbers.slice_at-some, RecordRoundTrip.length-slice}
+use Rattle.goblin_base.proofs.InMemory.{no_zeros, part_inside, part_past}
+use Rattle.goblin_base.specs.{declared.mapped.MappedEnd.MappedEnd, Parts.in_memory, Parts.stored}
 use Rattle.goblin_pe.specs.declared.whole.Part.{Part}
 use Rattle.goblin_pe.specs.declared.whole.Part.TheVariants.{Absent, Refused}
 use Rattle.goblin_pe.specs.declared.whole.Part.TheVariants as part
@@ -148,26 +150,44 @@ module _ {begin : ℕ} {directory : List ℕ} {from : ℕ} {old : List PeRelocat
 
 -- ---- where a directory lies
 
+-- what is read of a file alone is no longer than the file
+stored-few : (end : Option MappedEnd) (bytes : List ℕ) → length (in_memory (option_map stored end) bytes) ≤ length bytes
+stored-few None bytes = omega arith
+stored-few (Some e) bytes =
+    elim (cases_lt e.last (length bytes)) [
+      | inl lt ↦
+          omega (
+            arith,
+            lt,
+            ap length (part_inside (stored e) bytes lt),
+            ap length (no_zeros (take (e.last + 1) bytes)),
+            length-take (e.last + 1) bytes,
+          )
+      | inr past ↦ omega (arith, ap length (part_past (stored e) bytes past))
+    ]
+
 module _ (m : MapOfAddresses) (bytes directory : List ℕ) where
-  data-inside : (d : DataDirectory) (o : Option ℕ) → m.addressing.offset d.virtual_address ≡ o → (relocation_data m.addressing.offset d).value bytes ≡ Some directory
+  data-inside : (d : DataDirectory) (o : Option ℕ) → m.addressing.offset d.virtual_address ≡ o → (relocation_data m.addressing d).value bytes ≡ Some directory
       → unwrap_or (offset_in m.addressing (Some d)) 0 + length directory ≤ length bytes
   unfolding relocation_data
   data-inside d None lost is = absurd (cc (rw lost at is))
   data-inside d (Some o) found is =
-      let slice = slice_at-some bytes o d.size directory (rw found at is) in
-      let long = ap (λ (xs : List ℕ). length xs) slice.value ∙ length-slice bytes o d.size slice.end in
-      rw found (let end = slice.end in omega (arith, end, long))
+      let end = m.addressing.end d.virtual_address in
+      let part = in_memory (option_map stored end) bytes in
+      let slice = slice_at-some part o d.size directory (rw found at is) in
+      let long = ap (λ (xs : List ℕ). length xs) slice.value ∙ length-slice part o d.size slice.end in
+      rw found (omega (arith, slice.end, long, stored-few end bytes))
 
-  by-value : (strict : Bool) (d : DataDirectory) (v : Option (List ℕ)) → (relocation_data m.addressing.offset d).value bytes ≡ v
+  by-value : (strict : Bool) (d : DataDirectory) (v : Option (List ℕ)) → (relocation_data m.addressing d).value bytes ≡ v
       → part_of strict v ≡ Some (part.Read directory) → unwrap_or (offset_in m.addressing (Some d)) 0 + length directory ≤ length bytes
   by-value strict d (Some found) value is = data-inside d (m.addressing.offset d.virtual_address) refl (value ∙ cc is)
   by-value true d None value is = absurd (cc is)
   by-value false d None value is = absurd (cc is)
 
-  part-inside : (strict : Bool) (d : Option DataDirectory) → (part_at strict (relocation_data m.addressing.offset) d).value bytes ≡ Some (part.Read directory)
+  part-inside : (strict : Bool) (d : Option DataDirectory) → (part_at strict (relocation_data m.addressing) d).value bytes ≡ Some (part.Read directory)
       → unwrap_or (offset_in m.addressing d) 0 + length directory ≤ length bytes
   part-inside strict None is = absurd (cc is)
-  part-inside strict (Some d) is = by-value strict d ((relocation_data m.addressing.offset d).value bytes) refl is
+  part-inside strict (Some d) is = by-value strict d ((relocation_data m.addressing d).value bytes) refl is
 
   -- the bytes of a directory that was read end in the file
   pub directory-inside : (places : TablePlaces) → (relocation_part m.opts m.addressing places).value bytes ≡ Some (part.Read directory)

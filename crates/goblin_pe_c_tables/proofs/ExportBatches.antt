@@ -2,6 +2,7 @@
 use Rattle.std.proofs.Common.{◌≡◌, ◌⊎◌, ℕ, ◌+◌, ◌-◌, ◌<◌, ◌≤◌, List, [], length, drop, set, ap, refl, subst, sym, arith, ◌∙◌, inl, inr, max, min, nat_le, not, ◌==◌, Bool, true, false, None, Option, Some}
 use Rattle.std.proofs.lemmas.Bool.{and_parts, cases_lt, leb-false, leb-true}
 use Rattle.std.specs.Iterator.{YieldsFirstBy}
+use Rattle.goblin_base.specs.Parts.{bytes_in}
 use Rattle.goblin_pe_export.specs.declared.added.exports.Exports.{Exports}
 use Rattle.goblin_pe_export.specs.declared.added.exports.WalkedExport.{WalkedExport}
 use Rattle.goblin_pe_export.specs.ExportRecords.{name_pointers, ExportTables}
@@ -23,12 +24,12 @@ use Rattle.goblin_pe_c_headers.proofs.Batches.{AtItems, fills-by, items-cut, ite
 -- nothing comes once no name pointer is left
 none-left : (s : Exports) → pointer_count s ≤ exports_position s → exports_left s ≡ []
 none-left s past =
-    let count = length-records_in 4 name_pointers.value_of s.tables.name_pointers.now in
+    let count = length-records_in 4 name_pointers.value_of (bytes_in s.tables.name_pointers) in
     from_end _ _ (walked_tables s) (exports_position s) (omega (arith, count, past))
 
 same-pointers : (s t : Exports) → KeepsOver s t → pointer_count t ≡ pointer_count s
 same-pointers s t over =
-    let count = λ (w : Exports). length-records_in 4 name_pointers.value_of w.tables.name_pointers.now in
+    let count = λ (w : Exports). length-records_in 4 name_pointers.value_of (bytes_in w.tables.name_pointers) in
     let same = ap (λ (tables : ExportTables). length tables.export_name_pointer_table) over.1 in
     omega (arith, count s, count t, same)
 
@@ -125,7 +126,7 @@ module _ (m : MapOfAddresses) (places : TablePlaces) (bytes : List ℕ) (found :
         sym (at-over now next (exports_position next) over_next ∙ at-over walk now (exports_position next) over_now ∙ from-there (exports_position next)) in
         let value : (export_part m.opts m.addressing places).value bytes ≡ Some (part.Read (walked_exports walk)) =
         read ∙ ap (λ (p : Part Exports). Some (part_map walked_exports p)) is_read in
-        let count_of = length-records_in 4 name_pointers.value_of walk.tables.name_pointers.now in
+        let count_of = length-records_in 4 name_pointers.value_of (bytes_in walk.tables.name_pointers) in
         let pointers = same-pointers walk now over_now in
         let out : (end < pointer_count now) × (end ≤ exports_position next) → after ≡ 0 = λ cut. elim limited [
           | inl all ↦ absurd (omega (arith, cut.0, all))

@@ -3,7 +3,7 @@ use Rattle.std.specs.Prelude.{ℕ, Bool, List, [], ◌∷◌, Option, Some, None
 use Rattle.goblin_base.specs.Reading.{Reading}
 use Rattle.goblin_pe_sect.specs.AddressReadings.{at_address}
 use Rattle.goblin_pe_export.specs.added.ExportWalks.{NumberedExport}
-use Rattle.goblin_pe_c_headers.specs.{Addresses.image_map, Options.longest_of}
+use Rattle.goblin_pe_c_headers.specs.{Addresses.image_addressing, Options.longest_of}
 use Rattle.goblin_pe_c_headers.specs.declared.image.PeImage.{PeImage}
 use Rattle.goblin_pe_export.specs.Forwarders.{Forwarder, forwarder_within}
 use Rattle.goblin_pe_export.specs.Forwarders.Forwarder.{ByName, ByOrdinal}
@@ -84,5 +84,5 @@ export_model x = record {
 -- the forwarder whose text is at an RVA of an image, up to the limit that its options say
 abbrev pub forwarder_at_address : PeImage → ℕ → Reading Forwarder
 forwarder_at_address image rva =
-    at_address (image_map image) rva
+    at_address (image_addressing image) rva
     (forwarder_within (longest_of image.options))

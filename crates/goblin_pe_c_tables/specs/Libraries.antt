@@ -86,7 +86,7 @@ position_steps m places bytes p =
     amount_of (rows_steps m (entry_format places.magic) bytes)
     ((import_cursor m places p).value bytes)
 
--- A walk goes on at the position q. Or its steps have run out, and it stands at the cursor there,
+-- A walk goes on at the position q. Or its steps have run out, and it is at the cursor there,
 -- or in the address table of the entry that comes next.
 abbrev pub GoesOnAt : MapOfAddresses → TablePlaces → List ℕ → (IsCut : Type 0) → PeImportCursor
     → PeImportCursor → Type 0

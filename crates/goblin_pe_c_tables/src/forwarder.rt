@@ -8,7 +8,7 @@ ghost use Rattle.goblin_pe_c_tables.specs.Exports.{forwarder_model};
 
 use goblin_pe::export::Reexport;
 use goblin_pe::{Cause, Error, Result};
-use goblin_pe_c_headers::address::offset_of;
+use goblin_pe_c_headers::address::part_of;
 use goblin_pe_c_headers::image::PeImage;
 use goblin_pe_c_headers::options::longest_of;
 
@@ -88,10 +88,10 @@ pub fn read_forwarder<'a>(
         (λ f. forwarder_model forwarder.new ≡ forwarder_for_c (Some f))
         (forwarder.new ≡ forwarder.old) result }
 {
-    let Some(offset) = offset_of(image, rva) else {
+    let Some((part, offset)) = part_of(image, rva) else {
         return Err(Error::Malformed(Cause::Unmapped(rva)));
     };
-    let found = Reexport::parse_within(image.bytes, offset, longest_of(&image.options))?;
+    let found = Reexport::parse_in(part, offset, longest_of(&image.options))?;
     *forwarder = forwarder_record(image.bytes, &found);
     Ok(())
 }

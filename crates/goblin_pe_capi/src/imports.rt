@@ -23,6 +23,9 @@ use std::alloc::Global;
 /// that the file cuts short, and a directory that is skipped as a whole, each once. `unmapped`
 /// counts imports whose name has no offset.
 ///
+/// As a loader maps, a name ends where its section does in memory. The tables of imports do not:
+/// they are read on in the file.
+///
 /// Faults: STEPS; in strict mode damage, after the imports that come before it; READ if the file
 /// has no room for the section headers; OPTIONS; MEMORY if there are more than 96 sections.
 #[unsafe(no_mangle)]

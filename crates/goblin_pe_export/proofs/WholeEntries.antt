@@ -1,6 +1,7 @@
 -- The whole entries of a table of a given count: as bytes, and as values.
-use Rattle.std.proofs.Common.{◌≡◌, ◌<◌, ◌≤◌, ◌+◌, ◌-◌, ◌*◌, ◌/◌, ℕ, zero, suc, List, [], drop, length, map, Option, Some, None, refl, sym, ap, ◌∙◌, arith, add-one, inl, inr, length-drop, length-take, is_none, min, option_map, option_to_list, slice_get, slice_range}
+use Rattle.std.proofs.Common.{◌≡◌, ◌<◌, ◌≤◌, ◌++◌, ◌+◌, ◌-◌, ◌*◌, ◌/◌, ℕ, zero, suc, List, [], drop, length, map, Option, Some, None, refl, sym, ap, ◌∙◌, arith, add-one, inl, inr, length-drop, length-take, is_none, length-append, replicate, min, option_map, option_to_list, slice_get, slice_range}
 use Rattle.std.specs.List.{range_with_len}
+use Rattle.std.proofs.lemmas.List.{length-replicate}
 use Rattle.std.proofs.Math.Nat.{mul-div_cancel_left, mul-le-mul_left, zero-div}
 use Rattle.std.proofs.lemmas.Bool.{cases_lt}
 use Rattle.std.proofs.lemmas.List.FromFn.{get_or-map-range_with_len, length-map-range_with_len, map-range_with_len_more}
@@ -8,6 +9,7 @@ use Rattle.std.proofs.lemmas.Option.{slice_get-get_or, slice_get_past}
 use Rattle.goblin_base.specs.Bytes.{slice_at}
 use Rattle.goblin_base.specs.Tables.{Format, concat_below, counted_table, counted_table_if, entry_at, records_in, whole_entries}
 use Rattle.goblin_base.proofs.Below.{least-is}
+use Rattle.goblin_base.proofs.InMemory.{entry_inside, entry_outside}
 use Rattle.goblin_base.proofs.Numbers.{slice-of_slice, slice_at-inside, slice_at-past}
 use Rattle.goblin_base.proofs.RecordItems.{length-records_in, records_in-none}
 use Rattle.goblin_pe_export.specs.ExportRecords.{entries_in, name_pointers, ordinals, table_bytes}
@@ -16,18 +18,6 @@ use Rattle.goblin_pe_export.specs.ExportRecords.{entries_in, name_pointers, ordi
 
 next-entry : (w i : ℕ) → w * suc i ≡ w * i + w
 next-entry w i = grind arith
-
--- this many whole entries are there
-pub entry_inside : (w n i : ℕ) → 0 < w → i < n / w → w * i + w ≤ n
-entry_inside w n i wide h =
-    let below : w * suc i ≤ w * (n / w) = mul-le-mul_left w (omega arith) in
-    omega (arith, below, next-entry w i)
-
--- and no more
-pub entry_outside : (w n i : ℕ) → 0 < w → n / w ≤ i → n < w * i + w
-entry_outside w n i wide h =
-    let below : w * (n / w) ≤ w * i = mul-le-mul_left w h in
-    omega (arith, below)
 
 -- where there is an entry, those that are counted end inside
 pub entries_inside : (w n o count : ℕ) → 0 < w → 0 < min ((n - o) / w) count
@@ -164,4 +154,7 @@ no_ordinals = refl
 
 pub ruleset no_names = (no_pointers, no_ordinals)
 
-pub ruleset entries = (entry_inside, entry_outside)
+-- how many bytes and zeros there are
+pub count_bytes : (xs : List ℕ) (n : ℕ) → length (xs ++ replicate n 0) ≡ length xs + n
+count_bytes xs n =
+    omega (arith, length-append xs (replicate n 0), length-replicate {A = ℕ} n 0)

@@ -6,7 +6,7 @@ use Rattle.goblin_base.specs.declared.endian.Endian.TheVariants.{Little}
 use Rattle.goblin_base.specs.{declared.error.CauseOf.TheVariants.ExportTable, Answers.IsTooShort}
 use Rattle.goblin_base.specs.Reading.{Reading}
 use Rattle.goblin_base.proofs.Picks.{by_cases-not_memory}
-use Rattle.readings.specs.Reads.{◌>>=◌, ◌beside◌, because, counted_if, each_kept, file_length}
+use Rattle.readings.specs.Reads.{◌>>=◌, ◌beside◌, because, each_kept, file_length, up_to}
 use Rattle.readings.specs.Reads.{given, mapped, needs_by, or_none, record_at, taken}
 use Rattle.goblin_pe_sect.specs.declared.data_directories.DataDirectory.{DataDirectory}
 use Rattle.goblin_pe_export.specs.ExportRecords.{ExportRow, ExportTables, addresses, NumberedExport}
@@ -14,7 +14,7 @@ use Rattle.goblin_pe_export.specs.ExportRecords.{name_pointers, numbered_by, rea
 use Rattle.goblin_pe_export.specs.ExportRecords.{export_directory_record, ordinals, rva_of}
 use Rattle.goblin_pe_export.specs.ExportRecords.{ExportAddressTableEntry, ExportDirectoryTable}
 use Rattle.goblin_pe_export.specs.Forwarders.{Forwarder, forwarder_within}
-use Rattle.goblin_pe_sect.specs.AddressReadings.{at_address, name_at}
+use Rattle.goblin_pe_sect.specs.AddressReadings.{at_address, counted_at, name_at, offset_at}
 use Rattle.goblin_pe_sect.specs.Addresses.{Addressing}
 use Rattle.goblin_pe_export.specs.declared.export.tables as tables
 use tables.ExportAddressTableEntry.TheVariants as variant
@@ -57,17 +57,17 @@ export_tables addressing d t =
       export_address_table = parts.1;
     })
     (or_none (name_at addressing t.name_rva)
-    beside counted_if name_pointers t.number_of_name_pointers (addressing.offset t.name_pointer_rva)
-    beside counted_if ordinals t.number_of_name_pointers (addressing.offset t.ordinal_table_rva)
-    beside counted_if (addresses d) t.address_table_entries
-    (addressing.offset t.export_address_table_rva))
+    beside counted_at name_pointers t.number_of_name_pointers addressing t.name_pointer_rva
+    beside counted_at ordinals t.number_of_name_pointers addressing t.ordinal_table_rva
+    beside counted_at (addresses d) t.address_table_entries addressing t.export_address_table_rva)
 
 -- the export data of a directory: what the record at its address leads to, if its counts fit the
 -- file
 unfoldable pub export_data : Addressing → DataDirectory → Reading ExportTables
 export_data addressing d =
-    at_address addressing.offset d.virtual_address
-    (λ p. export_record_at p >>= λ t. fitting t >>= export_tables addressing d)
+    offset_at addressing.offset d.virtual_address
+    >>= (λ p. up_to (addressing.end d.virtual_address) (export_record_at p)
+    >>= λ t. fitting t >>= export_tables addressing d)
 
 -- ---- the exports
 
@@ -76,7 +76,7 @@ export_data addressing d =
 abbrev pub reexport_of : Addressing → ExportAddressTableEntry → Reading (Option Forwarder)
 reexport_of addressing (variant.ExportRVA rva) = given None
 reexport_of addressing (variant.ForwarderRVA rva) =
-    mapped (λ f. Some f) (at_address addressing.offset rva (forwarder_within addressing.longest))
+    mapped (λ f. Some f) (at_address addressing rva (forwarder_within addressing.longest))
 
 -- the row of a name pointer and an address; a name that can't be read is left out of it
 unfoldable pub row_of : Addressing → ℕ → ExportAddressTableEntry → Reading ExportRow

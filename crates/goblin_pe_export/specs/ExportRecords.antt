@@ -4,6 +4,7 @@ use Rattle.std.specs.Prelude.{ℕ, ◌+◌, ◌&&◌, nat_le, nat_lt, if◌then�
 use Rattle.std.specs.Prelude.{None, Option, Some, Vec, ◌*◌, ◌-◌, ◌/◌, length, map, min, option_map}
 use Rattle.std.specs.Prelude.{slice_range}
 use Rattle.std.specs.Global.{Global}
+use Rattle.goblin_base.specs.Parts.{bytes_in}
 use Rattle.goblin_base.specs.declared.endian.Endian.{Endian}
 use Rattle.goblin_base.specs.{declared.endian.Endian.TheVariants.Little, Bytes.number}
 use Rattle.goblin_base.specs.{Record.FieldValue, Record.uint, Tables.Format, Tables.records_in}
@@ -98,9 +99,9 @@ abbrev pub tables_in : TablesInFile → ExportTables
 tables_in t = record {
   name = option_map (λ s. s.now) t.name;
   export_directory_table = t.export_directory_table;
-  export_name_pointer_table = entries_in name_pointers t.name_pointers.now;
-  export_ordinal_table = entries_in ordinals t.ordinals.now;
-  export_address_table = entries_in (addresses t.directory) t.addresses.now;
+  export_name_pointer_table = entries_in name_pointers (bytes_in t.name_pointers);
+  export_ordinal_table = entries_in ordinals (bytes_in t.ordinals);
+  export_address_table = entries_in (addresses t.directory) (bytes_in t.addresses);
 }
 
 -- ---- the exports

@@ -7,9 +7,9 @@
 
 ghost use Rattle.std.specs.Prelude.{◌≡◌, IsOk, MatchOption, None, Option, Some, length};
 ghost use Rattle.std.specs.Prelude.{option_and_then, option_map};
-ghost use Rattle.goblin_base.specs.{Answers.GivesOrMemory, Reading.ReadsOrMemory};
+ghost use Rattle.goblin_base.specs.{Answers.GivesOrMemory, Parts.bytes_in, Reading.ReadsOrMemory};
 ghost use Rattle.goblin_pe_sect.specs.Options.{default_options};
-ghost use Rattle.goblin_pe_sect.specs.Addresses.{map_by, map_of, Addressing};
+ghost use Rattle.goblin_pe_sect.specs.Addresses.{map_by, map_of};
 ghost use Rattle.goblin_pe_export.specs.ExportReadings as reading;
 ghost use Rattle.goblin_pe_export.specs.{ExportRecords.numbered_by, ExportReadings.numbered_export};
 ghost use Rattle.goblin_pe_export.specs.Exports.{export_row, exports, rva_of};
@@ -17,7 +17,7 @@ ghost use Rattle.goblin_pe_export.specs.Forwarders.{forwarder_value, forwarder_w
 ghost use Rattle.readings.specs.Reads.{text_within};
 
 use goblin_base::room::make_room;
-use goblin_base::{Result, pread_str_within};
+use goblin_base::{MappedBytes, Result};
 use goblin_pe_sect::address_map::{AddressMap, Finder};
 use goblin_pe_sect::{DataDirectory, ParseOptions, SectionTable};
 use std::alloc::Global;
@@ -29,7 +29,7 @@ pub(crate) mod tables;
 
 pub(crate) use entries::{Entries, TablesInFile};
 pub use forwarder::Reexport;
-pub(crate) use tables::{SIZEOF_NAME_POINTER, SIZEOF_ORDINAL, room, test_counts};
+pub(crate) use tables::test_counts;
 pub use tables::{
     ExportAddressTable, ExportAddressTableEntry, ExportDirectoryTable, ExportNamePointerTable,
     ExportOrdinalTable, SIZEOF_EXPORT_ADDRESS_TABLE_ENTRY, SIZEOF_EXPORT_DIRECTORY_TABLE,
@@ -38,40 +38,45 @@ pub use tables::{
 // The text at an offset, cut at a limit if there is one. `None` if there is no offset, or no text
 // there.
 #[inline(always)]
-pub(crate) fn text_within(bytes: &[u8], offset: Option<usize>, longest: Option<u32>) -> Option<&str>
+pub(crate) fn text_within<'a>(
+    part: MappedBytes<'a>,
+    offset: Option<usize>,
+    longest: Option<u32>,
+) -> Option<&'a str>
     ensures { option_map (λ s. s.now) result
-        ≡ option_and_then (λ p. (text_within longest p).value bytes.now) offset }
+        ≡ option_and_then (λ p. (text_within longest p).value (bytes_in part.entry)) offset }
 {
-    pread_str_within(bytes, offset?, longest).ok()
+    part.text_within(offset?, longest).ok()
 }
 
 // The forwarder at an offset, its text cut at a limit if there is one. `None` if there is no
 // offset, or no forwarder there.
 #[inline(always)]
-pub(crate) fn forwarder_within(
-    bytes: &[u8],
+fn forwarder_within(
+    part: MappedBytes<'_>,
     offset: Option<usize>,
     longest: Option<u32>,
 ) -> Option<Reexport<'_>>
     ensures { option_map forwarder_value result
-        ≡ option_and_then (λ p. (forwarder_within longest p).value bytes.now) offset }
+        ≡ option_and_then (λ p. (forwarder_within longest p).value (bytes_in part.entry)) offset }
 {
-    Reexport::parse_within(bytes, offset?, longest).ok()
+    Reexport::parse_in(part, offset?, longest).ok()
 }
 
 // The forwarder at an offset, in the form that `reexport_of` returns. This is not inlined, so a
 // loop over exports clears no room for a forwarder, since few exports are forwarders.
 #[inline(never)]
 fn forwarded_at(
-    bytes: &[u8],
+    part: MappedBytes<'_>,
     offset: Option<usize>,
     longest: Option<u32>,
 ) -> Option<Option<Reexport<'_>>>
-    ensures { option_map (option_map forwarder_value) result
+    ensures { let bytes = bytes_in part.entry in
+        option_map (option_map forwarder_value) result
         ≡ option_map (λ f. Some f)
-        (option_and_then (λ p. (forwarder_within longest p).value bytes.now) offset) }
+        (option_and_then (λ p. (forwarder_within longest p).value bytes) offset) }
 {
-    let forwarder = forwarder_within(bytes, offset, longest)?;
+    let forwarder = forwarder_within(part, offset, longest)?;
     Some(Some(forwarder))
 }
 
@@ -84,22 +89,24 @@ fn rva_of(address: ExportAddressTableEntry) -> u32
     }
 }
 
-// What an entry of the address table refers to in another library. `offset` is the file offset of
-// its RVA. The result is `Some(None)` if the entry is not a forwarder, and `None` if it is one that
-// cannot be read.
+// What an entry of the address table refers to in another library. The result is `Some(None)` if
+// the entry is not a forwarder, and `None` if it is one that cannot be read.
 fn reexport_of<'a>(
     bytes: &'a [u8],
     address: ExportAddressTableEntry,
-    offset: Option<usize>,
-    longest: Option<u32>,
+    finder: &mut Finder<'_>,
 ) -> Option<Option<Reexport<'a>>>
-    ensures { (m : Addressing) → m.offset (rva_of address) ≡ offset → m.longest ≡ longest
-        → option_map (option_map forwarder_value) result
-        ≡ (reading.reexport_of m address).value bytes.now }
+    ensures value { let m = map_of finder.old in
+        option_map (option_map forwarder_value) result
+        ≡ (reading.reexport_of m.addressing address).value bytes.now }
+    ensures same { finder.new ≡ finder.old }
 {
     match address {
         ExportAddressTableEntry::ExportRVA(_) => Some(None),
-        ExportAddressTableEntry::ForwarderRVA(_) => forwarded_at(bytes, offset, longest),
+        ExportAddressTableEntry::ForwarderRVA(rva) => {
+            let (part, offset) = finder.part_of(bytes, rva);
+            forwarded_at(part, offset, finder.longest_name())
+        }
     }
 }
 
@@ -290,9 +297,9 @@ impl<'a> Export<'a> {
     {
         let rva = rva_of(address);
         let offset = finder.offset_of(rva);
-        let longest = finder.longest_name();
-        let name = text_within(bytes, finder.offset_of_name(pointer), longest);
-        let reexport = reexport_of(bytes, address, offset, longest)?;
+        let (part, place) = finder.part_of_name(bytes, pointer);
+        let name = text_within(part, place, finder.longest_name());
+        let reexport = reexport_of(bytes, address, finder)?;
         Some(Export {
             name,
             offset,

@@ -6,6 +6,7 @@ use Rattle.std.proofs.lemmas.List.{length-append, length-map}
 use Rattle.std.proofs.{lemmas.List.FromFn.length-range_with_len, lemmas.Nat.le-div}
 use Rattle.std.proofs.lemmas.List.Sums.{sum_by-append, sum_by_more}
 use Rattle.goblin_base.specs.{Answers.◌>>=◌, Answers.all_of, Reading.Reading}
+use Rattle.goblin_base.specs.declared.mapped.MappedEnd.{MappedEnd}
 use Rattle.goblin_base.specs.Tables.{Format, SlotFormat, each_below, ends_table, least, or_left_out, slot_at, slot_place, slot_table, stop}
 use Rattle.goblin_base.proofs.Below.{join-parts, least-before}
 use Rattle.goblin_base.proofs.{Records.record_at-some, Kept.without_test, TextEnds.cond_some_by}
@@ -77,11 +78,11 @@ left_out-or strict (Some x) xs Holds none one e = subst Holds (same_value (x ∷
 left_out-or true None xs Holds none one e = absurd cc
 left_out-or false None xs Holds none one e = subst Holds (same_value [] xs e) none
 
-kept_name-few : (strict : Bool) (longest : Option ℕ) (bytes : List ℕ) (rva : ℕ) (place : Option ℕ)
-    (xs : List LookupEntry) → (reading.kept_name strict longest rva place).value bytes ≡ Some xs
+kept_name-few : (strict : Bool) (longest : Option ℕ) (bytes : List ℕ) (rva : ℕ) (end : Option MappedEnd) (place : Option ℕ)
+    (xs : List LookupEntry) → (reading.kept_name strict longest rva end place).value bytes ≡ Some xs
     → length xs ≤ 1
-kept_name-few strict longest bytes rva None xs e = omega (arith, ap length (same_value [] xs e))
-kept_name-few strict longest bytes rva (Some p) xs e =
+kept_name-few strict longest bytes rva end None xs e = omega (arith, ap length (same_value [] xs e))
+kept_name-few strict longest bytes rva end (Some p) xs e =
     left_out-or strict _ xs (λ xs. length xs ≤ 1) (omega arith) (λ x is. omega arith) e
 
 one_or : (test : Bool) (x : LookupEntry) (other : Reading (List LookupEntry)) (bytes : List ℕ)
@@ -96,8 +97,8 @@ pub kept_entry-few : (strict : Bool) (addressing : Addressing) (bytes : List ℕ
 unfolding reading.kept_entry
 kept_entry-few strict addressing bytes entry xs e =
     one_or entry.is_ordinal (ByOrdinal entry.ordinal)
-    (reading.kept_name strict addressing.longest entry.rva (addressing.offset entry.rva)) bytes xs
-    (kept_name-few strict addressing.longest bytes entry.rva (addressing.offset entry.rva) xs) e
+    (reading.kept_name strict addressing.longest entry.rva (addressing.end entry.rva) (addressing.offset entry.rva)) bytes xs
+    (kept_name-few strict addressing.longest bytes entry.rva (addressing.end entry.rva) (addressing.offset entry.rva) xs) e
 
 -- the libraries of import data: none, or those of the directory at the offset of its address
 module _ (strict : Bool) (format : Format EntryValue) (addressing : Addressing) (bytes : List ℕ)

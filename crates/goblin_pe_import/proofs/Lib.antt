@@ -2,6 +2,7 @@ pub mod ImportBound
 pub mod ImportDirectoryRoundTrip
 pub mod Imports
 pub mod LibraryNames
+pub mod HintNames
 mod Listed
 pub mod ListedImports
 pub mod LibraryIndexes

@@ -92,7 +92,7 @@ module _ (strict : Bool) (format : Format EntryValue) (addressing : Addressing)
         → IsCause start e
     by_cause entry r e fault =
         h.cause e
-        (cause-slot slots (kept_entry strict addressing) bytes strict (lookup_entry_at format) wide
+        (cause-slot None slots (kept_entry strict addressing) bytes strict (lookup_entry_at format) wide
         place entry r e fault)
 
     pub rest-end : (entry : Option EntryValue) → reads slots bytes place ≡ entry

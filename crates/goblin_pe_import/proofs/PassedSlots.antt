@@ -94,7 +94,7 @@ module _ (strict : Bool) (format : Format EntryValue) (addressing : Addressing) 
   abbrev ahead : Count → Option ℕ → ℕ
   ahead = entries_ahead strict format addressing bytes
 
-  -- an entry of which something is kept leads somewhere
+  -- an entry that something is kept of leads somewhere
   mapped-kept : (v : EntryValue) (x : LookupEntry)
       → (kept_entry strict addressing v).value bytes ≡ Some (x ∷ [])
       → is_unmapped addressing v ≡ false
@@ -103,7 +103,7 @@ module _ (strict : Bool) (format : Format EntryValue) (addressing : Addressing) 
     where
       by : (is_ordinal : Bool) (p : Option ℕ)
           → (cond is_ordinal (given (ByOrdinal v.ordinal ∷ []))
-          (kept_name strict addressing.longest v.rva p)).value bytes
+          (kept_name strict addressing.longest v.rva (addressing.end v.rva) p)).value bytes
           ≡ Some (x ∷ [])
           → (not is_ordinal && is_none p) ≡ false
       by true p is = refl
@@ -138,7 +138,7 @@ module _ (strict : Bool) (format : Format EntryValue) (addressing : Addressing) 
               (found (Some entry) at)
           none Unmapped = mapped-kept v (entry_model entry) (found (Some entry) at)
 
-      -- an entry of which nothing is kept counts
+      -- an entry that nothing is kept of counts
       pub passed-skip : kept ≡ None → (k : Count) (now new : Passed)
           → new.skipped ≡ risen now.skipped (from_bool (not (is_unmapped addressing v)))
           → new.unmapped ≡ risen now.unmapped (from_bool (is_unmapped addressing v))

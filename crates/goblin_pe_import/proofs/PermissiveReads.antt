@@ -5,11 +5,13 @@ use Rattle.goblin_base.specs.Tables as tables
 use Rattle.goblin_base.specs.Tables.{Format, SlotFormat, ends_table, made_of, slot_at, slot_table, stop}
 use Rattle.goblin_base.proofs.Below.{each_below-there, least-before}
 use Rattle.readings.specs.Reads.{given, in_its_place, text_within, with_slots}
-use Rattle.readings.proofs.Modes.{repeats-beside, repeats-mapped, repeats-or_else, repeats-or_left_out, repeats-pick, repeats-same, repeats-table, repeats-table_with_slots}
+use Rattle.readings.specs.Reads as reads
+use Rattle.goblin_base.specs.declared.mapped.MappedEnd.{MappedEnd}
+use Rattle.readings.proofs.Modes.{repeats-beside, repeats-mapped, repeats-or_else, repeats-or_left_out, repeats-pick, repeats-same, repeats-table, repeats-table_with_slots, repeats-up_to}
 use Rattle.goblin_pe_import.specs.ImportRecords.{address_table_rva, import_slots, lookup_offset}
 use Rattle.goblin_pe_import.specs.ImportLookup.{EntryValue, entry_slots}
 use Rattle.goblin_pe_import.specs.ImportEntries.LookupEntry.{ByOrdinal}
-use Rattle.goblin_pe_sect.specs.AddressReadings.{at_address, name_at}
+use Rattle.goblin_pe_sect.specs.AddressReadings.{name_at, offset_at}
 use Rattle.goblin_pe_sect.specs.Addresses.{Addressing}
 use Rattle.goblin_pe_import.specs.ImportReadings.{kept_library, libraries_at, import_record_at, library_of, lookup_if, numbered_libraries_at}
 use Rattle.goblin_pe_import.specs.LookupReadings.{address_table, hint_name, kept_entry, kept_name, lookup_entry_at, lookup_table, lookup_with_slots}
@@ -23,10 +25,11 @@ hint_repeats longest p =
     (repeats-beside _ _ _ _ (repeats-same _)
     (repeats-or_else [] _ _ (repeats-same (text_within longest (p + 2)))))
 
-name_repeats : (longest : Option ℕ) (rva : ℕ) (place : Option ℕ)
-    → Repeats (kept_name true longest rva place) (kept_name false longest rva place)
-name_repeats longest rva None = repeats-same _
-name_repeats longest rva (Some p) = repeats-or_left_out _ _ (repeats-mapped _ _ _ (hint_repeats longest p))
+name_repeats : (longest : Option ℕ) (rva : ℕ) (end : Option MappedEnd) (place : Option ℕ)
+    → Repeats (kept_name true longest rva end place) (kept_name false longest rva end place)
+name_repeats longest rva end None = repeats-same _
+name_repeats longest rva end (Some p) =
+    repeats-or_left_out _ _ (repeats-mapped _ _ _ (repeats-up_to end _ _ (hint_repeats longest p)))
 
 module _ (addressing : Addressing) where
   entry_repeats : (entry : EntryValue)
@@ -34,20 +37,20 @@ module _ (addressing : Addressing) where
   unfolding kept_entry
   entry_repeats entry =
       repeats-pick entry.is_ordinal _ _ _ _ (repeats-same (given (ByOrdinal entry.ordinal ∷ [])))
-      (name_repeats addressing.longest entry.rva (addressing.offset entry.rva))
+      (name_repeats addressing.longest entry.rva (addressing.end entry.rva) (addressing.offset entry.rva))
 
   module _ (format : Format EntryValue) where
     pub lookup_table-repeats : (o : ℕ)
         → Repeats (lookup_table true format addressing o) (lookup_table false format addressing o)
     lookup_table-repeats o =
-        repeats-table (entry_slots format) (lookup_entry_at format) (lookup_entry_at format) _ _ o
+        repeats-table None (entry_slots format) (lookup_entry_at format) (lookup_entry_at format) _ _ o
         entry_repeats
 
     with_slots_repeat : (o : ℕ)
         → Repeats (lookup_with_slots true format addressing o)
         (lookup_with_slots false format addressing o)
     with_slots_repeat o =
-        repeats-table_with_slots (entry_slots format) (lookup_entry_at format)
+        repeats-table_with_slots None (entry_slots format) (lookup_entry_at format)
         (lookup_entry_at format) _ _ o entry_repeats
 
     lookup_if_repeats : (place : Option ℕ)
@@ -65,12 +68,12 @@ module _ (addressing : Addressing) where
         (repeats-beside _ _ _ _
         (repeats-or_else [] _ _ (repeats-same (name_at addressing r.name_rva)))
         (lookup_if_repeats (lookup_offset addressing r)))
-        (repeats-same (at_address addressing.offset (address_table_rva r) (address_table format))))
+        (repeats-same (reads.◌>>=◌ (offset_at addressing.offset (address_table_rva r)) (address_table format))))
 
     pub libraries_at-repeats : (o : ℕ)
         → Repeats (libraries_at true format addressing o) (libraries_at false format addressing o)
     libraries_at-repeats o =
-        repeats-table import_slots import_record_at import_record_at (kept_library true format addressing)
+        repeats-table None import_slots import_record_at import_record_at (kept_library true format addressing)
         (kept_library false format addressing) o
         (λ r. repeats-or_left_out _ _ (library_repeats r))
 
@@ -80,7 +83,7 @@ module _ (addressing : Addressing) where
     unfolding numbered_libraries_at
     numbered_libraries_at-repeats o =
         repeats-mapped _ _ _
-        (repeats-table_with_slots import_slots import_record_at import_record_at
+        (repeats-table_with_slots None import_slots import_record_at import_record_at
         (kept_library true format addressing) (kept_library false format addressing) o
         (λ r. repeats-or_left_out _ _ (library_repeats r)))
 
@@ -97,13 +100,13 @@ unfolding kept_entry
 entry-there addressing entry bytes = by entry.is_ordinal
   where
     name : (place : Option ℕ)
-        → IsSome ((kept_name false addressing.longest entry.rva place).value bytes)
+        → IsSome ((kept_name false addressing.longest entry.rva (addressing.end entry.rva) place).value bytes)
     name None = refl
     name (Some p) = left-there _
 
     by : (test : Bool)
         → IsSome ((cond test (given (ByOrdinal entry.ordinal ∷ []))
-        (kept_name false addressing.longest entry.rva (addressing.offset entry.rva))).value bytes)
+        (kept_name false addressing.longest entry.rva (addressing.end entry.rva) (addressing.offset entry.rva))).value bytes)
     by true = refl
     by false = name (addressing.offset entry.rva)
 

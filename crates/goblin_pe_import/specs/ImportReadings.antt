@@ -6,7 +6,7 @@ use Rattle.goblin_base.specs.{declared.error.CauseOf.TheVariants.ImportRecordEnd
 use Rattle.goblin_base.specs.Tables.{Format}
 use Rattle.readings.specs.Reads.{◌>>=◌, ◌beside◌, because, given, mapped, or_else, or_left_out}
 use Rattle.readings.specs.Reads.{record_at, table, table_with_slots}
-use Rattle.goblin_pe_sect.specs.AddressReadings.{at_address, name_at, offset_at}
+use Rattle.goblin_pe_sect.specs.AddressReadings.{name_at, offset_at}
 use Rattle.goblin_pe_sect.specs.Addresses.{Addressing}
 use Rattle.goblin_pe_import.specs.ImportEntries.{EntryValue, LookupEntry}
 use Rattle.goblin_pe_import.specs.ImportRecords.{ImportedLibrary, address_table_rva, import_record}
@@ -70,7 +70,7 @@ module _ (strict : Bool) (format : Format EntryValue) (addressing : Addressing) 
       })
       (or_else strict [] (name_at addressing r.name_rva)
       beside lookup_if (lookup_offset addressing r)
-      beside at_address addressing.offset (address_table_rva r) (address_table format))
+      beside (offset_at addressing.offset (address_table_rva r) >>= address_table format))
 
   -- the library of a descriptor; permissive mode leaves out a descriptor that leads to none
   abbrev pub kept_library : ImportDirectoryEntry → Reading (List ImportedLibrary)
@@ -80,11 +80,11 @@ module _ (strict : Bool) (format : Format EntryValue) (addressing : Addressing) 
   -- not in the file or ends the directory. Strict mode needs that descriptor, and a library for
   -- each of those before it. Permissive mode leaves out descriptors that lead to none.
   abbrev pub libraries_at : ℕ → Reading (List ImportedLibrary)
-  libraries_at o = table import_slots strict import_record_at kept_library o
+  libraries_at o = table None import_slots strict import_record_at kept_library o
 
   -- the libraries of the directory at an offset, and the indexes of the descriptors that are kept
   abbrev pub indexed_at : ℕ → Reading (List ImportedLibrary × List ℕ)
-  indexed_at o = table_with_slots import_slots strict import_record_at kept_library o
+  indexed_at o = table_with_slots None import_slots strict import_record_at kept_library o
 
   -- the same libraries, each with the index of its descriptor
   unfoldable pub numbered_libraries_at : ℕ → Reading (List NumberedLibrary)

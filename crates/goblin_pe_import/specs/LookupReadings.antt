@@ -5,6 +5,8 @@ use Rattle.goblin_base.specs.Tables.{Format}
 use Rattle.goblin_base.specs.declared.error.CauseOf.TheVariants.{HintEntry, LookupEnd}
 use Rattle.readings.specs.Reads.{◌beside◌, because, given, mapped, number_at, or_else}
 use Rattle.readings.specs.Reads.{or_left_out, record_at, table, table_with_slots, text_within}
+use Rattle.readings.specs.Reads.{up_to}
+use Rattle.goblin_base.specs.declared.mapped.MappedEnd.{MappedEnd}
 use Rattle.goblin_pe_import.specs.ImportEntries.{EntryValue, HintName, LookupEntry, entry_slots}
 use Rattle.goblin_pe_import.specs.ImportEntries.LookupEntry.{ByName, ByOrdinal}
 use Rattle.goblin_pe_sect.specs.Addresses.{Addressing}
@@ -21,18 +23,20 @@ hint_name strict longest p =
     (because (HintEntry p) (number_at Little 2 p)
     beside or_else strict [] (text_within longest (p + 2)))
 
--- What is kept of an entry whose address has this offset: the hint and the name there, up to a
--- limit. Nothing is kept if the address has no offset.
-abbrev pub kept_name : Bool → Option ℕ → ℕ → Option ℕ → Reading (List LookupEntry)
-kept_name strict longest rva None = given []
-kept_name strict longest rva (Some p) =
-    or_left_out strict (mapped (ByName rva) (hint_name strict longest p))
+-- What is kept of an entry whose address has this offset: the hint and the name there, of what is
+-- mapped up to an end, and up to a limit. Nothing is kept if the address has no offset.
+abbrev pub kept_name : Bool → Option ℕ → ℕ → Option MappedEnd → Option ℕ
+    → Reading (List LookupEntry)
+kept_name strict longest rva end None = given []
+kept_name strict longest rva end (Some p) =
+    or_left_out strict (mapped (ByName rva) (up_to end (hint_name strict longest p)))
 
 -- what is kept of an entry: one entry, or nothing
 unfoldable pub kept_entry : Bool → Addressing → EntryValue → Reading (List LookupEntry)
 kept_entry strict addressing entry =
     cond entry.is_ordinal (given (ByOrdinal entry.ordinal ∷ []))
-    (kept_name strict addressing.longest entry.rva (addressing.offset entry.rva))
+    (kept_name strict addressing.longest entry.rva (addressing.end entry.rva)
+    (addressing.offset entry.rva))
 
 -- the entry of a lookup table at an offset
 abbrev pub lookup_entry_at : Format EntryValue → ℕ → Reading EntryValue
@@ -44,14 +48,14 @@ lookup_entry_at format p = because (LookupEnd p) (entry_value_at format p)
 abbrev pub lookup_with_slots : Bool → Format EntryValue → Addressing → ℕ
     → Reading (List LookupEntry × List ℕ)
 lookup_with_slots strict format addressing o =
-    table_with_slots (entry_slots format) strict (lookup_entry_at format)
+    table_with_slots None (entry_slots format) strict (lookup_entry_at format)
     (kept_entry strict addressing) o
 
 -- only the lookup table at an offset, without the indexes of the slots
 abbrev pub lookup_table : Bool → Format EntryValue → Addressing → ℕ
     → Reading (List LookupEntry)
 lookup_table strict format addressing o =
-    table (entry_slots format) strict (lookup_entry_at format) (kept_entry strict addressing) o
+    table None (entry_slots format) strict (lookup_entry_at format) (kept_entry strict addressing) o
 
 -- an entry's number, which an address table always keeps
 abbrev pub entry_number : EntryValue → Reading (List ℕ)
@@ -60,4 +64,5 @@ entry_number entry = given (entry.number ∷ [])
 -- The address table at an offset: the numbers before the first slot that is not in the file or has
 -- number 0. That slot is needed in both modes.
 abbrev pub address_table : Format EntryValue → ℕ → Reading (List ℕ)
-address_table format o = table (entry_slots format) true (entry_value_at format) entry_number o
+address_table format o =
+    table None (entry_slots format) true (entry_value_at format) entry_number o

@@ -14,6 +14,7 @@ pub mod InOrder
 pub mod Mapped
 pub mod Multiples
 pub mod PermissiveReads
+pub mod Places
 pub mod RelocationRecords
 pub mod RelocationsRoundTrip
 pub mod Reordered

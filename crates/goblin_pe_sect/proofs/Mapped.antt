@@ -5,7 +5,7 @@ use Rattle.std.proofs.lemmas.Bool.Decides.{nat_tests}
 use lib.Count.{ones}
 use Rattle.goblin_pe_sect.specs.{declared.options.Mapping.Mapping, declared.options.View.View}
 use Rattle.goblin_pe_sect.specs.{SectionTable.Section, Multiples.least_multiple}
-use Rattle.goblin_pe_sect.specs.Mapping.{read_size, is_in_window, offset_in, file_offset, InWindow, IsFirstWindow, MapsTo, MapsNowhere, raw_begin, window_end}
+use Rattle.goblin_pe_sect.specs.Mapping.{read_size, is_in_window, offset_in, file_offset, InWindow, IsFirstWindow, MapsTo, MapsNowhere, blocks_size, pages_size, raw_begin, window_end}
 use Rattle.goblin_pe_sect.proofs.Multiples.{up_near}
 use Rattle.goblin_base.proofs.First.{found_at_first, found_passes, fails_before, none_passes, first_is_found}
 
@@ -32,6 +32,26 @@ unfolding read_size
 window_below view s alignment =
     let most : read_size view s alignment ≤ least_multiple 4096 s.size_of_raw_data = read-bounded (s.size_of_raw_data == 0) (s.virtual_size == 0) _ _ _ _ (omega arith) in
     omega (arith, most)
+
+pages-bounded : (b c : Bool) (x y z : ℕ) → cond b 0 (cond c (min x y) (min (min x y) z)) ≤ cond c y z
+pages-bounded true true x y z = omega arith
+pages-bounded true false x y z = omega arith
+pages-bounded false true x y z = omega arith
+pages-bounded false false x y z = omega arith
+
+pages-by : (c : Bool) (x y : ℕ) → least_multiple 4096 (cond c x y) ≡ cond c (least_multiple 4096 x) (least_multiple 4096 y)
+pages-by true x y = refl
+pages-by false x y = refl
+
+-- nor past its pages in memory
+pub within_pages : (view : View) (s : Section) (alignment : ℕ) → read_size view s alignment ≤ pages_size s
+unfolding read_size
+within_pages view s alignment =
+    omega (
+      arith,
+      pages-bounded (s.size_of_raw_data == 0) (s.virtual_size == 0) (blocks_size view alignment s.pointer_to_raw_data s.size_of_raw_data) (least_multiple 4096 s.size_of_raw_data) (least_multiple 4096 s.virtual_size),
+      pages-by (s.virtual_size == 0) s.size_of_raw_data s.virtual_size,
+    )
 
 -- an address in a window lies between its start and its end
 pub in_window : (view : View) (alignment rva : ℕ) (s : Section) → is_in_window view alignment rva s ≡ true → InWindow view alignment rva s

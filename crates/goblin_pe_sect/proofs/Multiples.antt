@@ -1,5 +1,5 @@
 -- The nearest multiples by division.
-use Rattle.std.proofs.Common.{◌≡◌, ℕ, zero, suc, ◌+◌, ◌-◌, ◌*◌, ◌/◌, ◌%◌, ◌<◌, ◌≤◌, Bool, true, false, ◌&&◌, nat_le, refl, ap, sym, ◌∙◌, inl, inr, arith, rules, tests}
+use Rattle.std.proofs.Common.{◌≡◌, ℕ, zero, suc, ◌+◌, ◌-◌, ◌*◌, ◌/◌, ◌%◌, ◌^◌, ◌<◌, ◌≤◌, Bool, true, false, ◌&&◌, nat_le, refl, ap, sym, ◌∙◌, inl, inr, arith, rules, tests}
 use Rattle.std.proofs.lemmas.Bool.{cases_lt, cases_Bool}
 use Rattle.std.proofs.{lemmas.Bool.Decides.nat_tests, lemmas.Nat.mod_below}
 use Prim.Native.Nat.{◌∣◌}
@@ -75,3 +75,8 @@ up step x some =
 -- the least multiple from a number on is less than one step from it
 pub up_near : (step x : ℕ) → 0 < step → (x ≤ least_multiple step x) × (least_multiple step x < x + step)
 up_near step x some = omega (arith, up step x some, rounding step x some)
+
+-- the size of pages for a number of 32 bits
+pub pages_fit : (n : ℕ) → n < 2 ^ 32 → least_multiple 4096 n ≤ 2 ^ 32
+pages_fit n small =
+    omega (arith, small, up 4096 n (omega arith), div-add-mod' (n + (4096 - 1)) 4096)

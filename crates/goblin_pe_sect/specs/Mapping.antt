@@ -6,6 +6,8 @@ use Rattle.std.specs.Int.{is_power_of_two}
 use Rattle.goblin_base.specs.declared.error.CauseOf.TheVariants.{Message}
 use Rattle.goblin_base.specs.declared.error.ErrorOf.{ErrorOf}
 use Rattle.goblin_base.specs.declared.error.ErrorOf.TheVariants.{Malformed}
+use Rattle.goblin_base.specs.{declared.mapped.MappedEnd.MappedEnd, Parts.end_or_none}
+use Rattle.goblin_pe_sect.specs.declared.address_map.run.Place.{Place}
 use Rattle.goblin_pe_sect.specs.declared.options.Mapping.{Mapping}
 use Rattle.goblin_pe_sect.specs.declared.options.RawPointerRule.{RawPointerRule}
 use Rattle.goblin_pe_sect.specs.{declared.options.View.View, SectionTable.Section}
@@ -96,6 +98,58 @@ file_offset mapping sections alignment rva =
 abbrev pub section_at : View → ℕ → ℕ → List Section → Option Section
 section_at view alignment rva sections =
     if is_power_of_two alignment then find (is_in_window view alignment rva) sections else None
+
+-- ---- where the bytes at an address end
+
+-- where a read at an address ends: in a loader's view, where the window does; in goblin's view, a
+-- read goes on to the end of the file
+abbrev pub ends_in : View → Option MappedEnd → Option MappedEnd
+ends_in Sections end = None
+ends_in LoadedSections end = end
+ends_in Loader end = end
+
+-- the same of all addresses
+abbrev pub all_ends_in : View → (ℕ → Option MappedEnd) → ℕ → Option MappedEnd
+all_ends_in Sections end_of = λ rva. None
+all_ends_in LoadedSections end_of = end_of
+all_ends_in Loader end_of = end_of
+
+-- how many bytes a section has in memory, in whole pages: as the virtual size says, or the raw size
+-- if that is 0
+abbrev pub pages_size : Section → ℕ
+pages_size s =
+    least_multiple 4096 (if s.virtual_size == 0 then s.size_of_raw_data else s.virtual_size)
+
+-- where the bytes that a section's window maps end in the file, and the zeros that follow them in
+-- memory, up to the end of the section's last page
+abbrev pub mapped_end : Mapping → ℕ → Section → MappedEnd
+mapped_end mapping alignment s = record {
+  last = raw_begin mapping s + read_size mapping.view s alignment - 1;
+  zeros = pages_size s - read_size mapping.view s alignment;
+}
+
+-- that of the first section whose window holds the address; there is none if addresses are not
+-- mapped
+unfoldable pub window_bytes_end : Mapping → List Section → ℕ → ℕ → Option MappedEnd
+window_bytes_end mapping sections alignment rva =
+    if mapping.resolve_rva
+    then option_map (mapped_end mapping alignment) (section_at mapping.view alignment rva sections)
+    else None
+
+-- where a read at an address ends, if it ends before the file does
+abbrev pub file_end : Mapping → List Section → ℕ → ℕ → Option MappedEnd
+file_end mapping sections alignment rva =
+    ends_in mapping.view (window_bytes_end mapping sections alignment rva)
+
+-- an offset, and where a read there ends
+abbrev pub place_by : (ℕ → Option ℕ) → (ℕ → Option MappedEnd) → ℕ → Option Place
+place_by offset_of end_of rva =
+    option_map (λ p. record { offset = p; end = end_or_none (end_of rva) }) (offset_of rva)
+
+-- the place of an address in the file
+abbrev pub file_place : Mapping → List Section → ℕ → ℕ → Option Place
+file_place mapping sections alignment =
+    place_by (file_offset mapping sections alignment) (file_end mapping sections alignment)
 
 -- ---- what holds of the file offset of an address
 

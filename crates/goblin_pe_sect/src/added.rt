@@ -3,5 +3,5 @@
 mod record_map;
 mod rva;
 
-pub use record_map::{MOST_WITHOUT_INDEX, offset_by_records};
+pub use record_map::{MOST_WITHOUT_INDEX, offset_by_records, part_by_records};
 pub use rva::rva_in;

@@ -1,16 +1,17 @@
 //! The map from addresses (RVAs) to file offsets, by the windows of the sections.
 
-ghost use Rattle.std.specs.Prelude.{◌≡◌, ◌^◌, ◌<◌, ℕ, IfErr, IfOk, ◌⊎◌, IfSome, Some};
-ghost use Rattle.goblin_base.specs.Answers.{GivesOrMemory, IsMemory};
+ghost use Rattle.std.specs.Prelude.{◌≡◌, ◌^◌, ◌<◌, ℕ, IfErr, IfOk, ◌⊎◌, IfSome, Some, option_map};
+ghost use Rattle.goblin_base.specs.{Answers.GivesOrMemory, Answers.IsMemory, Parts.bytes_in};
+ghost use Rattle.goblin_base.specs.Parts.{in_memory, stored, stored_in};
 ghost use Rattle.goblin_pe_sect.specs.{Mapping.file_offset, WindowIndex.located};
 ghost use Rattle.goblin_pe_sect.specs.Addresses.{IsIndexed, KeepsWindowsAlone, reads_strictly};
-ghost use Rattle.goblin_pe_sect.specs.Addresses.{map_by, map_of, offset_of};
-ghost use Rattle.goblin_pe_sect.specs.Runs.{IsRun, offset_in_run};
+ghost use Rattle.goblin_pe_sect.specs.Addresses.{map_by, map_of, offset_of, place_of};
+ghost use Rattle.goblin_pe_sect.specs.Runs.{IsRun, place_in_run};
 
 use crate::options::{Mapping, ParseMode, ParseOptions, View};
 use crate::section_table::SectionTable;
 use crate::windows::WindowIndex;
-use goblin_base::ResultOf;
+use goblin_base::{MappedBytes, MappedEnd, ResultOf};
 use std::alloc::Global;
 
 mod finder;
@@ -20,20 +21,19 @@ pub(crate) mod walk;
 
 pub use finder::Finder;
 pub use records::{MappedRecords, front_section};
-use run::Run;
+pub use run::Place;
+use run::{Run, part_at};
 use walk::find_in_records;
 
 // What an address map uses to find the window that holds an address.
 #[derive(Drop)]
 pub(crate) enum Windows<'s> {
     // The section headers, with the file's front if it is mapped, the view of their windows, and
-    // the file alignment. There are few sections, or the options or the alignment leave no window
-    // to find.
+    // the file alignment. The view is a loader's, or there are few sections, or the options or the
+    // alignment leave no window to find.
     Walked(MappedRecords<'s>, View, u32),
-    // The index of the sections' windows.
+    // The index of the sections' windows in goblin's view.
     Indexed(WindowIndex),
-    // The index of the windows of the sections and of the file's front.
-    IndexedWithFront(WindowIndex),
 }
 
 /// How addresses are mapped to file offsets, and how the bytes there are read. A map has the
@@ -41,10 +41,11 @@ pub(crate) enum Windows<'s> {
 ///
 /// Windows are found in one of two ways:
 ///
-/// - By an index. The sections may then be dropped.
-/// - By a walk over section headers in the file. A map of section headers does this if there are at
-///   most 96 of them. It also keeps the headers if there is no window to find, because the options
-///   say that addresses are offsets or the file alignment is not a power of two.
+/// - By an index, in goblin's view. The sections may then be dropped.
+/// - By a walk over section headers in the file. A map of section headers does this in the views of
+///   a loader, and in goblin's view if there are at most 96 of them. It also keeps the headers if
+///   there is no window to find, because the options say that addresses are offsets or the file
+///   alignment is not a power of two.
 #[derive(Drop)]
 pub struct AddressMap<'s> {
     pub(crate) opts: ParseOptions,
@@ -123,31 +124,54 @@ impl<'s> AddressMap<'s> {
     pub fn offset_of(&self, rva: u32) -> Option<usize>
         ensures { result ≡ offset_of (map_of self.now) rva }
     {
+        let place = self.place_of(rva)?;
+        Some(place.offset)
+    }
+
+    /// The place of the address `rva` in the file, or `None` if it has none.
+    pub fn place_of(&self, rva: u32) -> Option<Place>
+        ensures { result ≡ place_of (map_of self.now) rva }
+    {
         let mut run = Run::default();
         self.find_run(rva as usize, &mut run)
     }
 
-    // The file offset of an address. Sets `run` to a run of addresses around it, whose offsets then
+    /// What a read at an address sees, and its file offset, as [`Finder::part_of`] returns them.
+    #[tactic(auto, using(crate::proofs::Places::places))]
+    pub fn part_of<'a>(&self, bytes: &'a [u8], rva: u32) -> (MappedBytes<'a>, Option<usize>)
+        ensures part { let m = map_of self.now in
+            bytes_in result.0 ≡ in_memory (m.addressing.end rva) bytes.now }
+        ensures stored { let m = map_of self.now in
+            stored_in result.0 ≡ in_memory (option_map stored (m.addressing.end rva)) bytes.now }
+        ensures offset { result.1 ≡ offset_of (map_of self.now) rva }
+    {
+        part_at(bytes, self.place_of(rva))
+    }
+
+    // The place of an address. Sets `run` to a run of addresses around it, whose offsets then
     // need no walk. `run` may stay unchanged if no section owns the address, and always does with
     // an index. (`run` is an argument because a result of its size would cost more in loops that
     // seldom call this.)
     #[inline(never)]
-    pub(crate) fn find_run(&self, rva: usize, run: &mut Run) -> Option<usize>
-        requires is { IsRun (offset_of (map_of self.now)) run.old }
+    pub(crate) fn find_run(&self, rva: usize, run: &mut Run) -> Option<Place>
+        requires is { IsRun (place_of (map_of self.now)) run.old }
         requires small { rva < 2 ^ 32 }
-        ensures value { result ≡ offset_of (map_of self.now) rva }
-        ensures is { IsRun (offset_of (map_of self.now)) run.new }
+        ensures value { result ≡ place_of (map_of self.now) rva }
+        ensures is { IsRun (place_of (map_of self.now)) run.new }
         ensures walked { IsIndexed self.now → run.new ≡ run.old }
         ensures about { IfSome result
-            (λ p. IsIndexed self.now ⊎ (offset_in_run run.new rva ≡ Some p)) }
+            (λ p. IsIndexed self.now ⊎ (place_in_run run.new rva ≡ Some p)) }
     {
         match &self.windows {
             Windows::Walked(records, view, file_alignment) => {
                 let mapping = view.mapping(&self.opts);
                 find_in_records(*records, *file_alignment, mapping, rva, run)
             }
-            Windows::IndexedWithFront(_) if rva == 0 => None,
-            Windows::Indexed(index) | Windows::IndexedWithFront(index) => index.find(rva),
+            Windows::Indexed(index) => {
+                let offset = index.find(rva)?;
+                let end = MappedEnd::NONE;
+                Some(Place { offset, end })
+            }
         }
     }
 }

@@ -1,9 +1,12 @@
 //! How a PE file is read.
 
-ghost use Rattle.std.specs.Prelude.{◌≡◌};
+ghost use Rattle.std.specs.Prelude.{◌≡◌, Some};
+ghost use Rattle.goblin_base.specs.Parts.{end_or_none};
+ghost use Rattle.goblin_pe_sect.specs.Mapping.{ends_in};
 ghost use Rattle.goblin_pe_sect.specs.Options.{default_options, front_of, mapping_in};
 ghost use Rattle.goblin_pe_sect.specs.Options.{rule_by_alignment, te_options};
 
+use goblin_base::MappedEnd;
 pub use goblin_base::ParseMode;
 
 /// The rule for where the raw data of a section begins when addresses are mapped.
@@ -81,6 +84,18 @@ impl View {
         }
     }
 
+    /// Where a read of bytes that a window maps ends: at `end` in a loader's view, and at the end
+    /// of the file in goblin's.
+    #[inline(always)]
+    pub(crate) fn ends(self, end: MappedEnd) -> MappedEnd
+        ensures { result ≡ end_or_none (ends_in self (Some end)) }
+    {
+        match self {
+            View::Sections => MappedEnd::NONE,
+            View::LoadedSections | View::Loader => end,
+        }
+    }
+
     /// How addresses are mapped in this view, with these options.
     #[inline(always)]
     pub fn mapping(self, opts: &ParseOptions) -> Mapping
@@ -113,8 +128,7 @@ pub struct ParseOptions {
     /// the first damaged part. Permissive mode passes over damaged parts.
     ///
     /// In permissive mode, an import directory at file offset 0 is an empty list, whatever it
-    /// holds. The damage of a file says what strict mode would refuse, and how much permissive mode
-    /// leaves out.
+    /// holds. Walks over imports count what permissive mode leaves out.
     ///
     /// Some damage is refused in both modes, for example:
     ///

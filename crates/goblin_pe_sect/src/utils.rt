@@ -3,14 +3,14 @@
 //! Addresses are relative to the image's base (RVAs); offsets are file offsets. Both are in bytes.
 
 ghost use Rattle.std.specs.Prelude.{◌≡◌, ◌+◌, ◌^◌, ◌<◌, ◌≤◌, ◌↔◌, ℕ, IfSome, IsTrue};
-ghost use Rattle.std.specs.Prelude.{find, MatchOption};
+ghost use Rattle.std.specs.Prelude.{find, MatchOption, None};
 ghost use Rattle.std.specs.{Int.is_power_of_two, Option.option_copied, Option.option_map};
-ghost use Rattle.goblin_base.specs.{Answers.Answers, Reading.Reads};
+ghost use Rattle.goblin_base.specs.{Answers.Answers, Parts.bytes_in, Reading.Reads};
 ghost use Rattle.goblin_pe_sect.specs.Addresses.{Addressing, with_whole_names};
 ghost use Rattle.goblin_pe_sect.specs.AddressReadings.{data_at, name_or_none, text_at_address};
 ghost use Rattle.goblin_pe_sect.specs.Mapping.{blocks_size, read_size, window_end, window_of};
 ghost use Rattle.goblin_pe_sect.specs.Mapping.{file_offset, InWindow, is_in_window, MapsTo};
-ghost use Rattle.goblin_pe_sect.specs.Mapping.{offset_in, raw_begin, section_at};
+ghost use Rattle.goblin_pe_sect.specs.Mapping.{mapped_end, offset_in, raw_begin, section_at};
 ghost use Rattle.goblin_pe_sect.specs.Mapping.{MapsNowhere, OffsetsApart, IsMessage};
 ghost use Rattle.goblin_pe_sect.specs.Multiples.{greatest_multiple, least_multiple};
 ghost use Rattle.goblin_pe_sect.specs.Options.{default_options, is_strict, mapping_by};
@@ -20,8 +20,8 @@ use crate::data_directories::DataDirectory;
 use crate::options::{Mapping, ParseOptions, RawPointerRule, View};
 use crate::section_table::SectionTable;
 use goblin_base::{
-    Cause, CauseOf, Endian, Error, ErrorOf, Result, ResultOf, TryFromCtx, pread_str,
-    pread_str_within, pread_with,
+    Cause, CauseOf, Endian, Error, ErrorOf, MappedBytes, MappedEnd, Result, ResultOf, TryFromCtx,
+    pread_str, pread_with,
 };
 
 /// Whether the address `rva` lies in the range from `r1` up to, but not including, `r2`. The range
@@ -210,6 +210,31 @@ pub fn raw_begin(section: &SectionTable, mapping: Mapping) -> u32
     }
 }
 
+// Where the bytes that the section's window maps end in the file, and the zeros that follow them in
+// memory. `size` is the size of the window.
+#[inline(always)]
+#[tactic(auto, using(crate::proofs::Mapped::within_pages, crate::proofs::Multiples::pages_fit))]
+pub(crate) fn mapped_end(
+    section: &SectionTable,
+    file_alignment: u32,
+    mapping: Mapping,
+    size: usize,
+) -> MappedEnd
+    requires some { 0 < size }
+    requires is { size ≡ read_size mapping.view section.now file_alignment }
+    ensures { result ≡ mapped_end mapping file_alignment section.now }
+{
+    let in_memory = match section.virtual_size {
+        0 => section.size_of_raw_data,
+        virtual_size => virtual_size,
+    };
+    let pages = round_up(in_memory as usize, 4096);
+    MappedEnd {
+        last: raw_begin(section, mapping) as usize + size - 1,
+        zeros: (pages - size) as u32,
+    }
+}
+
 // The file offset of an address in the section's window.
 #[tactic(auto, using(crate::proofs::Mapped::read_size_le))]
 fn offset_in(rva: usize, section: &SectionTable, file_alignment: u32, mapping: Mapping) -> usize
@@ -349,25 +374,26 @@ pub fn safe_name_at<'a, 'e>(
         Reads (option_map (λ s. s.now)) result
         (name_or_none (is_strict opts.now.parse_mode) m rva) bytes.now }
 {
-    name_within(bytes, rva, offset, None, opts)
+    name_within(MappedBytes::whole(bytes), rva, offset, None, opts)
 }
 
 // The text at an offset, as `safe_name_at` returns it, but cut if there is a limit.
 #[inline(always)]
 #[tactic(auto, unfolding(crate::specs::AddressReadings::name_at))]
 pub(crate) fn name_within<'a, 'e>(
-    bytes: &'a [u8],
+    bytes: MappedBytes<'a>,
     rva: usize,
     offset: Option<usize>,
     longest: Option<u32>,
     opts: &ParseOptions,
 ) -> ResultOf<'e, Option<&'a str>>
-    ensures { let m : Addressing = record { offset = λ _. offset; longest = longest } in
+    ensures { let m : Addressing =
+        record { offset = λ _. offset; end = λ _. None; longest = longest } in
         Reads (option_map (λ s. s.now)) result
-        (name_or_none (is_strict opts.now.parse_mode) m rva) bytes.now }
+        (name_or_none (is_strict opts.now.parse_mode) m rva) (bytes_in bytes.entry) }
 {
     let cause = match offset {
-        Some(offset) => match pread_str_within(bytes, offset, longest) {
+        Some(offset) => match bytes.text_within(offset, longest) {
             Ok(name) => return Ok(Some(name)),
             Err(_) => CauseOf::NameRead(offset),
         },

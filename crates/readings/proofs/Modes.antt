@@ -1,11 +1,12 @@
 -- A read in strict mode, and again in permissive mode: once for each way to put readings together.
 use Rattle.std.proofs.Common.{ap, ◌∙◌, ◌≡◌, ℕ, Bool, true, false, cond, List, Option, Some, None, refl}
 use Rattle.goblin_base.specs.Reading.{Reading, Repeats, RepeatsAs}
+use Rattle.goblin_base.specs.{declared.mapped.MappedEnd.MappedEnd, Parts.in_memory}
 use Rattle.goblin_base.specs.Tables.{SlotFormat, kept_slots, slot_table}
 use Rattle.goblin_base.proofs.Kept.{Keeps, kept_slots-kept, or_left_out-kept, slot_table-kept}
 use Rattle.goblin_base.proofs.Steps.{mapped as mapped_value, same_value, step}
 use Rattle.readings.specs.Reads as reads
-use Rattle.readings.specs.Reads.{◌beside◌, in_its_place, mapped, or_else, or_left_out, pair_of, table, table_with_slots, with_slots}
+use Rattle.readings.specs.Reads.{◌beside◌, in_its_place, mapped, or_else, or_left_out, pair_of, table, table_with_slots, up_to, with_slots}
 
 -- ---- where something becomes of a value
 
@@ -80,18 +81,22 @@ repeats-or_left_out r s h = record {
   kept = λ bytes. or_left_out-kept (r.value bytes) (s.value bytes) (h.kept bytes);
 }
 
+pub repeats-up_to : {A : Type 0} (end : Option MappedEnd) (r s : Reading A) → Repeats r s
+    → Repeats (up_to end r) (up_to end s)
+repeats-up_to end r s h = record { kept = λ bytes x is. h.kept (in_memory end bytes) x is }
+
 pub repeats-pick : {A : Type 0} (test : Bool) (r s p q : Reading A) → Repeats r s
     → Repeats p q → Repeats (cond test r p) (cond test s q)
 repeats-pick true r s p q h k = h
 repeats-pick false r s p q h k = k
 
 -- a table whose end strict mode needs
-module _ {V A : Type 0} (slots : SlotFormat V) (missing other : ℕ → Reading V)
+module _ {V A : Type 0} (end : Option MappedEnd) (slots : SlotFormat V) (missing other : ℕ → Reading V)
     (piece again : V → Reading (List A)) (o : ℕ) (h : (v : V) → Repeats (piece v) (again v)) where
-  pub repeats-table : Repeats (table slots true missing piece o) (table slots false other again o)
+  pub repeats-table : Repeats (table end slots true missing piece o) (table end slots false other again o)
   repeats-table = record {
     kept = λ bytes.
-        slot_table-kept slots (λ v. (piece v).value bytes) (λ v. (again v).value bytes) bytes o
+        slot_table-kept slots (λ v. (piece v).value bytes) (λ v. (again v).value bytes) (in_memory end bytes) o
         (λ v. (h v).kept bytes);
   }
 
@@ -102,17 +107,17 @@ module _ {V A : Type 0} (slots : SlotFormat V) (missing other : ℕ → Reading 
   kept_with_slots bytes (Some xs) remade kept rekept same slots_same p e =
       rw (same xs refl, ← slots_same xs refl) e
 
-  pub repeats-table_with_slots : Repeats (table_with_slots slots true missing piece o)
-      (table_with_slots slots false other again o)
+  pub repeats-table_with_slots : Repeats (table_with_slots end slots true missing piece o)
+      (table_with_slots end slots false other again o)
   repeats-table_with_slots = record {
     kept = λ bytes.
-        kept_with_slots bytes (slot_table slots true (λ v. (piece v).value bytes) bytes o)
-        (slot_table slots false (λ v. (again v).value bytes) bytes o)
-        (kept_slots slots (λ v. (piece v).value bytes) bytes o)
-        (kept_slots slots (λ v. (again v).value bytes) bytes o)
-        (slot_table-kept slots (λ v. (piece v).value bytes) (λ v. (again v).value bytes) bytes o
+        kept_with_slots bytes (slot_table slots true (λ v. (piece v).value bytes) (in_memory end bytes) o)
+        (slot_table slots false (λ v. (again v).value bytes) (in_memory end bytes) o)
+        (kept_slots slots (λ v. (piece v).value bytes) (in_memory end bytes) o)
+        (kept_slots slots (λ v. (again v).value bytes) (in_memory end bytes) o)
+        (slot_table-kept slots (λ v. (piece v).value bytes) (λ v. (again v).value bytes) (in_memory end bytes) o
         (λ v. (h v).kept bytes))
         (λ xs is.
-        kept_slots-kept slots (λ v. (piece v).value bytes) (λ v. (again v).value bytes) bytes o xs
+        kept_slots-kept slots (λ v. (piece v).value bytes) (λ v. (again v).value bytes) (in_memory end bytes) o xs
         (λ v. (h v).kept bytes) is);
   }

@@ -2,6 +2,7 @@
 use Rattle.std.proofs.Common.{◌≡◌, ◌<◌, ◌≤◌, ◌+◌, ◌*◌, ℕ, zero, suc, Bool, true, false, List, [], ◌∷◌, ◌++◌, map, length, Option, Some, None, refl, sym, ap, subst, ◌∙◌, append-nil, append_assoc, arith, if◌then◌else◌, inl, inr, not, ◌&&◌, IsSomeAnd, is_some}
 use Rattle.std.proofs.lemmas.Bool.{cases_Bool}
 use Rattle.goblin_base.specs.{declared.error.ErrorOf.ErrorOf, Answers.FirstFault, Answers.◌>>=◌}
+use Rattle.goblin_base.specs.{declared.mapped.MappedEnd.MappedEnd, Parts.in_memory}
 use Rattle.goblin_base.specs.Reading.{IsRefused, Reading}
 use Rattle.goblin_base.specs.Tables.{AreMade, IsTableFault, SlotFormat, concat_below, ends_table, slot_at, slot_place, stop}
 use Rattle.goblin_base.proofs.Below.{concat_below-agree, least-before}
@@ -217,61 +218,65 @@ module _ {V B : Type 0} (slots : SlotFormat V) (items : ℕ → V → List (Opti
 
 -- ---- which cause is true of what is left
 
-module _ {V A : Type 0} (slots : SlotFormat V) (piece : V → Reading (List A)) (bytes : List ℕ)
-    (needs_end : Bool) (missing : ℕ → Reading V) (wide : 1 ≤ slots.entry.width) (o : ℕ) where
+module _ {V A : Type 0} (end : Option MappedEnd) (slots : SlotFormat V)
+    (piece : V → Reading (List A)) (bytes : List ℕ) (needs_end : Bool)
+    (missing : ℕ → Reading V) (wide : 1 ≤ slots.entry.width) (o : ℕ) where
+  abbrev part : List ℕ
+  part = in_memory end bytes
+
   -- the rest of the table, as a table
   abbrev rest : ℕ → Reading (List A)
-  rest place = table slots needs_end missing piece place
+  rest place = table end slots needs_end missing piece place
 
-  cause-missing : (e : ErrorOf) → reads slots bytes o ≡ None → needs_end ≡ true
-      → (missing o).IsCause bytes e → (rest o).IsCause bytes e
+  cause-missing : (e : ErrorOf) → reads slots part o ≡ None → needs_end ≡ true
+      → (missing o).IsCause part e → (rest o).IsCause bytes e
   cause-missing e r m fault =
-      (read-missing slots piece bytes o o [] (read-start slots piece bytes o wide) needs_end
+      (read-missing end slots piece bytes o o [] (read-start end slots piece bytes o wide) needs_end
       missing e r m fault).1
 
-  module _ (v : V) (r : reads slots bytes o ≡ Some v) (going : slots.is_last v ≡ false) where
+  module _ (v : V) (r : reads slots part o ≡ Some v) (going : slots.is_last v ≡ false) where
     cause-refused : (e : ErrorOf)
         → IsRefused (piece v) bytes e → (rest o).IsCause bytes e
     cause-refused e k =
-        (read-refused slots piece bytes o o [] (read-start slots piece bytes o wide) needs_end
+        (read-refused end slots piece bytes o o [] (read-start end slots piece bytes o wide) needs_end
         missing v e r going k).1
 
     abbrev IsMissing : ℕ → ErrorOf → Type 0
-    IsMissing p = (missing p).IsCause bytes
+    IsMissing p = (missing p).IsCause part
 
     abbrev IsPiece : V → ErrorOf → Type 0
     IsPiece w = (piece w).IsCause bytes
 
     -- slot i + 1 of a table is slot i of the table that begins a slot later
     place_after : (i : ℕ) → slot_place slots o (suc i) ≡ slot_place slots (o + slots.entry.width) i
-    place_after = shifted slots bytes o wide v r going
+    place_after = shifted slots part o wide v r going
 
     all_made : (xs : List A) → (piece v).value bytes ≡ Some xs → (n : ℕ)
-        → AreMade slots (value_of piece bytes) bytes (o + slots.entry.width) n
-        → AreMade slots (value_of piece bytes) bytes o (suc n)
+        → AreMade slots (value_of piece bytes) part (o + slots.entry.width) n
+        → AreMade slots (value_of piece bytes) part o (suc n)
     all_made xs k n later zero below none =
-        let at = here slots bytes o wide v r going in
+        let at = here slots part o wide v r going in
         let made = ap (λ s. s >>= value_of piece bytes) at ∙ k in
         absurd (cc (made, none))
     all_made xs k n later (suc j) below none =
         later j (omega (arith, below))
-        (ap (λ (p : ℕ). reads slots bytes p >>= value_of piece bytes) (sym (place_after j)) ∙ none)
+        (ap (λ (p : ℕ). reads slots part p >>= value_of piece bytes) (sym (place_after j)) ∙ none)
 
     -- a cause that is true of the rest of a table from its next slot on is true of it here
     cause-next : (xs : List A) → (piece v).value bytes ≡ Some xs → (e : ErrorOf)
         → (rest (o + slots.entry.width)).IsCause bytes e → (rest o).IsCause bytes e
     cause-next xs k e fault =
         let later = o + slots.entry.width in
-        let n = stop slots bytes later in
-        let stops = stop-next slots bytes o wide v r going in
-        let in_place : (i : ℕ) → reads slots bytes (slot_place slots o (suc i)) ≡ slot_at slots bytes later i = λ i.
-        ap (reads slots bytes) (place_after i) in
-        let whole : IsTableFault slots needs_end (value_of piece bytes) IsMissing IsPiece bytes o e =
+        let n = stop slots part later in
+        let stops = stop-next slots part o wide v r going in
+        let in_place : (i : ℕ) → reads slots part (slot_place slots o (suc i)) ≡ slot_at slots part later i = λ i.
+        ap (reads slots part) (place_after i) in
+        let whole : IsTableFault slots needs_end (value_of piece bytes) IsMissing IsPiece part o e =
         elim fault [
           | inl end ↦
               inl (
-                subst (AreMade slots (value_of piece bytes) bytes o) (sym stops) (all_made xs k n end.0),
-                subst (λ (s : ℕ). (needs_end ≡ true) × (slot_at slots bytes o s ≡ None) × IsMissing (slot_place slots o s) e) (sym stops)
+                subst (AreMade slots (value_of piece bytes) part o) (sym stops) (all_made xs k n end.0),
+                subst (λ (s : ℕ). (needs_end ≡ true) × (slot_at slots part o s ≡ None) × IsMissing (slot_place slots o s) e) (sym stops)
                     (end.1.0, in_place n ∙ end.1.1, subst (λ (p : ℕ). IsMissing p e) (sym (place_after n)) end.1.2),
               )
           | inr at ↦
@@ -285,9 +290,9 @@ module _ {V A : Type 0} (slots : SlotFormat V) (piece : V → Reading (List A)) 
         whole
 
   -- a cause that is true from this slot on is one of the table
-  pub cause-slot : (entry : Option V) → reads slots bytes o ≡ entry → (e : ErrorOf)
+  pub cause-slot : (entry : Option V) → reads slots part o ≡ entry → (e : ErrorOf)
       → IsSlotCause needs_end slots.is_last (λ v. (piece v).value bytes)
-      ((missing o).IsCause bytes) (λ v. (piece v).IsCause bytes)
+      ((missing o).IsCause part) (λ v. (piece v).IsCause bytes)
       ((rest (o + slots.entry.width)).IsCause bytes) entry e
       → (rest o).IsCause bytes e
   cause-slot None r e fault = cause-missing e r fault.0 fault.1

@@ -12,9 +12,12 @@ use Rattle.goblin_base.specs.Answers.{FirstFault, IsFirstMissing, IsMemory}
 use Rattle.goblin_base.specs.Answers.{IsSliceFault, IsTextFault, IsTextFaultWithin, all_at}
 use Rattle.goblin_base.specs.Bytes as bytes_of
 use Rattle.goblin_base.specs.Footprints.{counted_footprint, led_to, rest_footprint}
-use Rattle.goblin_base.specs.Footprints.{slice_footprint, slot_footprint, stretch_footprint}
+use Rattle.goblin_base.specs.Footprints.{slice_footprint, stretch_footprint}
 use Rattle.goblin_base.specs.Parts as parts
-use Rattle.goblin_base.specs.Parts.{between_footprint, moved_by, search_footprint, text_footprint}
+use Rattle.goblin_base.specs.declared.mapped.MappedEnd.{MappedEnd}
+use Rattle.goblin_base.specs.Parts.{between_footprint, in_memory, moved_by}
+use Rattle.goblin_base.specs.Parts.{positions_in_file, search_footprint, slot_footprint_to}
+use Rattle.goblin_base.specs.Parts.{text_footprint}
 use Rattle.goblin_base.specs.Record as records
 use Rattle.goblin_base.specs.Strtab as strings
 use Rattle.goblin_base.specs.Tables as tables
@@ -25,16 +28,18 @@ use Rattle.goblin_base.proofs.Below.{concat_below-agree}
 use Rattle.goblin_base.proofs.CutTexts.{same-text_within, text_within-in, text_within-not_memory}
 use Rattle.goblin_base.proofs.Footprints.{same-counted_table_if, same-number_at, same-record_at}
 use Rattle.goblin_base.proofs.Footprints.{same-slice_at, same-text_at, agree-below, same-all_at}
+use Rattle.goblin_base.proofs.InMemory.{agree-in_memory, in_memory-in}
 use Rattle.goblin_base.proofs.Inside.{below-in, counted-in, led-in, none-in, rest-in, slice-in}
 use Rattle.goblin_base.proofs.Inside.{stretch-in}
 use Rattle.goblin_base.proofs.Parts.{agree-moved, agree-moved_slice, between-in, rest-moved-in}
 use Rattle.goblin_base.proofs.Parts.{same-bytes_between, same-front_through, same-string_table}
 use Rattle.goblin_base.proofs.Parts.{search-in, slice-moved-in, string_table-not_memory}
 use Rattle.goblin_base.proofs.Picks.{checked-not_memory, pick-inside, pick-local, pick-not_memory}
-use Rattle.goblin_base.proofs.Readings.{beside-inside, beside-local, kept-local}
-use Rattle.goblin_base.proofs.Readings.{malformed-not_memory, slice-not_memory, table-inside}
-use Rattle.goblin_base.proofs.Readings.{table-local, table-not_memory, text-not_memory, then-inside}
+use Rattle.goblin_base.proofs.Readings.{beside-inside, beside-local, malformed-not_memory}
+use Rattle.goblin_base.proofs.Readings.{slice-not_memory, text-not_memory, then-inside}
 use Rattle.goblin_base.proofs.Readings.{then-local, then-not_memory, value-local}
+use Rattle.goblin_base.proofs.SlotsInMemory.{kept-local, table-inside, table-local}
+use Rattle.goblin_base.proofs.SlotsInMemory.{table-not_memory}
 
 -- ---- readings that reach nothing
 
@@ -318,6 +323,22 @@ in_slice begin end r = record {
   not_memory = λ bytes. r.not_memory (slice_range bytes begin end);
 }
 
+-- a reading of what is in memory up to an end, or of all bytes if there is none; positions are
+-- those in the file
+abbrev pub up_to : {A : Type 0} → Option MappedEnd → Reading A → Reading A
+up_to end r = record {
+  value = λ bytes. r.value (in_memory end bytes);
+  IsCause = λ bytes. r.IsCause (in_memory end bytes);
+  reaches = λ bytes. positions_in_file end (r.reaches (in_memory end bytes));
+  is_local = λ a b agree.
+      r.is_local (in_memory end a) (in_memory end b)
+      (agree-in_memory end (r.reaches (in_memory end a)) a b agree);
+  is_inside = λ bytes.
+      in_memory-in end bytes (r.reaches (in_memory end bytes))
+      (r.is_inside (in_memory end bytes));
+  not_memory = λ bytes. r.not_memory (in_memory end bytes);
+}
+
 -- ---- lists of readings
 
 -- n readings, one for each index: all are read, and the cause is that of the first that is refused
@@ -373,22 +394,25 @@ counted_if format count place = record {
 
 -- ---- tables of slots
 
--- A table of slots at o, which ends at its stop. The value joins what `piece` reads for the entry
+-- A table of slots at o, which ends at its stop. The slots are read up to an end, and what their
+-- entries lead to is read by `piece`. The value joins what `piece` reads for the entry
 -- of each slot before the stop. The cause is that of the first entry that is refused. If no entry
 -- is refused, but the end is needed and the slot of the stop is not in the file, the cause is that
 -- of `missing` at the place of that slot. The reading reaches what each entry before the stop leads
 -- to, and the slots up to and including the stop.
-abbrev pub table : {V A : Type 0} → SlotFormat V → Bool → (ℕ → Reading V)
+abbrev pub table : {V A : Type 0} → Option MappedEnd → SlotFormat V → Bool → (ℕ → Reading V)
     → (V → Reading (List A)) → ℕ → Reading (List A)
-table slots needs_end missing piece o = record {
-  value = λ bytes. slot_table slots needs_end (λ v. (piece v).value bytes) bytes o;
+table end slots needs_end missing piece o = record {
+  value = λ bytes.
+      slot_table slots needs_end (λ v. (piece v).value bytes) (in_memory end bytes) o;
   IsCause = λ bytes.
       IsTableFault slots needs_end (λ v. (piece v).value bytes)
-      (λ p. (missing p).IsCause bytes) (λ v. (piece v).IsCause bytes) bytes o;
-  reaches = λ bytes. slot_footprint slots (λ v. (piece v).reaches bytes) bytes o;
-  is_local = table-local slots piece o needs_end;
-  is_inside = table-inside slots piece o;
-  not_memory = table-not_memory slots piece o needs_end missing;
+      (λ p. (missing p).IsCause (in_memory end bytes)) (λ v. (piece v).IsCause bytes)
+      (in_memory end bytes) o;
+  reaches = λ bytes. slot_footprint_to end slots (λ v. (piece v).reaches bytes) bytes o;
+  is_local = λ a b agree. table-local end slots piece o a b agree needs_end;
+  is_inside = table-inside end slots piece o;
+  not_memory = table-not_memory end slots piece o needs_end missing;
 }
 
 abbrev pub with_slots : {A : Type 0} → List ℕ → Option A → Option (A × List ℕ)
@@ -396,12 +420,12 @@ with_slots kept None = None
 with_slots kept (Some x) = Some (x, kept)
 
 -- a table of slots, with the indexes of the slots whose entries are kept
-abbrev pub table_with_slots : {V A : Type 0} → SlotFormat V → Bool → (ℕ → Reading V)
-    → (V → Reading (List A)) → ℕ → Reading (List A × List ℕ)
-table_with_slots slots needs_end missing piece o =
+abbrev pub table_with_slots : {V A : Type 0} → Option MappedEnd → SlotFormat V → Bool
+    → (ℕ → Reading V) → (V → Reading (List A)) → ℕ → Reading (List A × List ℕ)
+table_with_slots end slots needs_end missing piece o =
     let kept : List ℕ → List ℕ =
-    λ bytes. kept_slots slots (λ v. (piece v).value bytes) bytes o in
-    let whole = table slots needs_end missing piece o in
+    λ bytes. kept_slots slots (λ v. (piece v).value bytes) (in_memory end bytes) o in
+    let whole = table end slots needs_end missing piece o in
     record {
       value = λ bytes. with_slots (kept bytes) (whole.value bytes);
       IsCause = whole.IsCause;
@@ -409,7 +433,7 @@ table_with_slots slots needs_end missing piece o =
       is_local = λ a b agree.
           ap (with_slots (kept a)) (whole.is_local a b agree)
           ∙ ap (λ (again : List ℕ). with_slots again (whole.value b))
-          (kept-local slots piece o a b agree);
+          (kept-local end slots piece o a b agree);
       is_inside = whole.is_inside;
       not_memory = whole.not_memory;
     }

@@ -8,7 +8,7 @@ use Rattle.readings.specs.Reads.{mapped, slice_at, given, pick}
 use Rattle.readings.specs.Walks.{IsWalkOf, GivesNext}
 use Rattle.goblin_pe_sect.specs.declared.data_directories.DataDirectory.{DataDirectory}
 use Rattle.goblin_pe_sect.specs.declared.options.ParseOptions.{ParseOptions}
-use Rattle.goblin_pe_sect.specs.{declared.options.View.View, AddressReadings.at_address}
+use Rattle.goblin_pe_sect.specs.{declared.options.View.View, AddressReadings.stored_at}
 use Rattle.goblin_pe_sect.specs.Options.{is_strict}
 use Rattle.goblin_pe_sect.specs.Addresses.{Addressing, AreMany, MapOfAddresses, map_in, map_of}
 use Rattle.goblin_pe_sect.specs.Addresses.{reads_strictly}
@@ -107,10 +107,10 @@ GivesLayout view opts bytes header result =
 
 -- ---- tables that are bytes
 
--- the bytes of a directory
+-- the bytes of a directory, as far as they are in the file
 abbrev pub directory_data : Addressing → DataDirectory → Reading (List ℕ)
 directory_data addressing d =
-    at_address addressing.offset d.virtual_address (λ o. slice_at o d.size)
+    stored_at addressing d.virtual_address (λ o. slice_at o d.size)
 
 -- the bytes of the directory at an index
 unfoldable pub directory_part : ℕ → ParseOptions → Addressing → TablePlaces

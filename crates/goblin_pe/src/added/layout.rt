@@ -381,7 +381,7 @@ impl<'a> Layout<'a> {
     /// # Errors
     /// In strict mode [`Error::Malformed`] with [`Cause::Unmapped`] if the address has no file
     /// offset, and [`Error::Read`] if the bytes begin at or past the end of the file, or run past
-    /// it.
+    /// it; in a loader's view, also if they run past the window of their section.
     #[tactic(auto, unfolding(crate::specs::added::Layouts::directory_part))]
     pub fn directory(&self, index: usize) -> Result<Part<&'a [u8]>>
         requires { index < 16 }
@@ -406,8 +406,9 @@ impl<'a> Layout<'a> {
             (layout_bytes self.now) }
     {
         let rva = directory.virtual_address;
-        match self.address_map.offset_of(rva) {
-            Some(offset) => pread_slice(self.bytes, offset, directory.size as usize),
+        let (part, offset) = self.address_map.part_of(self.bytes, rva);
+        match offset {
+            Some(offset) => pread_slice(part.stored(), offset, directory.size as usize),
             None => Err(Error::Malformed(Cause::Unmapped(rva as usize))),
         }
     }

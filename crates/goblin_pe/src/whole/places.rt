@@ -157,8 +157,8 @@ impl Places {
         let Some(directory) = self.directory(BASE_RELOCATION_TABLE) else {
             return (None, Ok(Part::Absent));
         };
-        let offset = address_map.offset_of(directory.virtual_address);
-        let data = RelocationData::parse_at(bytes, directory, offset);
+        let (part, offset) = address_map.part_of(bytes, directory.virtual_address);
+        let data = RelocationData::parse_at(part.stored(), directory, offset);
         (offset, part_of(data, address_map.opts()))
     }
 

@@ -1,9 +1,10 @@
 -- The address table alone is that of the export data, where these are read.
 use Rattle.std.proofs.Common.{◌≡◌, ℕ, Bool, true, false, if◌then◌else◌, nat_le, List, [], length, Option, Some, None, refl, sym, ap, subst, IfSome, option_map}
 use Rattle.goblin_base.proofs.Steps.{same_value, step}
-use Rattle.readings.specs.Reads.{◌>>=◌, counted_if, or_none, pair_of}
+use Rattle.readings.specs.Reads.{◌>>=◌, or_none, pair_of}
+use Rattle.goblin_base.specs.Parts.{in_memory}
 use Rattle.goblin_pe_sect.specs.declared.data_directories.DataDirectory.{DataDirectory}
-use Rattle.goblin_pe_sect.specs.{AddressReadings.name_at, Addresses.Addressing}
+use Rattle.goblin_pe_sect.specs.{AddressReadings.counted_at, AddressReadings.name_at, Addresses.Addressing}
 use Rattle.goblin_pe_export.specs.ExportRecords.{ExportAddressTableEntry, ExportDirectoryTable}
 use Rattle.goblin_pe_export.specs.ExportRecords.{ExportTables, addresses, name_pointers, ordinals}
 use Rattle.goblin_pe_export.specs.added.ExportAddresses.{RepeatsAddresses, address_tables, export_addresses, without_names}
@@ -35,22 +36,30 @@ module _ (addressing : Addressing) (d : DataDirectory) (bytes : List ℕ) where
   pub tables_kept : (t : ExportDirectoryTable) (tables : ExportTables) → (export_tables addressing d t).value bytes ≡ Some tables → (address_tables addressing d t).value bytes ≡ Some (without_names tables)
   unfolding export_tables address_tables
   tables_kept t tables e =
-      kept ((or_none (name_at addressing t.name_rva)).value bytes) ((counted_if name_pointers t.number_of_name_pointers (addressing.offset t.name_pointer_rva)).value bytes)
-      ((counted_if ordinals t.number_of_name_pointers (addressing.offset t.ordinal_table_rva)).value bytes) ((counted_if (addresses d) t.address_table_entries (addressing.offset t.export_address_table_rva)).value bytes)
+      kept ((or_none (name_at addressing t.name_rva)).value bytes) ((counted_at name_pointers t.number_of_name_pointers addressing t.name_pointer_rva).value bytes)
+      ((counted_at ordinals t.number_of_name_pointers addressing t.ordinal_table_rva).value bytes) ((counted_at (addresses d) t.address_table_entries addressing t.export_address_table_rva).value bytes)
       t tables e
 
-  from : (p : ℕ) (t : ExportDirectoryTable) (tables : ExportTables) → addressing.offset d.virtual_address ≡ Some p → (export_record_at p).value bytes ≡ Some t
+  from : (p : ℕ) (t : ExportDirectoryTable) (tables : ExportTables) → addressing.offset d.virtual_address ≡ Some p → (export_record_at p).value (in_memory (addressing.end d.virtual_address) bytes) ≡ Some t
       → nat_le t.address_table_entries (length bytes) ≡ true → (address_tables addressing d t).value bytes ≡ Some tables → (export_addresses addressing d).value bytes ≡ Some tables
   unfolding export_addresses
   from p t tables place own fits is =
       let rest : (fitting_addresses t >>= address_tables addressing d).value bytes ≡ Some tables = rw fits is in
       rw (place, own) rest
 
+  -- what is read of a record whose count fits, without the names
+  pub addresses_read : (part : List ℕ) (place : Option ℕ) (p : ℕ) (t u : ExportDirectoryTable) (tables : ExportTables) → part ≡ in_memory (addressing.end d.virtual_address) bytes → place ≡ addressing.offset d.virtual_address → place ≡ Some p
+      → (export_record_at p).value part ≡ Some t → (fitting_addresses t).value bytes ≡ Some u → u ≡ t → (export_tables addressing d t).value bytes ≡ Some tables → (export_addresses addressing d).value bytes ≡ Some (without_names tables)
+  unfolding export_addresses
+  addresses_read part place p t u tables in_part at is own fits same read =
+      let rest : (fitting_addresses t >>= address_tables addressing d).value bytes ≡ Some (without_names tables) = rw (fits, same) (tables_kept t tables read) in
+      rw (← at, ← in_part, is, own) rest
+
   repeated : (tables : ExportTables) → (export_data addressing d).value bytes ≡ Some tables → (export_addresses addressing d).value bytes ≡ Some (without_names tables)
   unfolding export_data
   repeated tables e =
       let place = step (addressing.offset d.virtual_address) _ tables e in
-      let own = step ((export_record_at place.value).value bytes) _ tables place.then in
+      let own = step ((export_record_at place.value).value (in_memory (addressing.end d.virtual_address) bytes)) _ tables place.then in
       let fit = step ((fitting own.value).value bytes) (λ t. (export_tables addressing d t).value bytes) tables own.then in
       let test = both-fit _ (nat_le own.value.address_table_entries (length bytes)) own.value fit.value fit.is in
       let there : (export_tables addressing d own.value).value bytes ≡ Some tables = subst (λ (t : ExportDirectoryTable). (export_tables addressing d t).value bytes ≡ Some tables) (sym test.1) fit.then in

@@ -4,7 +4,8 @@ use Rattle.std.specs.List.{cons_option, range_with_len}
 use Rattle.std.proofs.lemmas.List.Elements.{filter_map-append}
 use Rattle.std.proofs.lemmas.List.FromFn.{length-range_with_len}
 use Rattle.goblin_base.specs.{declared.endian.Endian.TheVariants.Little, Tables.concat_below}
-use Rattle.goblin_base.proofs.{Records.record_at-some, Steps.step}
+use Rattle.goblin_base.specs.Parts.{bytes_in, in_memory}
+use Rattle.goblin_base.proofs.{InMemory.bytes_there, Records.record_at-some, Steps.step}
 use Rattle.readings.proofs.WalkValues.{range-next}
 use Rattle.goblin_pe_sect.specs.declared.data_directories.DataDirectory.{DataDirectory}
 use Rattle.goblin_pe_sect.specs.Addresses.{Addressing}
@@ -91,7 +92,7 @@ pub given-all : (end : ℕ) (s t : Exports) (result : Option WalkedExport)
     → GivesExport s result t
 given-all end s t (Some x) given all = given.0
 given-all end s t None given all =
-    let first = entry_count 4 name_pointers.value_of s.tables.name_pointers.now in
+    let first = entry_count 4 name_pointers.value_of (bytes_in s.tables.name_pointers) in
     let same = ap (λ (tables : ExportTables). length tables.export_name_pointer_table) given.0.1 in
     let past = from_end _ _ (walked_tables t) (exports_position t) (omega (arith, given.2, first, same, all)) in
     ((sym given.1 ∙ past, past), given.0, omega (arith, given.2, first, all))
@@ -105,9 +106,11 @@ data-there : (addressing : Addressing) (d : DataDirectory) (bytes : List ℕ)
 unfolding reading.export_data
 data-there addressing d bytes tables is =
     let at = step (addressing.offset d.virtual_address) _ tables is in
-    let here = step ((reading.export_record_at at.value).value bytes) _ tables at.then in
-    let found = record_at-some 40 (export_directory_record Little) bytes at.value here.value here.is in
-    ne_eqb (length bytes) 0 (λ none. omega (arith, found.start))
+    let part = in_memory (addressing.end d.virtual_address) bytes in
+    let here = step ((reading.export_record_at at.value).value part) _ tables at.then in
+    let found = record_at-some 40 (export_directory_record Little) part at.value here.value here.is in
+    ne_eqb (length bytes) 0
+    (λ none. omega (arith, bytes_there (addressing.end d.virtual_address) bytes (omega (arith, found.start))))
 
 -- the tables of a directory with all that comes are what is read
 pub read_walked : (addressing : Addressing) (d : DataDirectory) (bytes : List ℕ)

@@ -2,6 +2,7 @@
 use Rattle.std.specs.Prelude.{◌≡◌, ℕ, ◌+◌, ◌-◌, ◌/◌, ◌<◌, ◌≤◌, List, MatchOption, Option}
 use Rattle.std.specs.Prelude.{Some, filter_map, length, max, min}
 use Rattle.std.specs.{Iterator.YieldsFirstBy, List.range_with_len}
+use Rattle.goblin_base.specs.Parts.{bytes_in}
 use Rattle.goblin_pe_sect.specs.Addresses.{MapOfAddresses, map_of, Addressing}
 use Rattle.goblin_pe_export.specs.ExportRecords.{ExportTables, tables_in}
 pub use Rattle.goblin_pe_export.specs.ExportRecords.{NumberedExport}
@@ -57,9 +58,9 @@ abbrev pub KeepsOver : Exports → Exports → Type 0
 KeepsOver s t =
     AreExportsOver (exports_bytes s) (exports_map s) t × (walked_tables t ≡ walked_tables s)
 
--- how many whole name pointers the file has
+-- how many whole name pointers there are
 abbrev pub pointer_count : Exports → ℕ
-pointer_count walk = length walk.tables.name_pointers.now / 4
+pointer_count walk = length (bytes_in walk.tables.name_pointers) / 4
 
 -- A call of `next` gives the next export. It keeps the bytes, the map and the tables, and moves the
 -- walk just past the name pointer of that export. If no export comes, it moves the walk past the

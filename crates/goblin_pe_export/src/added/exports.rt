@@ -20,7 +20,7 @@ ghost use Rattle.goblin_pe_export.specs.added.ExportWalks.{NumberedExport};
 use crate::export::Export;
 use crate::export::entries::{Entries, TablesInFile};
 use crate::export::tables::{ExportAddressTableEntry, ExportDirectoryTable, test_address_count};
-use goblin_base::{Cause, Error, Result, pread_ascii_str};
+use goblin_base::{Cause, Error, MappedBytes, Result};
 use goblin_pe_sect::DataDirectory;
 use goblin_pe_sect::address_map::{AddressMap, Finder};
 use std::fmt;
@@ -134,15 +134,17 @@ impl<'a, 'm> Exports<'a, 'm> {
     {
         let mut finder = Finder::of(address_map);
         let rva = directory.virtual_address;
-        let Some(offset) = finder.offset_of(rva) else {
+        let (part, offset) = finder.part_of(bytes, rva);
+        let Some(offset) = offset else {
             return Err(Error::Malformed(Cause::Unmapped(rva as usize)));
         };
-        let table = ExportDirectoryTable::parse(bytes, offset)?;
+        let table = ExportDirectoryTable::parse_in(part, offset)?;
         test_address_count(bytes, &table)?;
         let mut tables = TablesInFile::of_record(bytes, table, directory, &mut finder);
         // (These give no entries, and their names are not looked at.)
-        tables.name_pointers = &[];
-        tables.ordinals = &[];
+        let none = MappedBytes::whole(&[]);
+        tables.name_pointers = none;
+        tables.ordinals = none;
         Ok(Exports {
             bytes,
             finder,
@@ -189,7 +191,7 @@ impl<'a, 'm> Exports<'a, 'm> {
         &self.tables.export_directory_table
     }
 
-    /// How many whole name pointers the file has.
+    /// How many whole name pointers there are.
     #[tactic(auto, using(crate::proofs::WholeEntries::entry_count))]
     pub fn pointer_count(&self) -> usize
         ensures { result ≡ pointer_count self.now }
@@ -197,10 +199,10 @@ impl<'a, 'm> Exports<'a, 'm> {
         self.tables.pointers()
     }
 
-    /// How many whole entries of the export address table the file has.
+    /// How many whole entries of the export address table there are.
     pub fn address_count(&self) -> usize
         ensures value { result ≡ length (walked_tables self.now).export_address_table }
-        ensures few { result < 2 ^ 61 }
+        ensures few { result < 2 ^ 62 }
     {
         self.tables.address_count()
     }
@@ -214,6 +216,7 @@ impl<'a, 'm> Exports<'a, 'm> {
     }
 
     /// How many of the exports that are still to come pass a test.
+    #[tactic(auto, using(crate::proofs::WholeEntries::count_bytes))]
     pub fn count_exports<F: Fn(&WalkedExport<'a>) -> bool>(self, test: F) -> usize
         requires { F.IsAlwaysCallable test }
         ensures { (p : NumberedExport → Bool) → IsTest walked_export (FnReturnsAt F.Fn test) p
@@ -308,10 +311,10 @@ impl<'a, 'm> Exports<'a, 'm> {
         let Some(offset) = finder.near_offset(rva) else {
             return None;
         };
-        let Some(place) = finder.near_name_offset(pointer) else {
+        let Some((part, place)) = finder.near_name_part(bytes, pointer) else {
             return None;
         };
-        let Some(name) = pread_ascii_str(bytes, place) else {
+        let Some(name) = part.ascii_str_within(place, finder.longest_name()) else {
             return None;
         };
         let export = Export {

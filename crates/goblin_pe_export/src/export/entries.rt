@@ -13,7 +13,7 @@ use crate::export::tables::{
     test_counts, whole_entries,
 };
 use crate::export::{ExportData, text_within};
-use goblin_base::{Cause, Endian, Error, Result, ResultOf, field_u16, field_u32};
+use goblin_base::{Cause, Endian, Error, MappedBytes, Result, ResultOf, field_u16, field_u32};
 use goblin_pe_sect::DataDirectory;
 use goblin_pe_sect::address_map::Finder;
 use goblin_pe_sect::table::Table;
@@ -61,16 +61,16 @@ impl<'a> Entries for ExportData<'a> {
     }
 }
 
-// What an export directory leads to, with each table as the bytes of its entries in the file.
+// What an export directory leads to, with each table as the bytes of its entries.
 #[derive(Copy, Clone)]
 pub(crate) struct TablesInFile<'a> {
     // The library's own name, if there is a text at its address.
     pub(crate) name: Option<&'a str>,
     pub(crate) export_directory_table: ExportDirectoryTable,
     pub(crate) directory: DataDirectory,
-    pub(crate) name_pointers: &'a [u8],
-    pub(crate) ordinals: &'a [u8],
-    pub(crate) addresses: &'a [u8],
+    pub(crate) name_pointers: MappedBytes<'a>,
+    pub(crate) ordinals: MappedBytes<'a>,
+    pub(crate) addresses: MappedBytes<'a>,
 }
 
 impl<'a> TablesInFile<'a> {
@@ -89,21 +89,18 @@ impl<'a> TablesInFile<'a> {
         ensures same { finder.new ≡ finder.old }
     {
         let names = table.number_of_name_pointers;
-        let pointers = finder.offset_of(table.name_pointer_rva);
-        let ordinals = finder.offset_of(table.ordinal_table_rva);
-        let addresses = finder.offset_of(table.export_address_table_rva);
+        let (pointers_in, pointers) = finder.part_of(bytes, table.name_pointer_rva);
+        let (ordinals_in, ordinals) = finder.part_of(bytes, table.ordinal_table_rva);
+        let (addresses_in, addresses) = finder.part_of(bytes, table.export_address_table_rva);
+        let (name_in, name) = finder.part_of_name(bytes, table.name_rva);
         TablesInFile {
-            name: text_within(
-                bytes,
-                finder.offset_of_name(table.name_rva),
-                finder.longest_name(),
-            ),
+            name: text_within(name_in, name, finder.longest_name()),
             export_directory_table: table,
             directory,
-            name_pointers: whole_entries(bytes, pointers, SIZEOF_NAME_POINTER, names),
-            ordinals: whole_entries(bytes, ordinals, SIZEOF_ORDINAL, names),
+            name_pointers: whole_entries(pointers_in, pointers, SIZEOF_NAME_POINTER, names),
+            ordinals: whole_entries(ordinals_in, ordinals, SIZEOF_ORDINAL, names),
             addresses: whole_entries(
-                bytes,
+                addresses_in,
                 addresses,
                 SIZEOF_EXPORT_ADDRESS_TABLE_ENTRY,
                 table.address_table_entries,
@@ -124,11 +121,12 @@ impl<'a> TablesInFile<'a> {
             Reads tables_in result (reading.export_data m.addressing directory) bytes.now }
         ensures same { finder.new ≡ finder.old }
     {
-        let Some(offset) = finder.offset_of(directory.virtual_address) else {
+        let (part, offset) = finder.part_of(bytes, directory.virtual_address);
+        let Some(offset) = offset else {
             let rva = directory.virtual_address as usize;
             return Err(Error::Malformed(Cause::Unmapped(rva)));
         };
-        let table = ExportDirectoryTable::parse(bytes, offset)?;
+        let table = ExportDirectoryTable::parse_in(part, offset)?;
         test_counts(bytes, &table)?;
         Ok(TablesInFile::of_record(bytes, table, directory, finder))
     }
@@ -155,7 +153,7 @@ impl<'a> TablesInFile<'a> {
     #[tactic(auto, using(crate::proofs::WholeEntries::entry_count))]
     pub(crate) fn address_count(&self) -> usize
         ensures value { result ≡ length (tables_in self.now).export_address_table }
-        ensures few { result < 2 ^ 61 }
+        ensures few { result < 2 ^ 62 }
     {
         self.addresses.len() / SIZEOF_EXPORT_ADDRESS_TABLE_ENTRY
     }
@@ -207,21 +205,6 @@ fn table_of<'e, V: Drop, F: Fn(usize) -> Option<V>>(
     Ok(Table::from(entries))
 }
 
-// The bytes of the entry of `width` bytes at an index, if there is one.
-#[tactic(auto, using(crate::proofs::WholeEntries::entries))]
-fn entry_of(entries: &[u8], width: usize, index: usize) -> Option<&[u8]>
-    requires { 0 < width }
-    ensures value { option_map (λ s. s.now) result ≡ slice_at entries.now (width * index) width }
-    ensures len { IfSome result (λ s. length s.now ≡ width) }
-{
-    if index < entries.len() / width {
-        let begin = width * index;
-        Some(&entries[begin..begin + width])
-    } else {
-        None
-    }
-}
-
 impl<'a> Entries for TablesInFile<'a> {
     ghost entries = { tables_in };
 
@@ -232,20 +215,22 @@ impl<'a> Entries for TablesInFile<'a> {
 
     #[tactic(auto, using(crate::proofs::WholeEntries::entry_read))]
     fn pointer(&self, index: usize) -> Option<u32> {
-        let entry = entry_of(self.name_pointers, SIZEOF_NAME_POINTER, index)?;
-        Some(field_u32(entry, 0, Endian::Little))
+        let entry = self.name_pointers.entry_at::<SIZEOF_NAME_POINTER>(index)?;
+        Some(field_u32(&entry, 0, Endian::Little))
     }
 
     #[tactic(auto, using(crate::proofs::WholeEntries::entry_read))]
     fn ordinal(&self, index: usize) -> Option<u16> {
-        let entry = entry_of(self.ordinals, SIZEOF_ORDINAL, index)?;
-        Some(field_u16(entry, 0, Endian::Little))
+        let entry = self.ordinals.entry_at::<SIZEOF_ORDINAL>(index)?;
+        Some(field_u16(&entry, 0, Endian::Little))
     }
 
     #[tactic(auto, using(crate::proofs::WholeEntries::entry_read))]
     fn address(&self, index: usize) -> Option<ExportAddressTableEntry> {
-        let entry = entry_of(self.addresses, SIZEOF_EXPORT_ADDRESS_TABLE_ENTRY, index)?;
-        let rva = field_u32(entry, 0, Endian::Little);
+        let entry = self
+            .addresses
+            .entry_at::<SIZEOF_EXPORT_ADDRESS_TABLE_ENTRY>(index)?;
+        let rva = field_u32(&entry, 0, Endian::Little);
         Some(ExportAddressTableEntry::of_rva(self.directory, rva))
     }
 }

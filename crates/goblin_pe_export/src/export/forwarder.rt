@@ -1,14 +1,14 @@
 //! Forwarders: exports that refer to an export of another library.
 
 ghost use Rattle.std.specs.Prelude.{◌≡◌, ◌↔◌, List, ℕ, Some};
-ghost use Rattle.goblin_base.specs.{Answers.Answers, Reading.Reads};
+ghost use Rattle.goblin_base.specs.{Answers.Answers, Parts.bytes_in, Reading.Reads};
 ghost use Rattle.goblin_pe_export.specs.ForwarderLaws.{forwarder_in-within};
 ghost use Rattle.goblin_pe_export.specs.Forwarders.{Forwarder, IsForwarder, forwarder_in_text};
 ghost use Rattle.goblin_pe_export.specs.Forwarders.{forwarder_within, is_longer};
 ghost use Rattle.goblin_pe_export.specs.Forwarders.{IsForwarderFault, forwarder_at, forwarder_in};
 ghost use Rattle.goblin_pe_export.specs.Forwarders.{forwarder_of, forwarder_value, ordinal_of};
 
-use goblin_base::{Cause, Endian, Error, Result, TryFromCtx, no_text, pread_str, pread_str_within};
+use goblin_base::{Cause, Endian, Error, MappedBytes, Result, TryFromCtx, no_text, pread_str};
 
 /// What an export that is a forwarder refers to: an export of another library.
 ///
@@ -101,7 +101,23 @@ impl<'a> Reexport<'a> {
     ) -> Result<Reexport<'a>>
         ensures { Reads forwarder_value result (forwarder_within longest offset) bytes.now }
     {
-        let text = pread_str_within(bytes, offset, longest)?;
+        Reexport::parse_in(MappedBytes::whole(bytes), offset, longest)
+    }
+
+    /// Reads the forwarder whose text is at an offset of what a read at an address sees, as
+    /// [`Reexport::parse_within`] does in a file.
+    ///
+    /// # Errors
+    /// As [`Reexport::parse_within`].
+    pub fn parse_in(
+        part: MappedBytes<'a>,
+        offset: usize,
+        longest: Option<u32>,
+    ) -> Result<Reexport<'a>>
+        ensures { let bytes = bytes_in part.entry in
+            Reads forwarder_value result (forwarder_within longest offset) bytes }
+    {
+        let text = part.text_within(offset, longest)?;
         Reexport::of_text(text, is_longer(text, longest))
     }
 

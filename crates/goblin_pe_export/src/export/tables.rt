@@ -1,14 +1,16 @@
 //! The export directory's record, and the three tables that it leads to.
 
 ghost use Rattle.std.specs.Prelude.{◌≡◌, ◌<◌, ◌-◌, ◌/◌, length, min};
-ghost use Rattle.goblin_base.specs.{Reading.Reads, Record.WritesRecord};
+ghost use Rattle.goblin_base.specs.{Parts.bytes_in, Reading.Reads, Record.WritesRecord};
 ghost use Rattle.goblin_pe_export.specs.ExportRecords.{ExportDirectoryTable};
 ghost use Rattle.goblin_pe_export.specs.ExportReadings.{export_record_at, fitting};
 ghost use Rattle.goblin_pe_export.specs.ExportReadings.{fitting_addresses};
 ghost use Rattle.goblin_pe_export.specs.ExportRecords.{address_entry, export_directory_fields};
 ghost use Rattle.goblin_pe_export.specs.ExportRecords.{export_directory_record, table_bytes};
 
-use goblin_base::{Cause, Endian, Error, Field, Record, Result, field_u16, field_u32, put_fields};
+use goblin_base::{
+    Cause, Endian, Error, Field, MappedBytes, Record, Result, field_u16, field_u32, put_fields,
+};
 use goblin_pe_sect::DataDirectory;
 use goblin_pe_sect::table::Table;
 use goblin_pe_sect::utils::is_in_range;
@@ -116,8 +118,15 @@ impl ExportDirectoryTable {
     pub fn parse(bytes: &[u8], offset: usize) -> Result<ExportDirectoryTable>
         ensures { Reads (λ t. t) result (export_record_at offset) bytes.now }
     {
-        match ExportDirectoryTable::read_at(bytes, offset, Endian::Little) {
-            Ok(table) => Ok(table),
+        ExportDirectoryTable::parse_in(MappedBytes::whole(bytes), offset)
+    }
+
+    // As `parse`, in what a read at an address sees.
+    pub(crate) fn parse_in(part: MappedBytes<'_>, offset: usize) -> Result<ExportDirectoryTable>
+        ensures { Reads (λ t. t) result (export_record_at offset) (bytes_in part.entry) }
+    {
+        match part.array_at::<SIZEOF_EXPORT_DIRECTORY_TABLE>(offset) {
+            Ok(record) => Ok(ExportDirectoryTable::in_record(&record, Endian::Little)),
             Err(_) => Err(Error::Malformed(Cause::ExportTable(offset))),
         }
     }
@@ -189,29 +198,34 @@ impl ExportAddressTableEntry {
 // The bytes of a table of `count` entries of `width` bytes, up to the first incomplete entry.
 // Without an offset there are none.
 #[tactic(auto, using(crate::proofs::WholeEntries::entries_inside))]
-pub(crate) fn whole_entries(bytes: &[u8], offset: Option<usize>, width: usize, count: u32) -> &[u8]
+pub(crate) fn whole_entries(
+    part: MappedBytes<'_>,
+    offset: Option<usize>,
+    width: usize,
+    count: u32,
+) -> MappedBytes<'_>
     requires { 0 < width }
-    ensures { result.now ≡ table_bytes width count bytes.now offset }
+    ensures { bytes_in result ≡ table_bytes width count (bytes_in part.entry) offset }
 {
     let Some(begin) = offset else {
-        return &bytes[..0];
+        return part.range(0, 0);
     };
-    let whole = room(bytes, begin, width, count);
+    let whole = room(part.len(), begin, width, count);
     if whole == 0 {
-        return &bytes[..0];
+        return part.range(0, 0);
     }
-    &bytes[begin..begin + width * whole]
+    part.range(begin, begin + width * whole)
 }
 
-// How many of `count` entries of `width` bytes, from `begin` on, the file has whole.
-pub(crate) fn room(bytes: &[u8], begin: usize, width: usize, count: u32) -> usize
+// How many of `count` entries of `width` bytes, from `begin` on, are whole among `size` bytes.
+fn room(size: usize, begin: usize, width: usize, count: u32) -> usize
     requires { 0 < width }
-    ensures { result ≡ min ((length bytes.now - begin) / width) count }
+    ensures { result ≡ min ((size - begin) / width) count }
 {
-    if bytes.len() < begin {
+    if size < begin {
         return 0;
     }
-    ((bytes.len() - begin) / width).min(count as usize)
+    ((size - begin) / width).min(count as usize)
 }
 
 // Refuses a record that counts more addresses than the file has bytes.

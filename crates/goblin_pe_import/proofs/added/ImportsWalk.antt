@@ -137,7 +137,7 @@ module _ (format : Format EntryValue) (addressing : Addressing) (bytes : List �
   pub cause-missing : (strict : Bool) → strict ≡ true → reads import_slots bytes p ≡ None
       → (import_record_at p).IsCause bytes e → IsRecordsCause strict format addressing bytes p e
   cause-missing true is r fault =
-      cause-slot import_slots (kept_library true format addressing) bytes true import_record_at
+      cause-slot None import_slots (kept_library true format addressing) bytes true import_record_at
       (lit≤ tt) p None r e (refl, fault)
   cause-missing false is r fault = absurd cc
 
@@ -154,7 +154,7 @@ module _ (format : Format EntryValue) (addressing : Addressing) (bytes : List �
       let name = library_name true addressing v in
       let table = lookup_if true format addressing at in
       let addresses = addresses_of format addressing v in
-      cause-slot import_slots (kept_library true format addressing) bytes true import_record_at
+      cause-slot None import_slots (kept_library true format addressing) bytes true import_record_at
       (lit≤ tt) p (Some v) r e (
         going,
         library-fault _ (in_two_if at) (name.value bytes) _ (table.value bytes) (addresses.value bytes)

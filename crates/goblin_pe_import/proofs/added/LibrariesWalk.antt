@@ -124,7 +124,7 @@ module _ (s : Libraries) (steps : Option ℕ) where
         → IsLibrariesCause s e
     by_cause entry r e fault =
         subst (λ (next : Option ℕ). IsEnd next e) (sym is)
-        (cause-slot import_slots (λ v. given (v ∷ [])) bytes strict import_record_at (lit≤ tt) p entry r e
+        (cause-slot None import_slots (λ v. given (v ∷ [])) bytes strict import_record_at (lit≤ tt) p entry r e
         fault)
 
     -- at most the last of them is a refusal

@@ -1,5 +1,5 @@
 -- An address table that is tested in pieces.
-use Rattle.std.proofs.Common.{◌≡◌, ◌≤◌, ◌+◌, ℕ, zero, suc, Bool, true, false, not, if◌then◌else◌, is_none, is_some, IsSomeAnd, List, [], length, Option, Some, None, option_map, refl, sym, ap, ◌∙◌, arith, lit≤}
+use Rattle.std.proofs.Common.{◌≡◌, ◌≤◌, ◌+◌, ℕ, zero, suc, Bool, true, false, not, if◌then◌else◌, is_none, is_some, IsSomeAnd, List, [], length, Option, Some, None, Result, Ok, Err, option_map, refl, sym, ap, ◌∙◌, arith, lit≤}
 use Rattle.goblin_base.specs.{declared.error.ErrorOf.ErrorOf, Answers.FirstFault}
 use Rattle.goblin_base.specs.Tables.{Format, SlotFormat, each_below, ends_table, join, made_of, slot_at, slot_table, stop}
 use Rattle.goblin_base.proofs.Below.{least-before}
@@ -9,8 +9,10 @@ use Rattle.readings.proofs.Loops.{read-end, read-missing, read-start, value_of}
 use Rattle.readings.proofs.Walks.{cause-slot, shifted, stop-first, stop-next}
 use Rattle.goblin_pe_import.specs.ImportEntries.{EntryValue, entry_slots}
 use Rattle.goblin_pe_import.specs.LookupReadings.{address_table, entry_number, entry_value_at}
-use Rattle.goblin_pe_import.specs.added.TestedTables.{in_next, resumed, sum_resumed}
-use Rattle.goblin_pe_import.specs.ImportRecords.{ImportDirectoryEntry, import_slots, is_last_record}
+use Rattle.goblin_pe_import.specs.added.TestedTables.{TestsPiece, in_next, resumed, sum_resumed, tested_slots, tested_table}
+use Rattle.goblin_pe_import.specs.added.StepsAhead.{TestsFirst}
+use Rattle.goblin_pe_sect.specs.Addresses.{Addressing}
+use Rattle.goblin_pe_import.specs.ImportRecords.{ImportDirectoryEntry, address_table_rva, import_slots, is_last_record}
 use Rattle.goblin_pe_import.specs.TableSums.{sum_of_slots}
 use Rattle.goblin_pe_import.proofs.SlotSteps.{sum-first, sum-here}
 
@@ -79,7 +81,7 @@ module _ (format : Format EntryValue) (bytes : List ℕ) where
       pub cause-on : (e : ErrorOf) → (address_table format (p + format.width)).IsCause bytes e
           → (address_table format p).IsCause bytes e
       cause-on e fault =
-          cause-slot (entry_slots format) entry_number bytes true (entry_value_at format) wide p (Some v) r e
+          cause-slot None (entry_slots format) entry_number bytes true (entry_value_at format) wide p (Some v) r e
           (z, fault)
 
   -- one that ends at a slot
@@ -89,8 +91,8 @@ module _ (format : Format EntryValue) (bytes : List ℕ) where
       × (stop (entry_slots format) bytes p ≡ 0)
   read-here p wide v r z = (
     ap is_read
-        (read-end (entry_slots format) entry_number bytes p p []
-        (read-start (entry_slots format) entry_number bytes p wide) true (entry_value_at format) (Some v) r
+        (read-end None (entry_slots format) entry_number bytes p p []
+        (read-start None (entry_slots format) entry_number bytes p wide) true (entry_value_at format) (Some v) r
         z refl),
     stop-first (entry_slots format) bytes p wide (Some v) r z,
   )
@@ -102,8 +104,8 @@ module _ (format : Format EntryValue) (bytes : List ℕ) where
       × (address_table format p).IsCause bytes e × (stop (entry_slots format) bytes p ≡ 0)
   missing-here p wide e r fault =
       let both =
-      read-missing (entry_slots format) entry_number bytes p p []
-      (read-start (entry_slots format) entry_number bytes p wide) true (entry_value_at format) e r refl
+      read-missing None (entry_slots format) entry_number bytes p p []
+      (read-start None (entry_slots format) entry_number bytes p wide) true (entry_value_at format) e r refl
       fault in
       (ap is_read both.0, both.1, stop-first (entry_slots format) bytes p wide None r refl)
 
@@ -182,3 +184,18 @@ module _ (amount : Option ℕ → ImportDirectoryEntry → ℕ) (bytes : List �
   summed-end tested end r z =
       resumed-end import_slots (sum_of_slots import_slots (amount None) bytes) amount bytes p tested end r z
       ∙ sum-here import_slots (amount None) bytes p (lit≤ tt) end r z
+
+-- a piece that is tested of a descriptor's table before its library's entries
+pub first-tested : (strict : Bool) (format : Format EntryValue) (addressing : Addressing)
+    (bytes : List ℕ) (tested : Option ℕ) (r : ImportDirectoryEntry)
+    (result : Result (Option ℕ) ErrorOf) → strict ≡ false
+    → TestsPiece format bytes (tested_table format addressing tested (address_table_rva r))
+    (tested_slots format addressing bytes tested (address_table_rva r)) result
+    → TestsFirst strict format addressing bytes tested r result
+first-tested true format addressing bytes tested r result is h = absurd cc
+first-tested false format addressing bytes tested r (Ok None) is h =
+    rw (in_permissive false tested refl) (is-there _ h.0, h.1)
+first-tested false format addressing bytes tested r (Ok (Some place)) is h =
+    rw (in_permissive false tested refl) (refl, none-same _ _ h.0, h.2)
+first-tested false format addressing bytes tested r (Err e) is h =
+    rw (in_permissive false tested refl) (refl, is-missing _ h.0, h.2)

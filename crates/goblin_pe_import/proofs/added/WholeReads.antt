@@ -7,9 +7,10 @@ use Rattle.goblin_base.specs.declared.{endian.Endian.TheVariants.Little, error.E
 use Rattle.goblin_base.specs.Tables.{SlotFormat, each_below, ends_table, join, made_of, or_left_out, slot_at, slot_table, stop}
 use Rattle.goblin_base.proofs.Below.{least-before}
 use Rattle.goblin_base.proofs.{Numbers.slice_at-past, SlotTables.going}
-use Rattle.readings.specs.Reads.{given, in_its_place, mapped, pair_of, text_within, with_slots}
+use Rattle.readings.specs.Reads.{given, in_its_place, mapped, pair_of, text_within, up_to, with_slots}
+use Rattle.readings.specs.Reads as reads
 use Rattle.readings.{specs.Walks.Walks, proofs.Pairs.strict_in_its_place}
-use Rattle.goblin_pe_sect.specs.{AddressReadings.at_address, AddressReadings.name_at, Addresses.Addressing, Addresses.MapOfAddresses, Addresses.reads_strictly}
+use Rattle.goblin_pe_sect.specs.{AddressReadings.name_at, AddressReadings.offset_at, Addresses.Addressing, Addresses.MapOfAddresses, Addresses.reads_strictly}
 use Rattle.goblin_pe_import.specs.ImportEntries.{EntryValue, LookupEntry, entry_slots}
 use Rattle.goblin_pe_import.specs.ImportEntries.LookupEntry.{ByOrdinal}
 use Rattle.goblin_pe_import.specs.ImportReadings.{first_record_offset, kept_library, library_of, lookup_if, numbered_data, numbered_libraries_at}
@@ -109,7 +110,7 @@ module _ (format : Format EntryValue) (addressing : Addressing) (bytes : List �
       kept : Bool → Bool → Option ℕ → Option (List LookupEntry)
       kept strict is_ordinal place =
           (cond is_ordinal (given (ByOrdinal v.ordinal ∷ []))
-          (kept_name strict addressing.longest v.rva place)).value bytes
+          (kept_name strict addressing.longest v.rva (addressing.end v.rva) place)).value bytes
 
       named : {H : Type 0} (made : ℕ × List ℕ → H) (entry : H → LookupEntry) (hint : Option ℕ)
           (text : Option (List ℕ))
@@ -128,7 +129,7 @@ module _ (format : Format EntryValue) (addressing : Addressing) (bytes : List �
           → IsSome (kept true is_ordinal place)
           ↔ ((from_bool (is_left_out (kept false is_ordinal place) && not (not is_ordinal && is_none place)) ≡ 0)
           × (is_ordinal ≡ false
-          → IfSome place (λ p. IsSome ((text_within addressing.longest (p + 2)).value bytes))))
+          → IfSome place (λ p. IsSome ((up_to (addressing.end v.rva) (text_within addressing.longest (p + 2))).value bytes))))
       by true place = (λ is. (refl, λ by_name. absurd cc), λ h. refl)
       by false None = (λ is. (refl, λ by_name. tt), λ h. refl)
       by false (Some p) = named _ _ _ _
@@ -153,7 +154,7 @@ module _ (format : Format EntryValue) (addressing : Addressing) (bytes : List �
   unfolding library_of record_counts
   library-whole r =
       by _ ((name_at addressing r.name_rva).value bytes) _
-      ((at_address addressing.offset (address_table_rva r) (address_table format)).value bytes) _ _
+      ((reads.◌>>=◌ (offset_at addressing.offset (address_table_rva r)) (address_table format)).value bytes) _ _
       (lookup-whole (lookup_offset addressing r))
     where
       by : {L B : Type 0} (made : ((List ℕ × L) × List ℕ) → B) (name : Option (List ℕ)) (lookup : Option L)

@@ -6,10 +6,10 @@ use Rattle.std.specs.Prelude.{IsSomeAnd}
 use Rattle.std.specs.Option.{option_len}
 use Rattle.goblin_base.specs.{declared.error.ErrorOf.ErrorOf, Reading.Reading, Tables.Format}
 use Rattle.goblin_base.specs.Answers.{FirstFault, IsMemory, all_of}
-use Rattle.readings.specs.Reads.{given, or_else, pick}
+use Rattle.readings.specs.Reads.{◌>>=◌, given, or_else, pick}
 use Rattle.readings.specs.Walks.{GivesNext, from_slot, refusal_of, table_walk, until_refused}
 use Rattle.goblin_pe_sect.specs.declared.address_map.finder.Finder.{Finder}
-use Rattle.goblin_pe_sect.specs.AddressReadings.{at_address, name_at}
+use Rattle.goblin_pe_sect.specs.AddressReadings.{name_at, offset_at}
 use Rattle.goblin_pe_sect.specs.Addresses.{Addressing, MapOfAddresses, map_of, reads_strictly}
 use Rattle.goblin_pe_import.specs.{ImportEntries.EntryValue, ImportLookup.entry_model}
 use Rattle.goblin_pe_import.specs.{ImportReadings.libraries_at, LookupReadings.address_table}
@@ -49,7 +49,7 @@ library_name strict addressing r = or_else strict [] (name_at addressing r.name_
 abbrev pub addresses_of : Format EntryValue → Addressing → ImportDirectoryEntry
     → Reading (List ℕ)
 addresses_of format addressing r =
-    at_address addressing.offset (address_table_rva r) (address_table format)
+    offset_at addressing.offset (address_table_rva r) >>= address_table format
 
 -- an address table that is still to be tested after its entries, which only strict mode does
 abbrev pub pending_table : Bool → Format EntryValue → Addressing → Option ℕ → Option ℕ

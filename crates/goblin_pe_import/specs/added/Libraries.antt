@@ -5,7 +5,7 @@ use Rattle.std.specs.Prelude.{◌+◌, ◌<◌, ◌≤◌, ◌⊎◌, IsSome, Is
 use Rattle.std.specs.{Option.ok_or, Result.result_map_both}
 use Rattle.goblin_base.specs.declared.error.ErrorOf.{ErrorOf}
 use Rattle.goblin_base.specs.{declared.error.ErrorOf.TheVariants.Malformed, Answers.IsMemory}
-use Rattle.goblin_base.specs.{Reading.Reading, Tables.Format}
+use Rattle.goblin_base.specs.{Parts.in_memory, Reading.Reading, Tables.Format}
 use Rattle.goblin_base.specs.declared.error.CauseOf.TheVariants.{NameRead, Unmapped}
 use Rattle.readings.specs.Reads.{given, table, text_within}
 use Rattle.readings.specs.Walks.{GivesNext, from_slot, table_walk}
@@ -37,7 +37,8 @@ text_or_cause longest bytes rva (Some p) =
 -- the name at an address, or why there is none, in either mode
 abbrev pub name_or_cause : Addressing → List ℕ → ℕ → Result (List ℕ) ErrorOf
 name_or_cause addressing bytes rva =
-    text_or_cause addressing.longest bytes rva (addressing.offset rva)
+    text_or_cause addressing.longest (in_memory (addressing.end rva) bytes) rva
+    (addressing.offset rva)
 
 -- the cursor before the descriptor at p, in a directory whose first one is at `first`
 abbrev pub at_record : ℕ → ℕ → ImportCursor
@@ -132,7 +133,7 @@ cursor_libraries m format bytes c =
 -- The descriptors of a directory from a place on, before the first that is not in the file or ends
 -- the directory. Strict mode needs that descriptor.
 abbrev pub directory_records : Bool → ℕ → Reading (List ImportDirectoryEntry)
-directory_records strict p = table import_slots strict import_record_at (λ r. given (r ∷ [])) p
+directory_records strict p = table None import_slots strict import_record_at (λ r. given (r ∷ [])) p
 
 -- the cause that is true if a refusal is among them: the directory reaches the end of the file
 abbrev pub IsCursorEndCause : MapOfAddresses → List ℕ → ImportCursor → ErrorOf → Type 0
@@ -245,7 +246,7 @@ given_of (Some (Ok None)) = None
 given_of (Some (Ok (Some x))) = Some (Ok x)
 given_of (Some (Err e)) = Some (Err e)
 
--- A walk stands at the cursor c, or in the address table of the descriptor that comes next there.
+-- A walk is at the cursor c, or in the address table of the descriptor that comes next there.
 abbrev pub Awaits : ImportCursor → ImportCursor → Type 0
 Awaits c d =
     (d ≡ c)

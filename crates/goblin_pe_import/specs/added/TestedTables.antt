@@ -4,7 +4,8 @@ use Rattle.std.specs.Prelude.{Option, Some, None, Result, Ok, Err}
 use Rattle.goblin_base.specs.{declared.error.ErrorOf.ErrorOf, Reading.Reading, Tables.Format}
 use Rattle.goblin_base.specs.Tables.{SlotFormat}
 use Rattle.goblin_base.specs.Record.{record_at}
-use Rattle.goblin_pe_sect.specs.{AddressReadings.at_address, Addresses.Addressing}
+use Rattle.readings.specs.Reads.{◌>>=◌}
+use Rattle.goblin_pe_sect.specs.{AddressReadings.offset_at, Addresses.Addressing}
 use Rattle.goblin_pe_import.specs.{ImportEntries.EntryValue, LookupReadings.address_table}
 use Rattle.goblin_pe_import.specs.{Steps.slots_ahead, TableSums.sum_of_slots}
 use Rattle.goblin_pe_import.specs.Passed.{Count, table_counts}
@@ -12,7 +13,8 @@ use Rattle.goblin_pe_import.specs.Passed.{Count, table_counts}
 -- the address table at an address; or, where a walk has tested a part of it, the rest, from the
 -- slot at a place on
 abbrev pub tested_table : Format EntryValue → Addressing → Option ℕ → ℕ → Reading (List ℕ)
-tested_table format addressing None rva = at_address addressing.offset rva (address_table format)
+tested_table format addressing None rva =
+    offset_at addressing.offset rva >>= address_table format
 tested_table format addressing (Some place) rva = address_table format place
 
 -- how many slots there are yet to test

@@ -4,7 +4,7 @@ use Rattle.std.specs.Prelude.{◌≡◌, ◌≢◌, ◌↔◌, ◌<◌, ℕ, ◌
 use Rattle.std.specs.Prelude.{Option, Some, is_some, IfSome, IsSome, IsSomeAnd, Result, IsOkAnd}
 use Rattle.goblin_base.specs.{declared.error.ErrorOf.ErrorOf, Answers.all_of}
 use Rattle.goblin_base.specs.Tables.{Format, SlotFormat, slot_at, stop}
-use Rattle.readings.specs.Reads.{text_within}
+use Rattle.readings.specs.Reads.{text_within, up_to}
 use Rattle.goblin_pe_sect.specs.{AddressReadings.name_at, Addresses.Addressing}
 use Rattle.goblin_pe_import.specs.ImportEntries.{EntryValue, entry_slots}
 use Rattle.goblin_pe_import.specs.ImportRecords.{ImportDirectoryEntry, import_slots, lookup_offset}
@@ -24,7 +24,8 @@ module _ (addressing : Addressing) (bytes : List ℕ) where
   HasImportName entry =
       entry.is_ordinal ≡ false
       → IfSome (addressing.offset entry.rva)
-      (λ p. IsSome ((text_within addressing.longest (p + 2)).value bytes))
+      (λ p. IsSome
+      ((up_to (addressing.end entry.rva) (text_within addressing.longest (p + 2))).value bytes))
 
   -- The name of a library can be read, and that of each import by name in its lookup table.
   abbrev pub HasNames : Format EntryValue → ImportDirectoryEntry → Type 0

@@ -1,6 +1,7 @@
 //! Entries of a lookup table by ordinal, or by a name that is ASCII.
 
 ghost use Rattle.std.specs.Prelude.{◌≡◌, ◌+◌, ◌<◌, ◌≤◌, ◌^◌, Bool, IfSome, Ok, Some, length, suc};
+ghost use Rattle.goblin_base.specs.Parts.{bytes_in};
 ghost use Rattle.readings.specs.Walks.{GivesNext};
 ghost use Rattle.goblin_pe_sect.specs.Addresses.{map_of, reads_strictly};
 ghost use Rattle.goblin_pe_import.specs.ImportLookup.{hint_name_model, kept_model};
@@ -13,26 +14,35 @@ use crate::import::bitfield::Bitfield;
 use crate::import::kept::KeptEntry;
 use crate::import::lookup_table::{HintNameTableEntry, SyntheticImportLookupTableEntry};
 use crate::import::slots::next_entry;
-use goblin_base::{Endian, field_u16, pread_ascii_str};
+use goblin_base::{Endian, MappedBytes, field_u16};
 use goblin_pe_sect::address_map::Finder;
 
 // How many bytes the file must have from an entry with such a name on: those of the hint, and a
 // lane of 16 bytes for the name.
 const ASCII_ROOM: usize = 18;
 
-// The hint and the name at an offset, if the name is ASCII and its NUL is not among the last
-// bytes of the file. `None` says nothing about them. Both modes return the same.
+// The hint and the name at an offset of what a read at an address sees, the name cut if there is a
+// limit, if the name is ASCII and its NUL is not among the last bytes there that are in the file.
+// `None` says nothing about them. Both modes return the same.
 #[inline(always)]
-fn ascii_hint_name<'a>(bytes: &'a [u8], offset: usize) -> Option<HintNameTableEntry<'a>>
+fn ascii_hint_name<'a>(
+    part: MappedBytes<'a>,
+    offset: usize,
+    longest: Option<u32>,
+) -> Option<HintNameTableEntry<'a>>
     ensures { IfSome result (λ named. (strict : Bool)
-        → (reading.hint_name strict None offset).value bytes.now ≡ Some (hint_name_model named)) }
+        → (reading.hint_name strict longest offset).value (bytes_in part.entry)
+        ≡ Some (hint_name_model named)) }
 {
-    if bytes.len() < offset || bytes.len() - offset < ASCII_ROOM {
+    let size = part.stored().len();
+    if size < offset || size - offset < ASCII_ROOM {
         return None;
     }
-    let entry = &bytes[offset..];
-    let hint = field_u16(entry, 0, Endian::Little);
-    let Some(name) = pread_ascii_str(entry, 2) else {
+    let Ok(hint) = part.array_at::<2>(offset) else {
+        return None;
+    };
+    let hint = field_u16(&hint, 0, Endian::Little);
+    let Some(name) = part.ascii_str_within(offset + 2, longest) else {
         return None;
     };
     Some(HintNameTableEntry { hint, name })
@@ -57,10 +67,10 @@ fn ascii_entry<'a, T: Bitfield<'a>>(
         return Some(SyntheticImportLookupTableEntry::OrdinalNumber(ordinal));
     }
     let rva = entry.to_rva();
-    let Some(offset) = finder.near_name_offset(rva) else {
+    let Some((part, offset)) = finder.near_name_part(bytes, rva) else {
         return None;
     };
-    let Some(named) = ascii_hint_name(bytes, offset) else {
+    let Some(named) = ascii_hint_name(part, offset, finder.longest_name()) else {
         return None;
     };
     Some(SyntheticImportLookupTableEntry::HintNameTableRVA((rva, named)))

@@ -29,7 +29,7 @@ use crate::import::library::{address_table_rva, lookup_offset};
 use crate::import::passed::Passed;
 use crate::import::slots::{may_end, next_record};
 use crate::import::steps::{are_out, spend};
-use goblin_base::{Cause, Error, Result, ResultOf, pread_str_within};
+use goblin_base::{Cause, Error, Result, ResultOf};
 use goblin_pe_sect::address_map::Finder;
 use std::fmt;
 use std::iter::FusedIterator;
@@ -63,10 +63,11 @@ fn name_or_cause<'a>(bytes: &'a [u8], rva: u32, finder: &mut Finder<'_>) -> Resu
         ≡ name_or_cause (map_of finder.old).addressing bytes.now rva }
     ensures same { finder.new ≡ finder.old }
 {
-    let Some(offset) = finder.offset_of_name(rva) else {
+    let (part, offset) = finder.part_of_name(bytes, rva);
+    let Some(offset) = offset else {
         return Err(Error::Malformed(Cause::Unmapped(rva as usize)));
     };
-    match pread_str_within(bytes, offset, finder.longest_name()) {
+    match part.text_within(offset, finder.longest_name()) {
         Ok(name) => Ok(name),
         Err(_) => Err(Error::Malformed(Cause::NameRead(offset))),
     }

@@ -2,7 +2,8 @@
 
 ghost use Rattle.std.specs.Prelude.{◌≡◌, ◌<◌, IfOk, None, Some, length, map, true, All};
 ghost use Rattle.std.specs.List.Sorted.{IsStrictlyIncreasing};
-ghost use Rattle.goblin_base.specs.{Reading.Reads, Reading.ReadsOrMemory, Tables.stop};
+ghost use Rattle.goblin_base.specs.{Parts.bytes_in, Reading.Reads, Reading.ReadsOrMemory};
+ghost use Rattle.goblin_base.specs.Tables.{stop};
 ghost use Rattle.goblin_pe_sect.specs.Options.{default_options, is_strict};
 ghost use Rattle.goblin_pe_sect.specs.Addresses.{map_by, map_of, reads_strictly};
 ghost use Rattle.goblin_pe_import.specs.ImportLookup.{entry_slots, lookup_slots};
@@ -11,7 +12,7 @@ ghost use Rattle.goblin_pe_import.specs.LookupReadings as reading;
 
 use crate::import::bitfield::Bitfield;
 use crate::import::kept::next_kept;
-use goblin_base::{Cause, Endian, Error, Result, ResultOf, no_text, pread_str_within, pread_u16};
+use goblin_base::{Cause, Endian, Error, MappedBytes, Result, ResultOf, field_u16, no_text};
 use goblin_pe_sect::address_map::{AddressMap, Finder};
 use goblin_pe_sect::options::ParseOptions;
 use goblin_pe_sect::section_table::SectionTable;
@@ -57,27 +58,29 @@ impl<'a> HintNameTableEntry<'a> {
         ensures { Reads hint_name_model result
             (reading.hint_name (is_strict opts.now.parse_mode) None offset) bytes.now }
     {
-        HintNameTableEntry::parse_within(bytes, offset, None, opts)
+        HintNameTableEntry::parse_in(MappedBytes::whole(bytes), offset, None, opts)
     }
 
-    // The hint at an offset, and the name after it, up to a limit.
+    // The hint at an offset of what a read at an address sees, and the name after it, up to a limit.
     #[inline(always)]
-    #[tactic(auto, unfolding(crate::specs::LookupReadings::hint_name))]
-    fn parse_within<'e>(
-        bytes: &'a [u8],
+    #[tactic(auto, unfolding(crate::specs::LookupReadings::hint_name), using(crate::proofs::HintNames::hints))]
+    fn parse_in<'e>(
+        part: MappedBytes<'a>,
         offset: usize,
         longest: Option<u32>,
         opts: &ParseOptions,
     ) -> ResultOf<'e, HintNameTableEntry<'a>>
         ensures { Reads hint_name_model result
-            (reading.hint_name (is_strict opts.now.parse_mode) longest offset) bytes.now }
+            (reading.hint_name (is_strict opts.now.parse_mode) longest offset)
+            (bytes_in part.entry) }
     {
-        let Ok(hint) = pread_u16(bytes, offset, Endian::Little) else {
+        let Ok(hint) = part.array_at::<2>(offset) else {
             return Err(Error::Malformed(Cause::HintEntry(offset)));
         };
-        let name = match pread_str_within(bytes, offset + 2, longest) {
+        let hint = field_u16(&hint, 0, Endian::Little);
+        let name = match part.text_within(offset + 2, longest) {
             Ok(name) => name,
-            Err(_) if opts.parse_mode.is_permissive() => no_text(bytes),
+            Err(_) if opts.parse_mode.is_permissive() => no_text(part.stored()),
             Err(error) => return Err(error),
         };
         Ok(HintNameTableEntry { hint, name })
@@ -115,11 +118,12 @@ impl<'a> SyntheticImportLookupTableEntry<'a> {
             return Ok(Some(SyntheticImportLookupTableEntry::OrdinalNumber(ordinal)));
         }
         let rva = entry.to_rva();
-        let Some(offset) = finder.offset_of_name(rva) else {
+        let (part, offset) = finder.part_of_name(bytes, rva);
+        let Some(offset) = offset else {
             return Ok(None);
         };
         let longest = finder.longest_name();
-        match HintNameTableEntry::parse_within(bytes, offset, longest, finder.opts()) {
+        match HintNameTableEntry::parse_in(part, offset, longest, finder.opts()) {
             Ok(named) => Ok(Some(SyntheticImportLookupTableEntry::HintNameTableRVA((rva, named)))),
             Err(error) if finder.reads_strictly() => Err(error),
             Err(_) => Ok(None),

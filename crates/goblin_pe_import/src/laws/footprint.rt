@@ -3,12 +3,13 @@
 
 ghost use Rattle.std.specs.Prelude.{◌≡◌, ◌+◌, ◌++◌, if◌then◌else◌, is_some, None, IfErr, IfOk, OnOk};
 ghost use Rattle.goblin_base.specs.{Answers.IsMemory, Bytes.slice_at};
-ghost use Rattle.goblin_base.specs.Footprints.{led_to, positions, slice_footprint};
-ghost use Rattle.goblin_base.specs.Footprints.{stretch_footprint};
-ghost use Rattle.goblin_pe_sect.specs.Addresses.{map_by, map_of, reads_strictly, with_longest};
+ghost use Rattle.goblin_base.specs.Footprints.{led_to, positions};
+ghost use Rattle.goblin_pe_sect.specs.AddressReadings.{name_at};
+ghost use Rattle.goblin_pe_sect.specs.Addresses.{map_by, map_of, offset_of, reads_strictly};
+ghost use Rattle.goblin_pe_sect.specs.Addresses.{with_longest};
 ghost use Rattle.goblin_pe_import.specs.ImportReadings.{import_data, libraries_at, library_of};
 ghost use Rattle.goblin_pe_import.specs.ImportReadings.{lookup_if};
-ghost use Rattle.goblin_pe_import.specs.LookupReadings.{address_table, kept_entry};
+ghost use Rattle.goblin_pe_import.specs.LookupReadings.{address_table, kept_entry, kept_name};
 
 use crate::import::{
     Bitfield, ImportDirectoryEntry, SIZEOF_IMPORT_DIRECTORY_ENTRY, address_table_rva,
@@ -33,37 +34,51 @@ fn add<'e>(ranges: &mut Vec<(usize, usize)>, begin: usize, end: usize) -> Result
     Ok(())
 }
 
-// Adds the text at a place, if there is one.
-#[tactic(auto, using(goblin_base::proofs::SlotFootprints::adding))]
+// Adds the text at the address of a name, if there is one.
+#[tactic(auto, unfolding(goblin_pe_sect::specs::AddressReadings::name_at), using(goblin_base::proofs::SlotFootprints::adding))]
 fn add_text<'e>(
     ranges: &mut Vec<(usize, usize)>,
     bytes: &[u8],
-    place: Option<usize>,
+    rva: u32,
+    address_map: &AddressMap,
 ) -> ResultOf<'e, ()>
-    ensures added { let reached = led_to place (stretch_footprint bytes.now) in
+    ensures added { let m = with_longest None (map_of address_map.now) in
+        let reached = (name_at m.addressing rva).reaches bytes.now in
         OnOk result (ranges.new.items ≡ ranges.old.items ++ reached) }
     ensures refused { IfErr result IsMemory }
 {
-    match place {
-        Some(offset) => add(ranges, offset, text_end(bytes, offset)),
+    let (part, offset) = address_map.part_of(bytes, rva);
+    match offset {
+        Some(offset) => add(ranges, offset, text_end(part.stored(), offset)),
         None => Ok(()),
     }
 }
 
-// Adds the hint at an offset, and the text after it.
-#[tactic(auto, using(goblin_base::proofs::SlotFootprints::adding))]
-fn add_hint<'e>(ranges: &mut Vec<(usize, usize)>, bytes: &[u8], offset: usize) -> ResultOf<'e, ()>
-    ensures added { let text = stretch_footprint bytes.now (offset + 2) in
-        let reached = slice_footprint bytes.now offset 2 ++ text in
-        OnOk result (ranges.new.items ≡ ranges.old.items ++ reached) }
+// Adds the hint at an address, and the text after it, if there is a hint.
+#[tactic(auto, using(goblin_base::proofs::SlotFootprints::adding, crate::proofs::HintNames::hints))]
+fn add_hint<'e>(
+    ranges: &mut Vec<(usize, usize)>,
+    bytes: &[u8],
+    rva: u32,
+    address_map: &AddressMap,
+) -> ResultOf<'e, ()>
+    ensures added { let m = map_of address_map.now in
+        let named =
+        kept_name (reads_strictly m) None rva (m.addressing.end rva) (offset_of m rva) in
+        OnOk result (ranges.new.items ≡ ranges.old.items ++ named.reaches bytes.now) }
     ensures refused { IfErr result IsMemory }
 {
-    let Ok(hint) = pread_slice(bytes, offset, 2) else {
+    let (part, offset) = address_map.part_of(bytes, rva);
+    let Some(offset) = offset else {
+        return Ok(());
+    };
+    let Ok(hint) = part.array_at::<2>(offset) else {
         return Ok(());
     };
     let end = offset + hint.len();
-    add(ranges, offset, end)?;
-    add_text(ranges, bytes, Some(end))
+    let stored = part.stored();
+    add(ranges, offset, end.min(stored.len()))?;
+    add(ranges, end, text_end(stored, end))
 }
 
 // Adds what an entry of a lookup table leads to.
@@ -83,10 +98,7 @@ fn add_entry<'a, 'e, T: Bitfield<'a>>(
     if entry.is_ordinal() {
         return Ok(());
     }
-    match address_map.offset_of(entry.to_rva()) {
-        Some(offset) => add_hint(ranges, bytes, offset),
-        None => Ok(()),
-    }
+    add_hint(ranges, bytes, entry.to_rva(), address_map)
 }
 
 // Adds the slots of `width` bytes from an offset up to `last`, and the one at `last` if the file
@@ -171,7 +183,7 @@ fn add_library<'a, 'e, T: Bitfield<'a>>(
         OnOk result (ranges.new.items ≡ ranges.old.items ++ reached) }
     ensures refused { IfErr result IsMemory }
 {
-    add_text(ranges, bytes, address_map.offset_of(entry.name_rva))?;
+    add_text(ranges, bytes, entry.name_rva, address_map)?;
     let lookup = lookup_offset(entry, &mut Finder::of(address_map));
     add_lookup_table::<T>(ranges, bytes, lookup, address_map)?;
     let addresses = address_map.offset_of(address_table_rva(entry));

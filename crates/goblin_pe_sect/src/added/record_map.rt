@@ -5,20 +5,22 @@ ghost use Rattle.std.specs.Prelude.{◌≡◌, IfErr, IfOk, length};
 ghost use Rattle.goblin_base.specs.Answers.{GivesOrMemory};
 ghost use Rattle.goblin_pe_sect.specs.Addresses.{Walked, AreMany, WalksFew, map_in, map_of};
 ghost use Rattle.goblin_pe_sect.specs.Addresses.{map_with, with_longest};
-ghost use Rattle.goblin_pe_sect.specs.{Mapping.file_offset, WindowIndex.HasPieces};
+ghost use Rattle.goblin_base.specs.Parts.{bytes_in, in_memory};
+ghost use Rattle.goblin_pe_sect.specs.Mapping.{file_end, file_offset};
+ghost use Rattle.goblin_pe_sect.specs.WindowIndex.{HasPieces};
 ghost use Rattle.goblin_pe_sect.specs.SectionTable.{mapped_of, mapped_sections, recorded_sections};
 
-use crate::address_map::run::Run;
+use crate::address_map::run::{Run, part_at};
 use crate::address_map::walk::find_by_sections;
 use crate::address_map::{AddressMap, MappedRecords, Windows, index_of};
 use crate::options::{Mapping, ParseOptions, View};
 use crate::section_table::SectionTable;
-use goblin_base::ResultOf;
+use goblin_base::{MappedBytes, ResultOf};
 use std::alloc::Global;
 
-/// The largest number of sections that are walked over for each address. For more sections an index
-/// is made, which takes memory. The specification says that the Windows loader limits the number of
-/// sections to 96; newer versions of Windows load more.
+/// The largest number of sections that are walked over for each address in goblin's view. For more
+/// sections an index is made, which takes memory. The specification says that the Windows loader
+/// limits the number of sections to 96; newer versions of Windows load more.
 ///
 /// Source: PE Format, "COFF File Header (Object and Image)".
 pub const MOST_WITHOUT_INDEX: usize = 96;
@@ -48,14 +50,35 @@ pub fn offset_by_records(
         ≡ file_offset mapping (mapped_sections records.entry) file_alignment rva }
 {
     let mut run = Run::default();
-    find_by_sections(records, file_alignment, mapping, rva as usize, &mut run)
+    let place = find_by_sections(records, file_alignment, mapping, rva as usize, &mut run)?;
+    Some(place.offset)
+}
+
+/// What a read at the address `rva` sees, and its file offset as [`offset_by_records`] returns it.
+/// [`Finder::part_of`](crate::address_map::Finder::part_of) says what is seen.
+#[tactic(auto, using(crate::proofs::Places::places_of_sections))]
+pub fn part_by_records<'a>(
+    bytes: &'a [u8],
+    records: MappedRecords,
+    file_alignment: u32,
+    mapping: Mapping,
+    rva: u32,
+) -> (MappedBytes<'a>, Option<usize>)
+    ensures part { let end = file_end mapping (mapped_sections records.entry) file_alignment rva in
+        bytes_in result.0 ≡ in_memory end bytes.now }
+    ensures offset { result.1
+        ≡ file_offset mapping (mapped_sections records.entry) file_alignment rva }
+{
+    let mut run = Run::default();
+    let place = find_by_sections(records, file_alignment, mapping, rva as usize, &mut run);
+    part_at(bytes, place)
 }
 
 impl<'s> Windows<'s> {
-    // For many sections: an index of their windows, or the section headers themselves if the
-    // options or the alignment leave no window to find.
+    // For many sections in goblin's view: an index of their windows. Else the section headers
+    // themselves, also if the options or the alignment leave no window to find.
     #[inline(never)]
-    #[tactic(auto, using(crate::proofs::AddressMaps::same_map_alone, crate::proofs::AddressMaps::same_map_with))]
+    #[tactic(auto, using(crate::proofs::AddressMaps::same_map_alone))]
     fn of_many<'e>(
         alloc: Global,
         records: MappedRecords<'s>,
@@ -68,16 +91,17 @@ impl<'s> Windows<'s> {
         ensures few { IfOk result (WalksFew opts.now) }
         ensures pieces { IfErr result (λ e. HasPieces opts.now.resolve_rva file_alignment) }
     {
+        let walked = Windows::Walked(records, view, file_alignment);
         if !opts.resolve_rva || !file_alignment.is_power_of_two() {
-            return Ok(Windows::Walked(records, view, file_alignment));
+            return Ok(walked);
         }
-        let sections = listed(alloc, records)?;
-        let mapping = view.mapping(opts);
-        let index = index_of(alloc, &sections, file_alignment, mapping)?;
-        let Some(_) = records.front else {
-            return Ok(Windows::Indexed(index));
+        let (View::Sections, None) = (view, records.front) else {
+            return Ok(walked);
         };
-        Ok(Windows::IndexedWithFront(index))
+        let sections = listed(alloc, records)?;
+        let mapping = View::Sections.mapping(opts);
+        let index = index_of(alloc, &sections, file_alignment, mapping)?;
+        Ok(Windows::Indexed(index))
     }
 }
 
@@ -86,8 +110,8 @@ impl<'s> AddressMap<'s> {
     /// them, with windows as long as in `view`. With the front, address 0 has no offset, because
     /// address 0 in a table means that there is nothing.
     ///
-    /// With at most 96 sections the map takes no memory, and walks over their windows for each
-    /// address. With more sections it lists them and makes an index, except if `opts` says that
+    /// The map walks over the windows for each address, and takes no memory. But in goblin's view,
+    /// with more than 96 sections, it lists them and makes an index, except if `opts` says that
     /// addresses are offsets or `file_alignment` is not a power of two.
     ///
     /// # Errors

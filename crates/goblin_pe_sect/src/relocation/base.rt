@@ -7,6 +7,7 @@ ghost use Rattle.std.specs.Iterator.SizeHint.{IsWithinCount};
 ghost use Rattle.goblin_base.specs.{Reading.Reads, Record.WritesRecord};
 ghost use Rattle.goblin_pe_sect.specs.declared.relocation.base.RelocationWord.{RelocationWord};
 ghost use Rattle.goblin_pe_sect.specs.{AddressReadings.relocation_data, Mapping.file_offset};
+ghost use Rattle.goblin_pe_sect.specs.Addresses.{with_whole_names};
 ghost use Rattle.goblin_pe_sect.specs.BaseRelocations.{AreBlocksOf, FindsItem, block_at};
 ghost use Rattle.goblin_pe_sect.specs.BaseRelocations.{block_item, block_items, blocks_left};
 ghost use Rattle.goblin_pe_sect.specs.BaseRelocations.{relocation_bytes, word_fields, word_items};
@@ -55,7 +56,8 @@ impl<'a> RelocationData<'a> {
     ) -> Result<Self>
         ensures { let mapping = mapping_by default_options in
             let offset_of = file_offset mapping sections.now file_alignment in
-            Reads relocation_bytes result (relocation_data offset_of dd) bytes.now }
+            Reads relocation_bytes result
+            (relocation_data (with_whole_names offset_of) dd) bytes.now }
     {
         let opts = ParseOptions::default();
         RelocationData::parse_with_opts(bytes, dd, sections, file_alignment, &opts)
@@ -78,7 +80,8 @@ impl<'a> RelocationData<'a> {
     ) -> Result<Self>
         ensures { let mapping = mapping_by opts.now in
             let offset_of = file_offset mapping sections.now file_alignment in
-            Reads relocation_bytes result (relocation_data offset_of dd) bytes.now }
+            Reads relocation_bytes result
+            (relocation_data (with_whole_names offset_of) dd) bytes.now }
     {
         let rva = dd.virtual_address as usize;
         let offset = find_offset(rva, sections, file_alignment, opts);
@@ -92,7 +95,8 @@ impl<'a> RelocationData<'a> {
     /// As [`RelocationData::parse_with_opts`].
     #[tactic(auto, unfolding(crate::specs::AddressReadings::relocation_data))]
     pub fn parse_at(bytes: &'a [u8], dd: DataDirectory, offset: Option<usize>) -> Result<Self>
-        ensures { Reads relocation_bytes result (relocation_data (λ _. offset) dd) bytes.now }
+        ensures { Reads relocation_bytes result
+            (relocation_data (with_whole_names (λ _. offset)) dd) bytes.now }
     {
         let Some(offset) = offset else {
             return Err(Error::Malformed(Cause::Unmapped(dd.virtual_address as usize)));

@@ -1,4 +1,4 @@
-use Rattle.std.proofs.Common.{length, ◌-◌}
+use Rattle.std.proofs.Common.{None, length, ◌-◌}
 use Rattle.readings.proofs.Loops.{AtRead}
 use Rattle.goblin_pe_sect.specs.Addresses.{map_of, reads_strictly}
 use Rattle.goblin_pe_import.specs.{ImportReadings.kept_library, ImportRecords.import_slots}
@@ -6,7 +6,7 @@ use Rattle.goblin_pe_import.proofs.import.libraries.Given as goal
 
 abbrev pub invariant-records : goal.invariant-records
 invariant-records g l =
-    AtRead import_slots
+    AtRead None import_slots
     (kept_library (reads_strictly (map_of l.fn.address_map)) g.T.Bitfield.format
     (map_of l.fn.address_map).addressing)
     l.fn.bytes l.fn.offset l.place l.libraries.items

@@ -1,7 +1,10 @@
 use Rattle.std.proofs.Common.{◌≡◌, ◌+◌, ◌-◌, ℕ, Some, ap, refl, sym, ◌∙◌, arith}
 use Rattle.std.proofs.lemmas.Grind.{common_steps}
-use Rattle.goblin_pe_sect.specs.Mapping.{offset_in}
-use Rattle.goblin_pe_sect.proofs.Walked.{owned, owned_by_none, passed_after, passed_before}
+use Rattle.goblin_pe_sect.specs.Mapping.{ends_in, mapped_end, offset_in}
+use Rattle.goblin_base.specs.{declared.mapped.MappedEnd.MappedEnd, Parts.end_or_none}
+use Rattle.goblin_pe_sect.specs.declared.address_map.run.Place.{Place}
+use Rattle.goblin_pe_sect.specs.{declared.options.Mapping.Mapping, SectionTable.Section}
+use Rattle.goblin_pe_sect.proofs.Walked.{place_in, owned, owned_by_none, passed_after, passed_before}
 use Rattle.goblin_pe_sect.proofs.address_map.walk.find_window.Goals.{then-rva-begin, else-rva-begin+then-end-rva}
 use Rattle.goblin_pe_sect.proofs.address_map.walk.find_window.Goals as goal
 
@@ -43,6 +46,12 @@ records-preserved c =
       }
     ]
 
+-- the place that the window gives, with an end that says the same
+same_place : (mapping : Mapping) (alignment : ℕ) (s : Section) (rva offset : ℕ) (own end : MappedEnd) → offset ≡ offset_in mapping s rva → end ≡ end_or_none (ends_in mapping.view (Some own)) → own ≡ mapped_end mapping alignment s → record { offset = offset; end = end } ≡ place_in mapping alignment s rva
+same_place mapping alignment s rva offset own end here last is =
+    let whole : end ≡ end_or_none (ends_in mapping.view (Some (mapped_end mapping alignment s))) = last ∙ ap (λ (e : MappedEnd). end_or_none (ends_in mapping.view (Some e))) is in
+    rw (here, whole) refl
+
 pub returns-else-end-rva-clause-value : goal.returns-else-end-rva-clause-value
 returns-else-end-rva-clause-value c =
     let s = c.in-Some.section in
@@ -52,7 +61,7 @@ returns-else-end-rva-clause-value c =
     let has = owned _ _ c.requires.maps c.requires.aligned _ _ _ _ _ now.is s _ c.in-Some.ensures rva now.is.from now.is.to
     (omega (arith, w.begin, c.if-rva-begin.false)) (omega (arith, w.end, c.if-end-rva.false)) in
     let same : c.raw_begin-pointer.result + (rva - c.section_window-begin.result.0) ≡ offset_in c.args.mapping s rva = omega (arith, c.raw_begin-pointer.ensures, w.begin) in
-    ap (λ (n : ℕ). Some n) same ∙ sym has
+    ap (λ (p : Place). Some p) (same_place c.args.mapping c.args.file_alignment s rva _ _ _ same c.ends-mapped.ensures c.mapped_end-mapped.ensures) ∙ sym has
 
 pub returns-else-end-rva-clause-is : goal.returns-else-end-rva-clause-is
 returns-else-end-rva-clause-is c =
@@ -65,8 +74,8 @@ returns-else-end-rva-clause-is c =
       answers = λ rva from to.
           let has = owned _ _ c.requires.maps c.requires.aligned _ _ _ _ _ c.records.invariant.is s _ c.in-Some.ensures rva
           (omega (arith, from, c.max-first.ensures)) (omega (arith, from, to, c.min.ensures)) (omega (arith, from, c.max-first.ensures, w.begin)) (omega (arith, from, to, c.min.ensures, w.end)) in
-          let same : offset_in c.args.mapping s rva ≡ c.raw_begin-pointer.result + (first - c.section_window-begin.result.0) + (rva - first) = omega (arith, from, c.max-first.ensures, c.raw_begin-pointer.ensures, w.begin) in
-          has ∙ ap (λ (n : ℕ). Some n) same;
+          let same : c.raw_begin-pointer.result + (first - c.section_window-begin.result.0) + (rva - first) ≡ offset_in c.args.mapping s rva = omega (arith, from, c.max-first.ensures, c.raw_begin-pointer.ensures, w.begin) in
+          has ∙ sym (ap (λ (p : Place). Some p) (same_place c.args.mapping c.args.file_alignment s rva _ _ _ same c.ends-mapped.ensures c.mapped_end-mapped.ensures));
     }
 
 pub returns-clause-value : goal.returns-clause-value

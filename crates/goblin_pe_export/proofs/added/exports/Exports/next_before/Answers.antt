@@ -1,4 +1,5 @@
 use Rattle.std.proofs.Common.{ℕ, ◌∷◌, ◌+◌, ap, arith, length, Some, sym, ◌∙◌}
+use Rattle.goblin_base.specs.Parts.{bytes_in}
 use Rattle.goblin_pe_sect.specs.{Addresses.map_of, declared.address_map.AddressMap.AddressMap}
 use Rattle.goblin_pe_export.specs.ExportRecords.{ExportTables, name_pointers, tables_in}
 use Rattle.goblin_pe_export.specs.added.ExportWalks.{NumberedExport, exports_at, numbered_from, walked_export}
@@ -27,7 +28,7 @@ pub returns-in-Some : goal.returns-in-Some
 returns-in-Some c =
     let before = c.pointers.invariant in
     let count = ap (λ (t : ExportTables). length t.export_name_pointer_table) before.over.1 in
-    let first = entry_count 4 name_pointers.value_of c.args.self.now.tables.name_pointers.now in
+    let first = entry_count 4 name_pointers.value_of (bytes_in c.args.self.now.tables.name_pointers) in
     let same = c.of_pointer-read.ensures.same in (
       (
         before.left
@@ -45,7 +46,7 @@ returns-in-Some c =
 pub returns : goal.returns
 returns c =
     let before = c.pointers.invariant in
-    let first = entry_count 4 name_pointers.value_of c.args.self.now.tables.name_pointers.now in
+    let first = entry_count 4 name_pointers.value_of (bytes_in c.args.self.now.tables.name_pointers) in
     let left = ap (λ (x : ℕ). exports_at c.pointers.self x) before.at in (
       before.over,
       left ∙ sym before.left,
