@@ -47,26 +47,37 @@ class Plain:
             (there,) = self.read("<I", at)
             self.directories = [self.read("<2I", at + 4 + 8 * it) if it < there else (0, 0) for it in range(2)]
 
-    def read(self, form, at):
-        """The numbers at an offset; None if the file ends before."""
-        return struct.unpack_from(form, self.data, at) if at is not None and at + struct.calcsize(form) <= len(self.data) else None
+    def read(self, form, at, data=None):
+        """The numbers at an offset; None if the bytes end before."""
+        data = self.data if data is None else data
+        return struct.unpack_from(form, data, at) if at is not None and at + struct.calcsize(form) <= len(data) else None
 
     def up(self, size, alignment):
         return -(-size // alignment) * alignment
 
     @functools.cache
-    def offset(self, rva):
-        """Where an address leads to: into the raw data of the first section that has it, or into the headers."""
+    def place(self, rva):
+        """Where an address leads to, and the bytes that are seen there: into the raw data of the first section that has it, or into the
+        headers. A loader maps that data alone, and zeros to the end of the last page."""
         block = self.alignment
         if not block or block & block - 1 or self.is_loaded and not rva:
-            return None
-        for virtual, begin, raw, pointer in self.sections:
+            return None, b""
+        for virtual, begin, raw, pointer in self.sections + [(self.headers, 0, self.headers, 0)] * self.is_loaded:
             down = pointer & ~0x1FF
             blocks = self.up(raw, block) if self.is_loaded and block < 512 else self.up(pointer + raw, block) - down
             size = min(blocks, self.up(raw, 4096), self.up(virtual, 4096) or blocks) if raw else 0
             if begin <= rva < begin + size:
-                return rva - begin + (down if self.is_loaded and block >= 512 else pointer)
-        return rva if self.is_loaded and rva < min(self.up(self.headers, block), self.up(self.headers, 4096)) else None
+                first = down if self.is_loaded and block >= 512 else pointer
+                zeros = min(self.up(virtual or raw, 4096) - size, 4 * len(self.data))
+                is_cut = self.is_loaded and first + size <= len(self.data)
+                return rva - begin + first, self.data[:first + size] + bytes(zeros) if is_cut else self.data
+        return None, b""
+
+    def offset(self, rva):
+        return self.place(rva)[0]
+
+    def read_at(self, form, rva):
+        return self.read(form, *self.place(rva))
 
     @functools.cache
     def entries(self, at):
@@ -75,9 +86,9 @@ class Plain:
         while (found := self.read(self.slot, at)) and found[0]:
             at += struct.calcsize(self.slot)
             if not found[0] >> (8 * struct.calcsize(self.slot) - 1):
-                hint = self.offset(found[0] & 0x7FFFFFFF)
-                nowhere += hint is None
-                cut += hint is not None and self.read("<H", hint) is None
+                rva = found[0] & 0x7FFFFFFF
+                nowhere += self.offset(rva) is None
+                cut += self.offset(rva) is not None and self.read_at("<H", rva) is None
         return bool(found), cut, nowhere
 
     def imports(self):
@@ -100,28 +111,29 @@ class Plain:
         rva, size = self.directories[0]
         if not rva and not size:
             return 0, 0
-        record = self.offset(rva) is not None and self.read("<20x5I", self.offset(rva))
+        record = self.read_at("<20x5I", rva)
         if not record or max(record[:2]) > len(self.data):
             return 1, 0
         addresses, pointers, *tables = record
         counts = zip((addresses, pointers, pointers), tables, (4, 4, 2))
         addresses, pointers, ordinals = (
-            min(count, max(0, len(self.data) - self.offset(at)) // width) if self.offset(at) is not None else 0 for count, at, width in counts)
+            min(count, max(0, len(seen) - at) // width) if at is not None else 0 for count, (at, seen), width in
+            ((count, self.place(table), width) for count, table, width in counts))
         unmapped = max(0, pointers - ordinals)
         for index in range(min(pointers, ordinals)):
-            (ordinal,) = self.read("<H", self.offset(tables[2]) + 2 * index)
+            (ordinal,) = self.read_at(f"<{2 * index}xH", tables[2])
             if ordinal >= addresses:
                 unmapped += 1
                 continue
-            (to,) = self.read("<I", self.offset(tables[0]) + 4 * ordinal)
-            unmapped += rva <= to < rva + size and not self.is_forwarder(self.offset(to))
+            (to,) = self.read_at(f"<{4 * ordinal}xI", tables[0])
+            unmapped += rva <= to < rva + size and not self.is_forwarder(*self.place(to))
         return 0, unmapped
 
-    def is_forwarder(self, at):
+    def is_forwarder(self, at, seen):
         """Whether a DLL, a dot, and a name or the number of an ordinal lie at an offset."""
-        if at is None or at >= len(self.data):
+        if at is None or at >= len(seen):
             return False
-        text = self.data[at:].partition(b"\0")[0]
+        text = seen[at:].partition(b"\0")[0]
         number = re.fullmatch(rb"[^.]*\.#(\+?[0-9]+)", text)
         is_utf8 = text.decode("utf-8", "ignore").encode() == text
         return is_utf8 and (int(number[1]) < 1 << 32 if number else bool(re.fullmatch(rb"(?s)[^.]*\.[^#].*", text)))

@@ -4,7 +4,7 @@ import re
 import struct
 import unittest
 
-from tests import dump, hostile, images, test_rust
+from tests import dump, hostile, images, test_mapped, test_rust
 from tests.bindings import BINDINGS, package
 from tests.programs import succeed
 
@@ -49,7 +49,7 @@ class Layers(test_rust.Crate):
         """Of all fields of all rows of samples, of changed copies of them and of other files."""
         rich = images.with_rich_header(images.library(b"rich.dll", [(b"Apple", 0x3010)]), 0x12345678, [(0x1047809, 3), (0x930001, 7)])
         broken = images.library(b"a.dll", [(b"f", b"BROKEN"), (b"f", 0x5010)])
-        files = [numbered(), past_32_bits(), bytes(broken), with_auxiliary_records(), bytes(rich), *hostile.files(8)]
+        files = [numbered(), past_32_bits(), bytes(broken), with_auxiliary_records(), bytes(rich), *(it[1] for it in test_mapped.IMAGES), *hostile.files(8)]
         paths = [self.written(f"{index}.bin", data) for index, data in enumerate(files)]
         program = self.user("dump", pathlib.Path(__file__).with_name("dump.rs").read_text("utf-8"))
         listed = self.written("files", "\n".join(map(str, paths)).encode())

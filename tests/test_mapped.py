@@ -1,6 +1,6 @@
 """What is mapped ends where memory ends: texts, numbers and tables at the end of the raw data of a section. In memory zeros follow
 there, to the end of the page, and in the file the raw data of the next section. The rows were worked out by hand from the sizes of
-the section."""
+the section. Import tables alone are read on in the file: `READ_ON` has what is skipped or leads nowhere there."""
 import struct
 import unittest
 
@@ -69,6 +69,10 @@ IMAGES = (
     ("a library's name, in a full page", image(with_imports(name=0x1FF4, called=b"KERNEL32.dll"), 0x1000, 0x1000, 0x2000), [KERNEL]),
     ("a library's name, before the rest of a page", image(with_imports(name=0x11F4, called=b"KERNEL32.dll"), size=0x200), [KERNEL]))
 
+# 256 bytes `UVWX..` are 32 entries for 64 bits, or 12 descriptors and the last one, which ends the directory; none leads anywhere.
+READ_ON = {"a lookup table without its empty slot": (0, 32), "half of a slot": (0, 32), "an import descriptor without the empty one": (12, 0)}
+UNMAPPED = (1, 22)
+
 
 def shown(export):
     to = export.forwarder
@@ -80,7 +84,7 @@ class Ends(unittest.TestCase):
         for what, data, imports, *exports in IMAGES:
             for permissive in (False, True):
                 with self.subTest(what, permissive=permissive):
-                    found = package().Image(data, package().Options(permissive=permissive))
+                    found = package().Image(data, package().Options(permissive=permissive or READ_ON.get(what, (0,))[0] > 0))
                     self.assertEqual([(it.dll, it.name, it.hint) for it in found.imports()], imports)
                     rows, addresses = exports or ([], [])
                     self.assertEqual([shown(it) for it in found.exports()], rows)
@@ -95,9 +99,9 @@ class Ends(unittest.TestCase):
                     names = [name for name, _ in records().Import._fields_]
                     walk = Walk(found, "imports")
                     rows, why = walk.walk(3)
-                    self.assertEqual(([tuple(row[names.index(it)] for it in ("dll", "name", "hint_or_ordinal")) for row in rows], why),
-                                     (imports, (0, 0)))
-                    self.assertEqual(walk.counts, (0, 0))
+                    skipped, unmapped = READ_ON.get(what, (0, 0))
+                    self.assertEqual([tuple(row[names.index(it)] for it in ("dll", "name", "hint_or_ordinal")) for row in rows], imports)
+                    self.assertEqual((why, walk.counts), ((0, 0), (skipped, unmapped)) if permissive or not skipped else (UNMAPPED, (0, 0)))
 
     def test_memory_at_knows_the_same_end(self):
         """Twenty bytes, of which the last twelve of the raw data are the first."""
