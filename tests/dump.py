@@ -154,7 +154,7 @@ def tables(out, image):
 def facts(out, image):
     for rva in ADDRESSES:
         out.put(some(image.find_offset(rva)), shown(image.memory_at(rva, 20)))
-        out.put(result(image.text_at, rva), result(image.forwarder_at, rva))
+        out.put(some(image.text_at(rva)), result(image.forwarder_at, rva))
     out.put("[" + ", ".join(some(image.find_rva(it)) for it in OFFSETS) + "]")
     out.put("[" + ", ".join(some(image.string_at(it)) for it in OFFSETS) + "]")
     try:

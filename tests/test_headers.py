@@ -473,13 +473,7 @@ class Sections(unittest.TestCase):
         self.assertEqual(refusal(read, file, "strict"), ("MALFORMED", "NAME_TEXT", 0, 0))
         self.assertEqual(read(file, "permissive").sections[0].name, b"/\xFF")
 
-    def test_a_name_is_set_to_an_offset(self):
-        section, = read(SAMPLE, "strict").sections
-        for offset, wanted in OFFSETS:
-            with self.subTest(offset=offset):
-                self.assertEqual(section.with_name_offset(offset).stored_name, wanted)
-
-    def test_a_name_leads_to_the_offset_that_was_set(self):
+    def test_a_name_leads_to_its_offset(self):
         for offset, name in OFFSETS:
             with self.subTest(offset=offset), tempfile.TemporaryFile() as file:
                 file.write(with_parts(SAMPLE, (TABLE, name)))
@@ -488,15 +482,6 @@ class Sections(unittest.TestCase):
                 file.flush()
                 with mmap.mmap(file.fileno(), 0, access=mmap.ACCESS_READ) as data:
                     self.assertEqual([read(data, mode).sections[0].name for mode in BOTH], [b"MZ, or far away"] * 2)
-
-    def test_an_offset_that_no_name_can_say_leaves_the_section(self):
-        walk = Walk(opened(SAMPLE), "sections")
-        section = (records().Section * 1)()
-        calls().goblin_pe_next_sections(ctypes.byref(walk.image), ctypes.byref(walk.cursor), section, 1, ctypes.byref(walk.batch))
-        before = bytes(section)
-        self.assertEqual(refusal(lambda: test(calls().goblin_pe_set_name_offset(section, 68_719_476_736))),
-                         ("MALFORMED", "NAME_OFFSET", 68_719_476_736, 0))
-        self.assertEqual(bytes(section), before)
 
     def test_a_section_is_written_as_it_was(self):
         section, = read(NAMED_ELSEWHERE, "strict").sections

@@ -204,7 +204,7 @@ CONTENTS = [
     (b"one\0two", 0x1003, 5, b"", None),
     (b"one\0two", 0x1007, 0, None, b""),
     (b"one\0two", 0xFFF, 1, None, None),
-    (b"\xFFone", 0x1000, 1, None, b"\xFF"),
+    (b"\xFFone", 0x1000, 1, b"\xFFone", b"\xFF"),
     (bytes(16) + b"more", 0x100F, 3, b"", b"\0mo"),
 ]
 
@@ -272,7 +272,7 @@ def found_at(data, rva, mapping=0, read="read_image"):
     it, number, memory = image_of(data, options(mapping=mapping), read)[0], ctypes.c_size_t(), records().Memory()
     calls().goblin_pe_memory_at(ctypes.byref(it), rva, 8, ctypes.byref(memory))
     found = {"memory_at": memory.region or memory.missing < 8}
-    for call, result in ("find_offset", number), ("find_rva", number), ("text_at", records().Slice()), ("forwarder_at", records().Forwarder()):
+    for call, result in ("find_offset", number), ("find_rva", number), ("forwarder_at", records().Forwarder()):
         answer = getattr(calls(), f"goblin_pe_{call}")(ctypes.byref(it), rva, ctypes.byref(result))
         found[call] = answer if isinstance(answer, bool) else answer.cause != UNMAPPED
     return [call for call in found if found[call]]
@@ -450,7 +450,7 @@ class Tables(unittest.TestCase):
                 self.assertEqual(found_at(OBJECTS[0].read_bytes(), rva, mapping, "read_object"), [])
                 self.assertEqual(found_at(TERSE[0].read_bytes(), rva, mapping, "read_te"), [])
                 self.assertEqual(found_at(uneven, rva, mapping) != [], mapping == 3)
-        self.assertEqual([len(found_at(data, 0x1030, mapping)) for mapping in range(4)], [4] * 4)
+        self.assertEqual([len(found_at(data, 0x1030, mapping)) for mapping in range(4)], [3] * 4)
 
     def test_addresses_end_at_4_gib(self):
         last = with_sections([(0xFFFFF000, 0x2000, 0x2000, 0x200)]) + bytes(0x3000)
@@ -507,5 +507,5 @@ class Tables(unittest.TestCase):
         for data, rva, size, text, wanted in CONTENTS:
             with self.subTest(data=data, rva=hex(rva), size=size):
                 found = image(with_sections([(0x1000, 16, 16, 0x170)]) + data)
-                self.assertEqual(None if refusal(found.text_at, rva) else found.text_at(rva), text)
+                self.assertEqual(found.text_at(rva), text)
                 self.assertEqual(found.memory_at(rva, size).whole(), wanted)

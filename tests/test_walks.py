@@ -235,11 +235,10 @@ class Walks(unittest.TestCase):
 
     def look_up(self, image, digits):
         """Looks up some addresses."""
-        found, text, memory = c.c_size_t(), records().Slice(), records().Memory()
+        found, memory = c.c_size_t(), records().Memory()
         for rva in (0, 0x1000, 0x2000, digits.randrange(1 << 33), (1 << 64) - 1):
             calls().goblin_pe_find_offset(c.byref(image), rva, c.byref(found))
             calls().goblin_pe_find_rva(c.byref(image), rva, c.byref(found))
-            calls().goblin_pe_text_at(c.byref(image), rva, c.byref(text))
             calls().goblin_pe_memory_at(c.byref(image), rva, 16, c.byref(memory))
             self.assertLessEqual(memory.bytes.length + memory.zeros + memory.missing, 16)
 

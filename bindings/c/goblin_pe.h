@@ -196,9 +196,9 @@
    find_offset                sections
    find_rva                   sections, twice
    memory_at, section_data    sections
-   text_at, forwarder_at      sections, and a name
+   forwarder_at               sections, and a name
    checksum                   n
-   write_*, set_name_offset   the bytes written
+   write_*                    the bytes written
 
    Hostile files
    -------------
@@ -233,17 +233,17 @@ extern "C" {
    have different numbers. A program linked in C gets the matching library, or does not link.
    One that loads the library at run time defines GOBLIN_PE_LOADED_AT_RUN_TIME before it includes
    this header, and compares the two numbers first. */
-#define GOBLIN_PE_INTERFACE 0x0ebf9a3eu
+#define GOBLIN_PE_INTERFACE 0x98bb0961u
 uint32_t goblin_pe_interface(void);
 
 /* What follows .so. in the name of the shared library. */
-#define GOBLIN_PE_SONAME "5.0ebf9a3e"
+#define GOBLIN_PE_SONAME "5.98bb0961"
 
 /* Only a library of this interface has this call. */
-uint32_t goblin_pe_interface_0ebf9a3e(void);
+uint32_t goblin_pe_interface_98bb0961(void);
 #if defined(__GNUC__) && !defined(GOBLIN_PE_LOADED_AT_RUN_TIME)
 __attribute__((used)) static uint32_t (*const goblin_pe_needs_interface)(void) =
-    goblin_pe_interface_0ebf9a3e;
+    goblin_pe_interface_98bb0961;
 #endif
 
 /* Calls that return a fault are marked, so that a compiler warns if you drop it. */
@@ -997,12 +997,6 @@ bool goblin_pe_section_data(
 GOBLIN_PE_MUST_USE struct goblin_pe_fault goblin_pe_write_section(
     const struct goblin_pe_section *section, uint8_t *out, size_t room, size_t *written);
 
-/* Sets `stored_name` to a slash and a string table offset. The field `name` stays as it is.
-
-   Faults: NAME_OFFSET if eight bytes can't hold the offset. */
-GOBLIN_PE_MUST_USE struct goblin_pe_fault goblin_pe_set_name_offset(
-    struct goblin_pe_section *section, size_t offset);
-
 /* ---- Addresses ----------------------------------------------------------------------------- */
 
 /* The calls that look up an RVA or a file offset of an image. They look the sections up in the
@@ -1041,14 +1035,6 @@ bool goblin_pe_find_rva(const struct goblin_pe_image *image, size_t offset, size
    Returns whether nothing is missing; with `size` 0 so always true. */
 bool goblin_pe_memory_at(
     const struct goblin_pe_image *image, size_t rva, size_t size, struct goblin_pe_memory *memory);
-
-/* Gives the text at an RVA, up to a NUL, the end of the file or `options.longest_name`. As a loader
-   maps, it also ends where the section does in memory; as goblin maps, the section's end is not
-   looked at. To read bytes that may not be UTF-8, use `goblin_pe_find_offset`.
-
-   Faults: UNMAPPED; READ if the offset is at or past the end, or the text is not UTF-8; OPTIONS. */
-GOBLIN_PE_MUST_USE struct goblin_pe_fault goblin_pe_text_at(
-    const struct goblin_pe_image *image, size_t rva, struct goblin_pe_slice *text);
 
 /* ---- Rich header --------------------------------------------------------------------------- */
 

@@ -503,15 +503,6 @@ bool goblin_pe_section_data(
         sound_image(image, &its_image), sound_section(section, &its_section), memory);
 }
 
-struct goblin_pe_fault goblin_pe_raw_text_at(
-    const struct goblin_pe_image *image, size_t rva, struct goblin_pe_slice *text);
-struct goblin_pe_fault goblin_pe_text_at(
-    const struct goblin_pe_image *image, size_t rva, struct goblin_pe_slice *text)
-{
-    struct goblin_pe_image its_image;
-    return goblin_pe_raw_text_at(sound_image(image, &its_image), rva, text);
-}
-
 uint32_t goblin_pe_raw_kind_of(const uint8_t *bytes, size_t length);
 uint32_t goblin_pe_kind_of(const uint8_t *bytes, size_t length)
 {
@@ -670,14 +661,6 @@ struct goblin_pe_fault goblin_pe_write_section(
     struct goblin_pe_section its_section;
     return goblin_pe_raw_write_section(
         sound_section(section, &its_section), room ? out : (void *)&nowhere, room, written);
-}
-
-struct goblin_pe_fault goblin_pe_raw_set_name_offset(
-    struct goblin_pe_section *section, size_t offset);
-struct goblin_pe_fault goblin_pe_set_name_offset(struct goblin_pe_section *section, size_t offset)
-{
-    sound_section(section, section);
-    return goblin_pe_raw_set_name_offset(section, offset);
 }
 
 size_t goblin_pe_raw_fault_text(const struct goblin_pe_fault *fault, uint8_t *text, size_t room);

@@ -13,8 +13,8 @@ PARTS = (
     ("Faults", "Status Cause Counted ReadFault Fault fault_string"),
     ("The image", "Kind DosHeader CoffHeader StandardFields WindowsFields OptionalHeader DataDirectory DirectoryType RichHeader Image"
      " HeaderFaults kind_of read_image read_partial_image read_object TeHeader read_te"),
-    ("Sections", "SectionCursor CoffRelocationCursor Section next_sections Region Memory section_data write_section set_name_offset"),
-    ("Addresses", "find_offset find_rva memory_at text_at"),
+    ("Sections", "SectionCursor CoffRelocationCursor Section next_sections Region Memory section_data write_section"),
+    ("Addresses", "find_offset find_rva memory_at"),
     ("Rich header", "RichEntry RichCursor next_rich_entries"),
     ("Imports", "ImportCursor Import next_imports ImportDirectoryEntry Library next_libraries"),
     ("Exports", "ForwarderKind Forwarder ExportCursor Export next_exports ExportDirectoryTable ExportDirectory read_export_directory"

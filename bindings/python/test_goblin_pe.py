@@ -234,7 +234,7 @@ class Kept(unittest.TestCase):
         """Calls that are refused, of these bytes and of an image whose imports are damaged."""
         damaged = with_directory(DATA, DirectoryType.IMPORT_TABLE, 0x9000)
         return (lambda: Image(data), lambda: Pe(data), lambda: next(Image.object(data).symbols()), lambda: Pe(damaged), lambda: next(Image(damaged).imports()),
-                lambda: Image(damaged).text_at(0x9000), lambda: next(Image(DATA).imports(Budget(0))),
+                lambda: Image(damaged).forwarder_at(0x9000), lambda: next(Image(DATA).imports(Budget(0))),
                 lambda: Pe(with_directory(DATA, DirectoryType.BASE_RELOCATION_TABLE, 0x9000)))
 
     def assert_refused(self, call):
@@ -827,7 +827,7 @@ class Places(unittest.TestCase):
         self.assertEqual(image.text_at(found.hint_name_rva + 2), b"GetTickCount")
         self.assertEqual(image.memory_at(0x1020, 4), (DATA[0x420:0x424], 0, 0, 0, Region.RAW_DATA))
         self.assertEqual((image.memory_at(0x1020, 4).whole(), bytes(image.memory_at(0x1020, len(DATA))[0])), (DATA[0x420:0x424], DATA[0x420:0x600]))
-        self.assertRaises(PeError, image.text_at, 0x9000)
+        self.assertIsNone(image.text_at(0x9000))
         self.assertRaises(PeError, image.forwarder_at, 0x9000)
         for options in (Options(), Options(permissive=True, mapping=Mapping.IDENTITY)):
             image = Image(DATA, options)
@@ -839,7 +839,7 @@ class Places(unittest.TestCase):
         self.assertEqual(_rows._import(_records.Import(iat_rva=2**32), _rows.text).iat_rva, 2**32)  # (it does not begin again at 0)
         for image, rva in (Image(DATA), 2**32 + 0x1020), (image, 2**32 + 0x20), (image, 2**32):
             self.assertEqual((image.find_offset(rva), image.memory_at(rva, 4)), (None, (b"", 0, 4, None, Region.UNMAPPED)))
-            self.assertRaises(PeError, image.text_at, rva)
+            self.assertIsNone(image.text_at(rva))
             self.assertRaises(PeError, image.forwarder_at, rva)
 
     def test_a_look_up_in_many_sections_ends_soon(self):
@@ -1196,12 +1196,6 @@ class Patched(unittest.TestCase):
         bound[table + 40 * len(image.sections)] = 1  # (as bound imports stand there)
         self.assertRaisesRegex(PeError, "no room", Image(bound).patched, sections=more)
         self.assertEqual(Image(bound).patched(sections=image.sections), bound)
-
-    def test_a_long_name_is_written_by_its_offset(self):
-        section = Image(DATA).sections[0].with_name_offset(4)
-        self.assertEqual((section.stored_name, section.to_bytes()[:8]), (b"/4".ljust(8, b"\0"), b"/4".ljust(8, b"\0")))
-        self.assertRaises(PeError, section.with_name_offset, 2**40)
-        self.assertRaises(OverflowError, section.with_name_offset, -1)
 
 
 class Names(unittest.TestCase):

@@ -40,8 +40,6 @@ static void check_section(const struct goblin_pe_image *image, struct goblin_pe_
     EXPECT_OK(goblin_pe_write_section(&section, out, sizeof out, &written));
     EXPECT(written == 40 && (image->kind == GOBLIN_PE_KIND_TE ||
                              !memcmp(out, bytes + image->section_table + 40 * section.index, 40)));
-    EXPECT_OK(goblin_pe_set_name_offset(&section, 4));
-    EXPECT(!memcmp(section.stored_name, "/4\0\0\0\0\0", 8));
     if (image->kind == GOBLIN_PE_KIND_OBJECT)
         WALK(goblin_pe_next_coff_relocations, cursor, relocation, &batch) coff_relocations++;
 }
@@ -92,13 +90,13 @@ static size_t imports_from(const struct goblin_pe_image *image, struct goblin_pe
 {
     struct goblin_pe_import row;
     struct goblin_pe_batch batch;
-    struct goblin_pe_slice text;
+    struct goblin_pe_memory memory;
     size_t count = 0;
     WALK(goblin_pe_next_imports, cursor, row, NULL, &batch) {
         count++;
         if (row.has_name) {
-            EXPECT_OK(goblin_pe_text_at(image, row.hint_name_rva + 2, &text));
-            EXPECT(text.bytes == row.name.bytes && text.length == row.name.length);
+            EXPECT(goblin_pe_memory_at(image, row.hint_name_rva + 2, row.name.length + 1, &memory));
+            EXPECT(memory.bytes.bytes == row.name.bytes && !memory.bytes.bytes[row.name.length]);
         }
     }
     return count;
@@ -237,8 +235,6 @@ static void check_no_bytes(void)
     EXPECT(goblin_pe_read_partial_image(NULL, 0, NULL, &image, &faults).cause == fault.cause);
     EXPECT(image.kind == GOBLIN_PE_KIND_IMAGE && !image.section_count && faults.dos_header.cause == fault.cause);
     EXPECT(goblin_pe_kind_of(NULL, 0) == GOBLIN_PE_KIND_UNKNOWN);
-    EXPECT_OK(goblin_pe_set_name_offset(&section, 4));
-    EXPECT(section.name.bytes && !section.name.length);
     EXPECT(goblin_pe_interface() == GOBLIN_PE_INTERFACE && goblin_pe_needs_interface() == GOBLIN_PE_INTERFACE);
 }
 

@@ -424,12 +424,16 @@ class Image:
         loader maps nothing there, all bytes are missing."""
         return self._memory(LIB.goblin_pe_memory_at, in_range(rva), in_range(size))
 
-    def text_at(self, rva: int) -> bytes:
-        """The text from an address up to a NUL. PeError is raised if there is none."""
-        found = _records.Slice()
-        with self._held() as image:
-            test(LIB.goblin_pe_text_at(image, in_range(rva), c.byref(found)), None)
-            return text(found)
+    def text_at(self, rva: int) -> bytes | None:
+        """The text from an address up to a NUL, or to the end of what memory_at gives there. None if
+        nothing is known of the address."""
+        size = 256
+        while True:
+            memory = self.memory_at(rva, size)
+            found, end, _ = bytes(memory.data).partition(b"\0")
+            if end or len(found) < size:
+                return found if found or end or memory.zeros else None
+            size *= 16
 
     def forwarder_at(self, rva: int) -> Forwarder:
         """The forwarder that is written at an address. PeError is raised if there is none."""

@@ -3,7 +3,7 @@ import ctypes as c
 from typing import Any, Dict, List, Tuple
 
 # The number of this interface.
-INTERFACE = 0x0ebf9a3e
+INTERFACE = 0x98bb0961
 
 
 class Slice(c.Structure):
@@ -485,7 +485,6 @@ CALLS: Dict[str, Tuple[Any, List[Any]]] = {
     "goblin_pe_find_rva": (c.c_bool, [c.POINTER(Image), c.c_size_t, c.POINTER(c.c_size_t)]),
     "goblin_pe_memory_at": (c.c_bool, [c.POINTER(Image), c.c_size_t, c.c_size_t, c.POINTER(Memory)]),
     "goblin_pe_section_data": (c.c_bool, [c.POINTER(Image), c.POINTER(Section), c.POINTER(Memory)]),
-    "goblin_pe_text_at": (Fault, [c.POINTER(Image), c.c_size_t, c.POINTER(Slice)]),
     "goblin_pe_kind_of": (c.c_uint32, [c.c_void_p, c.c_size_t]),
     "goblin_pe_read_image": (Fault, [c.c_void_p, c.c_size_t, c.POINTER(Options), c.POINTER(Image)]),
     "goblin_pe_read_partial_image": (Fault, [c.c_void_p, c.c_size_t, c.POINTER(Options), c.POINTER(Image), c.POINTER(HeaderFaults)]),
@@ -501,5 +500,4 @@ CALLS: Dict[str, Tuple[Any, List[Any]]] = {
     "goblin_pe_read_auxiliary": (c.c_uint32, [c.POINTER(Symbol), c.POINTER(Auxiliary)]),
     "goblin_pe_write_header": (Fault, [c.POINTER(Image), c.c_void_p, c.c_size_t, c.POINTER(c.c_size_t)]),
     "goblin_pe_write_section": (Fault, [c.POINTER(Section), c.c_void_p, c.c_size_t, c.POINTER(c.c_size_t)]),
-    "goblin_pe_set_name_offset": (Fault, [c.POINTER(Section), c.c_size_t]),
 }

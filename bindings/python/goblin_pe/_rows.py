@@ -102,13 +102,6 @@ class Section(NamedTuple):
         cursor.index = int(cursor.is_extended)  # (the first record is then their number)
         return Walk(image, COFF_RELOCATIONS, cursor, budget)
 
-    def with_name_offset(self, offset: int) -> Section:
-        """The same section header with a stored name that leads to this offset of the string
-        table."""
-        record = _section_record(self)
-        test(LIB.goblin_pe_set_name_offset(c.byref(record), in_range(offset)), None)
-        return self._replace(stored_name=bytes(record.stored_name))
-
     def to_bytes(self) -> bytes:
         """The 40 bytes of the section header, with the stored name."""
         out, written = c.create_string_buffer(SIZEOF_SECTION_TABLE), c.c_size_t()

@@ -10,11 +10,11 @@ use crate::headers::{
 };
 
 /// The number of this interface.
-pub const INTERFACE: u32 = 0x0ebf_9a3e;
+pub const INTERFACE: u32 = 0x98bb_0961;
 
 // Programs link only with a library of this interface, as no other one has this call.
 #[used]
-static NEEDS_INTERFACE: extern "C" fn() -> u32 = goblin_pe_interface_0ebf9a3e;
+static NEEDS_INTERFACE: extern "C" fn() -> u32 = goblin_pe_interface_98bb0961;
 
 /// Bytes of the file.
 #[repr(C)]
@@ -716,7 +716,7 @@ const _: () = {
 #[rustfmt::skip]
 unsafe extern "C" {
     pub safe fn goblin_pe_interface() -> u32;
-    safe fn goblin_pe_interface_0ebf9a3e() -> u32;
+    safe fn goblin_pe_interface_98bb0961() -> u32;
     pub safe fn goblin_pe_fault_string(fault: &Fault, text: &mut [u8; 256]) -> *const u8;
     pub safe fn goblin_pe_checksum<'a>(image: &Image<'a>, sum: &mut u32) -> bool;
     pub fn goblin_pe_next_exports<'a>(image: &Image<'a>, cursor: &mut ExportCursor, exports: *mut Export<'a>, room: usize, steps: &mut usize, batch: &mut Batch) -> Fault;
@@ -729,7 +729,6 @@ unsafe extern "C" {
     pub safe fn goblin_pe_find_rva<'a>(image: &Image<'a>, offset: usize, rva: &mut usize) -> bool;
     pub safe fn goblin_pe_memory_at<'a>(image: &Image<'a>, rva: usize, size: usize, memory: &mut Memory<'a>) -> bool;
     pub safe fn goblin_pe_section_data<'a>(image: &Image<'a>, section: &Section<'a>, memory: &mut Memory<'a>) -> bool;
-    pub safe fn goblin_pe_text_at<'a>(image: &Image<'a>, rva: usize, text: &mut Slice<'a>) -> Fault;
     pub fn goblin_pe_kind_of(bytes: *const u8, length: usize) -> u32;
     pub fn goblin_pe_read_image<'a>(bytes: *const u8, length: usize, options: &Options, image: &mut Image<'a>) -> Fault;
     pub fn goblin_pe_read_partial_image<'a>(bytes: *const u8, length: usize, options: &Options, image: &mut Image<'a>, faults: &mut HeaderFaults) -> Fault;
@@ -745,5 +744,4 @@ unsafe extern "C" {
     pub safe fn goblin_pe_read_auxiliary<'a>(symbol: &Symbol<'a>, auxiliary: &mut Auxiliary<'a>) -> u32;
     pub fn goblin_pe_write_header<'a>(image: &Image<'a>, out: *mut u8, room: usize, written: &mut usize) -> Fault;
     pub fn goblin_pe_write_section<'a>(section: &Section<'a>, out: *mut u8, room: usize, written: &mut usize) -> Fault;
-    pub safe fn goblin_pe_set_name_offset<'a>(section: &mut Section<'a>, offset: usize) -> Fault;
 }

@@ -527,21 +527,20 @@ impl<'a> Image<'a> {
         Memory::of(&memory, self)
     }
 
-    /// The text at an RVA, up to a NUL, the end of the file or the limit of the options. The end of
-    /// the section is not looked at.
-    ///
-    /// # Errors
-    /// The address has no offset, the offset lies past the end, or the text is not UTF-8.
-    pub fn text_at(&self, rva: u32) -> Result<Text<'a>, Error> {
-        let read = |it: &mut _| ffi::goblin_pe_text_at(&self.record, rva as usize, it);
-        let text: ffi::Slice = filled(None, read)?;
-        Ok(Text(text.get()))
+    /// The text at an RVA, up to a NUL or to the end of what [`memory_at`](Self::memory_at) gives
+    /// there. `None` if nothing is known of the RVA.
+    #[must_use]
+    pub fn text_at(&self, rva: u32) -> Option<Text<'a>> {
+        let memory = self.memory_at(rva, usize::MAX);
+        let is_known = memory.zeros != 0 || !memory.bytes.is_empty();
+        let text = memory.bytes.split(|it| *it == 0).next()?;
+        is_known.then_some(Text(text))
     }
 
     /// The forwarder whose text is at an RVA, as an [`ExportAddress`] has it.
     ///
     /// # Errors
-    /// As [`text_at`](Self::text_at), and if the text is no forwarder.
+    /// The address has no offset, the offset lies past the end, or the text is no forwarder.
     pub fn forwarder_at(&self, rva: u32) -> Result<Forwarder<'a>, Error> {
         let read = |it: &mut _| ffi::goblin_pe_forwarder_at(&self.record, rva as usize, it);
         let it = filled(None, read)?;

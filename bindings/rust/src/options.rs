@@ -21,8 +21,7 @@ pub struct Options {
     pub mapping: Mapping,
     /// How many bytes of a name are read; 0 is no limit. A longer name ends with the character that
     /// passes the limit, and is whole only if that is its last. The limit holds for the names of
-    /// DLLs, imports and exports, for names in a string table, for forwarders and for
-    /// [`Image::text_at`](crate::Image::text_at).
+    /// DLLs, imports and exports, for names in a string table and for forwarders.
     pub longest_name: u32,
     /// Whether damaged parts are skipped. If not, they are refused.
     pub is_permissive: bool,

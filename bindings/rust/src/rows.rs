@@ -145,18 +145,6 @@ impl<'a> Section<'a> {
         walk
     }
 
-    /// Sets the stored name to a slash and an offset of the string table. The field `name` stays as
-    /// it is.
-    ///
-    /// # Errors
-    /// [`Cause::NameOffset`](crate::Cause::NameOffset), if eight bytes can't hold the offset.
-    pub fn set_name_offset(&mut self, offset: usize) -> Result<(), Error> {
-        let mut record = self.record();
-        let fault = ffi::goblin_pe_set_name_offset(&mut record, offset);
-        self.stored_name = record.stored_name;
-        Error::test(fault, None)
-    }
-
     /// The 40 bytes of the section header, with the stored name.
     #[must_use]
     pub fn to_bytes(&self) -> [u8; 40] {

@@ -54,7 +54,8 @@ fn errors_have_kinds_numbers_and_texts() {
     let error = image.imports(&Budget::steps(0)).next();
     let error = error.expect("a row").expect_err("no step");
     assert_eq!(error.to_string(), "imports: no steps are left");
-    let error = image.text_at(0x9000).expect_err("a look-up");
+    assert_eq!(image.text_at(0x9000), None);
+    let error = image.forwarder_at(0x9000).expect_err("a look-up");
     assert_eq!(error.to_string(), "the address 0x9000 has no offset in the file");
 }
 

@@ -2,9 +2,8 @@
 use Rattle.std.specs.Prelude.{ℕ, ◌^◌, ◌==◌, ◌&&◌, nat_lt, if◌then◌else◌, List, [], Option, Some}
 use Rattle.std.specs.Prelude.{None, find, option_and_then, option_map}
 use Rattle.std.specs.{Int.is_power_of_two, Option.is_some}
-use Rattle.goblin_base.specs.{Answers.◌>>=◌, Reading.Reading}
-use Rattle.readings.specs.Reads.{text_within}
-use Rattle.goblin_pe_sect.specs.{AddressReadings.at_address, Addresses.Addressing}
+use Rattle.goblin_base.specs.Answers.{◌>>=◌}
+use Rattle.goblin_pe_sect.specs.Addresses.{Addressing}
 use Rattle.goblin_pe_sect.specs.{declared.options.Mapping.Mapping, Mapping.file_end}
 use Rattle.goblin_pe_sect.specs.{Mapping.file_offset, added.Backward.is_at, added.Backward.rva_in}
 use Rattle.goblin_pe_sect.specs.Options.{front_of, mapping_in}
@@ -82,7 +81,3 @@ abbrev pub image_address : PeImage → ℕ → Option ℕ
 image_address i offset =
     mapped_image i >>= λ m. first_address m offset
     >>= λ rva. if is_at offset (mapped_offset m rva) then Some rva else None
-
--- the text at an address, cut if the options set a limit
-abbrev pub text_at : PeImage → ℕ → Reading (List ℕ)
-text_at i rva = at_address (image_addressing i) rva (text_within (longest_of i.options))

@@ -8,7 +8,6 @@ use Rattle.goblin_base.specs.Answers.{FirstFault, IsSliceFault}
 use Rattle.readings.specs.Reads.{given, pick, slice_at}
 use Rattle.goblin_pe_head.specs.DosStub.{default_stub}
 use Rattle.goblin_pe_sect.specs.declared.data_directories.DataDirectory.{DataDirectory}
-use Rattle.goblin_pe_sect.specs.SectionName.{IsNameOffsetFault, indirect_name, name_value}
 use Rattle.goblin_pe_sect.specs.SectionTable.{section_fields}
 use Rattle.goblin_pe_head.specs.declared.optional_header.OptionalHeader.{OptionalHeader}
 use Rattle.goblin_pe_head.specs.PeHeader.{IsUnwrittenPart, PeHeader, header_bytes}
@@ -81,13 +80,3 @@ abbrev pub WritesSection : PeSection → Output → Output → Result Unit Error
 WritesSection section old new =
     WritesOut (overwritten old.out 0 (encoding Little (section_fields (section_model section))))
     (λ size. size ≡ 40) (IsSliceFault old.out 0 40) old new
-
--- A call has set the eight bytes of a section's name to those that hold a number, which readers
--- find there; or none hold it, the cause is true, and everything is unchanged.
-abbrev pub SetsName : ℕ → PeSection → PeSection → Result Unit ErrorOf → Type 0
-SetsName offset old new (Ok x) =
-    (indirect_name offset ≡ Some new.stored_name)
-    × ((strict : Bool) → name_value strict new.stored_name ≡ Some (Some offset))
-    × (new ≡ record old { stored_name = new.stored_name })
-SetsName offset old new (Err e) =
-    (indirect_name offset ≡ None) × IsNameOffsetFault offset e × (new ≡ old)

@@ -1,17 +1,16 @@
-//! The file offset of an RVA, the RVA of a file offset, and the text at an RVA.
+//! The file offset of an RVA, and the RVA of a file offset.
 
 ghost use Rattle.std.specs.Prelude.{◌≡◌, IfSome, option_map};
 ghost use Rattle.goblin_base.specs.Parts.{bytes_in, in_memory};
 ghost use Rattle.goblin_pe_c_headers.specs.Addresses.{first_address, image_address, image_map};
 ghost use Rattle.goblin_pe_c_headers.specs.Addresses.{image_addressing, mapped_image};
-ghost use Rattle.goblin_pe_c_headers.specs.Addresses.{mapped_model, mapped_offset, text_at};
-ghost use Rattle.goblin_pe_c_headers.specs.{Calls.ReadsWithout, Images.slice_model};
+ghost use Rattle.goblin_pe_c_headers.specs.Addresses.{mapped_model, mapped_offset};
 
-use crate::image::{PeImage, PeSlice, places_of};
+use crate::image::{PeImage, places_of};
 use crate::kind::Kind;
-use crate::options::{are_known, longest_of, maps_addresses, options_at, view_of};
+use crate::options::{are_known, maps_addresses, options_at, view_of};
 use crate::places::section_records;
-use goblin_base::{Cause, Error, MappedBytes, Result};
+use goblin_base::MappedBytes;
 use goblin_pe_sect::added::{offset_by_records, part_by_records, rva_in};
 use goblin_pe_sect::address_map::MappedRecords;
 use goblin_pe_sect::options::Mapping;
@@ -114,24 +113,4 @@ pub fn rva_of(image: &PeImage, offset: usize) -> Option<usize>
         Some(found) if found == offset => Some(rva),
         _ => None,
     }
-}
-
-/// Reads the text at an RVA, up to a NUL, the end of the file or the options' limit. In a loader's
-/// view it also ends where the section does in memory.
-///
-/// # Errors
-/// [`Error::Malformed`] with [`Cause::Unmapped`] if the RVA has no file offset, and
-/// [`Error::Read`] if there is no text; nothing is then changed.
-pub fn read_text<'a>(image: &PeImage<'a>, rva: usize, text: &mut PeSlice<'a>) -> Result<()>
-    ensures { ReadsWithout (text_at image.now rva) image.now.bytes.now
-        (λ whole. slice_model text.new ≡ whole) (text.new ≡ text.old) result }
-{
-    let Some((part, offset)) = part_of(image, rva) else {
-        return Err(Error::Malformed(Cause::Unmapped(rva)));
-    };
-    let found = part.text_within(offset, longest_of(&image.options))?;
-    *text = PeSlice {
-        bytes: found.as_bytes(),
-    };
-    Ok(())
 }

@@ -10,7 +10,7 @@ ghost use Rattle.goblin_pe_c_headers.specs.Relocations.{relocations_begin};
 ghost use Rattle.goblin_pe_c_headers.specs.Sections.{ReadsSections, displacement_of, long_name};
 ghost use Rattle.goblin_pe_c_headers.specs.Sections.{row_model, row_of, section_model};
 ghost use Rattle.goblin_pe_c_headers.specs.Sections.{section_rows};
-ghost use Rattle.goblin_pe_c_headers.specs.Written.{Output, SetsName, WritesSection};
+ghost use Rattle.goblin_pe_c_headers.specs.Written.{Output, WritesSection};
 
 use crate::batch::{PeBatch, ended, goes_on};
 use crate::cursor::PeCoffRelocationCursor;
@@ -255,18 +255,5 @@ pub fn write_section(section: &PeSection, out: &mut [u8], written: &mut usize) -
     ensures back { SectionWritesBack }
 {
     *written = section_of(section).try_into_ctx(out, Endian::Little)?;
-    Ok(())
-}
-
-/// Sets `stored_name` to a slash and a string table offset. The field `name` stays as it is.
-///
-/// # Errors
-/// An offset that eight bytes can't hold; nothing is then changed.
-pub fn set_name_offset(section: &mut PeSection, offset: usize) -> Result<()>
-    ensures { SetsName offset section.old section.new result }
-{
-    let mut table = section_of(section);
-    table.set_name_offset(offset)?;
-    section.stored_name = table.name;
     Ok(())
 }

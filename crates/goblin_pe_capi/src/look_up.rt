@@ -7,16 +7,14 @@
 //! file has no room for the section headers, or if the file alignment is no power of two.
 
 ghost use Rattle.std.specs.Prelude.{◌≡◌, ◌==◌};
-ghost use Rattle.goblin_pe_c_headers.specs.Addresses.{image_address, image_map, text_at};
-ghost use Rattle.goblin_pe_c_headers.specs.Calls.{ReadsWithout, ReportedAfter};
-ghost use Rattle.goblin_pe_c_headers.specs.{Faults.options_fault, Found.Puts, Images.slice_model};
-ghost use Rattle.goblin_pe_c_headers.specs.{Places.image_places, Sections.section_model};
+ghost use Rattle.goblin_pe_c_headers.specs.Addresses.{image_address, image_map};
+ghost use Rattle.goblin_pe_c_headers.specs.{Found.Puts, Places.image_places};
+ghost use Rattle.goblin_pe_c_headers.specs.{Sections.section_model};
 ghost use Rattle.goblin_pe_c_headers.specs.Memory.{SeesFile, memory_at, memory_model, section_data};
 
-use goblin_pe_c_headers::address::{offset_of, read_text, rva_of};
-use goblin_pe_c_headers::fault::{PeFault, refused_call, status_of};
+use goblin_pe_c_headers::address::{offset_of, rva_of};
 use goblin_pe_c_headers::found::put_found;
-use goblin_pe_c_headers::image::{PeImage, PeSlice, places_of};
+use goblin_pe_c_headers::image::{PeImage, places_of};
 use goblin_pe_c_headers::memory::{self, PeMemory};
 use goblin_pe_c_headers::section::PeSection;
 
@@ -98,26 +96,4 @@ pub extern "C" fn goblin_pe_raw_section_data<'a>(
     let alignment = places_of(image).file_alignment;
     *memory = memory::section_data(image.bytes, &image.options, alignment, section);
     memory.missing == 0
-}
-
-/// Gives the text at an RVA, up to a NUL, the end of the file or `options.longest_name`. As a
-/// loader maps, it also ends where the section does in memory; as goblin maps, the section's end
-/// is not looked at. To read bytes that may not be UTF-8, use `goblin_pe_find_offset`.
-///
-/// Faults: UNMAPPED; READ if the offset is at or past the end, or the text is not UTF-8; OPTIONS.
-#[unsafe(no_mangle)]
-pub extern "C" fn goblin_pe_raw_text_at<'a>(
-    image: &PeImage<'a>,
-    rva: usize,
-    text: &mut PeSlice<'a>,
-) -> PeFault
-    ensures { ReportedAfter (options_fault image.now.options) result (text.new ≡ text.old)
-        (ReadsWithout (text_at image.now rva) image.now.bytes.now
-        (λ whole. slice_model text.new ≡ whole) (text.new ≡ text.old)) }
-{
-    let refusal = refused_call(&image.options);
-    if refusal.status != 0 {
-        return refusal;
-    }
-    status_of(read_text(image, rva, text))
 }

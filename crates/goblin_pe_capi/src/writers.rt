@@ -3,12 +3,12 @@
 ghost use Rattle.std.specs.Prelude.{◌≡◌};
 ghost use Rattle.goblin_pe_sect.specs.SectionReadings.{SectionWritesBack};
 ghost use Rattle.goblin_pe_c_headers.specs.{Calls.Reported, Calls.ReportedAfter, Faults.kind_fault};
-ghost use Rattle.goblin_pe_c_headers.specs.Written.{Output, SetsName, WritesHeader, WritesSection};
+ghost use Rattle.goblin_pe_c_headers.specs.Written.{Output, WritesHeader, WritesSection};
 ghost use Rattle.goblin_pe_c_tables.specs.ReadImages.{ImageWritesBack};
 
 use goblin_pe_c_headers::fault::{PeFault, refused_kind, status_of};
 use goblin_pe_c_headers::image::PeImage;
-use goblin_pe_c_headers::section::{PeSection, set_name_offset, write_section};
+use goblin_pe_c_headers::section::{PeSection, write_section};
 use goblin_pe_c_tables::write_header::write_header;
 
 /// Writes the header that the record says: DOS header, stub, PE signature, COFF header, and an
@@ -58,14 +58,4 @@ pub extern "C" fn goblin_pe_raw_write_section(
     ensures back { SectionWritesBack }
 {
     status_of(write_section(section, out, written))
-}
-
-/// Sets `stored_name` to a slash and a string table offset. The field `name` stays as it is.
-///
-/// Faults: NAME_OFFSET if eight bytes can't hold the offset.
-#[unsafe(no_mangle)]
-pub extern "C" fn goblin_pe_raw_set_name_offset(section: &mut PeSection, offset: usize) -> PeFault
-    ensures { Reported result (SetsName offset section.old section.new) }
-{
-    status_of(set_name_offset(section, offset))
 }
