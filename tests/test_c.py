@@ -139,6 +139,10 @@ int main(int argc, char **argv)
             need("valgrind")
             succeed(["valgrind", "-q", "--error-exitcode=9", "--leak-check=full", self.built(source, "-std=c11"), *self.calls()])
 
+    def test_a_signal_handler_leaves_calls(self):
+        """What calls answer after it is as before."""
+        self.assertEqual(run([self.built(BINDINGS / "c/tests/left.c"), "100000"], BY_NAME)[:2], (0, b"100000 left\n"))
+
     def test_threads_with_stacks_of_16_kib(self):
         """A file with a thousand sections and imports needs no more stack."""
         source, hostile_image = BINDINGS / "c/tests/threads.c", self.written("hostile.dll", images.hostile_image(1 << 16))
