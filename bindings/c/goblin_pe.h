@@ -895,7 +895,9 @@ struct goblin_pe_coff_relocation_cursor {
     uint32_t offset;
     /* How many relocations the section header counts. */
     uint16_t count;
-    /* Whether the first relocation holds the count (`IMAGE_SCN_LNK_NRELOC_OVFL`). */
+    /* Whether the first one is no relocation: it holds their number, itself counted, because there
+       are more than 65,534 (`IMAGE_SCN_LNK_NRELOC_OVFL`). The cursor of the section's row is then
+       at index 1, after it. */
     bool is_extended;
     /* Zero. */
     uint8_t reserved;
@@ -1553,7 +1555,7 @@ struct goblin_pe_coff_relocation {
 };
 
 /* Gives the next relocations of a section of an object. If the section has more than 65,535, the
-   first relocation holds their number, and is none itself: it is given like the others.
+   first one holds their number, and is none itself: the cursor of the section's row is after it.
 
    Faults: READ if the file is too short for them. */
 GOBLIN_PE_MUST_USE struct goblin_pe_fault goblin_pe_next_coff_relocations(

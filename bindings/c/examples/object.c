@@ -40,7 +40,6 @@ static struct goblin_pe_fault list_relocations(const struct goblin_pe_image *ima
     struct goblin_pe_coff_relocation rows[64];
     struct goblin_pe_fault fault;
     struct goblin_pe_batch batch, found;
-    cursor.index = cursor.is_extended; /* (the first record is then their number) */
     do {
         fault = goblin_pe_next_coff_relocations(image, &cursor, rows, 64, &batch);
         for (size_t i = 0; i < batch.count && left; i++, left--) {

@@ -98,9 +98,7 @@ class Section(NamedTuple):
 
     def relocations(self, image: Image, budget: Budget | None = None) -> Walk[CoffRelocation]:
         """The relocations of a section of an object, also if there are more than 65,535."""
-        cursor = _section_record(self).relocations
-        cursor.index = int(cursor.is_extended)  # (the first record is then their number)
-        return Walk(image, COFF_RELOCATIONS, cursor, budget)
+        return Walk(image, COFF_RELOCATIONS, _section_record(self).relocations, budget)
 
     def to_bytes(self) -> bytes:
         """The 40 bytes of the section header, with the stored name."""
@@ -343,9 +341,9 @@ def _section_record(it: Section) -> _records.Section:
     record.stored_name[:] = it.stored_name
     if tuple(getattr(record, name) for name in it._fields[2:]) != it[2:]:
         raise OverflowError("a number does not fit its field: %r" % (it,))
-    record.relocations.offset, record.relocations.count = it.pointer_to_relocations, it.number_of_relocations
-    record.relocations.is_extended = bool(
-        it.characteristics & IMAGE_SCN_LNK_NRELOC_OVFL and it.number_of_relocations == 0xFFFF)
+    begin, is_full = record.relocations, it.number_of_relocations == 0xFFFF
+    begin.offset, begin.count = it.pointer_to_relocations, it.number_of_relocations
+    begin.index = begin.is_extended = is_full and bool(it.characteristics & IMAGE_SCN_LNK_NRELOC_OVFL)  # (the first is then their number)
     return record
 
 

@@ -137,8 +137,7 @@ impl<'a> Section<'a> {
         image: &Image<'a>,
         budget: &'b Budget,
     ) -> Walk<'a, 'b, CoffRelocation> {
-        let mut cursor = self.record().relocations;
-        cursor.index = cursor.is_extended.into();
+        let cursor = self.record().relocations;
         let mut walk = Walk::at(image, cursor, budget);
         // (most sections have none, and need no call)
         walk.is_over = cursor.count == 0;
@@ -176,14 +175,16 @@ impl<'a> Section<'a> {
 
     // The record of the library.
     fn record(&self) -> ffi::Section<'a> {
-        let is_extended = self.characteristics & IMAGE_SCN_LNK_NRELOC_OVFL != 0;
+        let is_extended = self.characteristics & IMAGE_SCN_LNK_NRELOC_OVFL != 0
+            && self.number_of_relocations == u16::MAX;
         ffi::Section {
             name: ffi::Slice::of(self.name.0),
             index: self.index,
             relocations: ffi::CoffRelocationCursor {
+                index: is_extended.into(),
                 offset: self.pointer_to_relocations,
                 count: self.number_of_relocations,
-                is_extended: is_extended && self.number_of_relocations == u16::MAX,
+                is_extended,
                 ..ffi::CoffRelocationCursor::default()
             },
             stored_name: self.stored_name,

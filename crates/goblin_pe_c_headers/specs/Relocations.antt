@@ -1,21 +1,24 @@
 -- The relocations of a section of an object, as a call gives them.
-use Rattle.std.specs.Prelude.{ℕ, ◌*◌, ◌==◌, ◌&&◌, List, [], bit_and, not}
+use Rattle.std.specs.Prelude.{ℕ, ◌*◌, ◌==◌, ◌&&◌, Bool, if◌then◌else◌, List, [], bit_and, not}
 use Rattle.goblin_base.specs.{declared.endian.Endian.TheVariants.Little, Reading.Reading}
 use Rattle.readings.specs.Reads.{◌>>=◌, given, mapped, number_at, pick, slice_at}
 use Rattle.goblin_pe_sect.specs.declared.relocation.Relocation.{Relocation}
 use Rattle.goblin_pe_sect.specs.{Relocations.relocations_in, SectionTable.Section}
 use Rattle.goblin_pe_c_headers.specs.declared.cursor.PeCoffRelocationCursor.{PeCoffRelocationCursor}
 
--- Where the walk over the relocations of a section begins. If they are more than its header can
--- say, their number is in the first one: the number in the header is 65,535, and the bit
--- IMAGE_SCN_LNK_NRELOC_OVFL is set.
+-- the first relocation of a section is none, but their number: the number in the header is 65,535,
+-- and the bit IMAGE_SCN_LNK_NRELOC_OVFL is set
+abbrev pub begins_with_number : Section → Bool
+begins_with_number s =
+    (s.number_of_relocations == 0xFFFF) && not (bit_and s.characteristics 0x0100_0000 == 0)
+
+-- where the walk over the relocations of a section begins: behind that number
 abbrev pub relocations_begin : Section → PeCoffRelocationCursor
 relocations_begin s = record {
-  index = 0;
+  index = if begins_with_number s then 1 else 0;
   offset = s.pointer_to_relocations;
   count = s.number_of_relocations;
-  is_extended =
-      (s.number_of_relocations == 0xFFFF) && not (bit_and s.characteristics 0x0100_0000 == 0);
+  is_extended = begins_with_number s;
   reserved = 0;
 }
 

@@ -19,7 +19,9 @@ pub struct PeCoffRelocationCursor {
     pub offset: u32,
     /// How many relocations the section header counts.
     pub count: u16,
-    /// Whether the first relocation holds the count (`IMAGE_SCN_LNK_NRELOC_OVFL`).
+    /// Whether the first one is no relocation: it holds their number, itself counted, because there
+    /// are more than 65,534 (`IMAGE_SCN_LNK_NRELOC_OVFL`). The cursor of the section's row is then
+    /// at index 1, after it.
     pub is_extended: bool,
     /// Zero.
     pub reserved: u8,

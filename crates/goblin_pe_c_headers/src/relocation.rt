@@ -54,7 +54,7 @@ fn relocation_at(table: &[u8], index: usize) -> Option<Relocation>
 }
 
 /// Gives the next relocations of a section of an object. If the section has more than 65,535, the
-/// first relocation holds their number, and is none itself: it is given like the others.
+/// first one holds their number, and is none itself: the cursor of the section's row is after it.
 ///
 /// # Errors
 /// Read if the file is too short for them; nothing but `batch` is then changed.

@@ -113,11 +113,12 @@ fn relocations_begin(section: &SectionTable) -> PeCoffRelocationCursor
     ensures { result ≡ relocations_begin section.now }
 {
     let is_full = section.number_of_relocations == 0xFFFF;
+    let is_extended = is_full && section.characteristics & IMAGE_SCN_LNK_NRELOC_OVFL != 0;
     PeCoffRelocationCursor {
-        index: 0,
+        index: usize::from(is_extended),
         offset: section.pointer_to_relocations,
         count: section.number_of_relocations,
-        is_extended: is_full && section.characteristics & IMAGE_SCN_LNK_NRELOC_OVFL != 0,
+        is_extended,
         reserved: 0,
     }
 }

@@ -85,7 +85,7 @@ pub extern "C" fn goblin_pe_raw_next_symbols<'a>(
 }
 
 /// Gives the next relocations of a section of an object. If the section has more than 65,535, the
-/// first relocation holds their number, and is none itself: it is given like the others.
+/// first one holds their number, and is none itself: the cursor of the section's row is after it.
 ///
 /// Faults: READ if the file is too short for them.
 #[unsafe(no_mangle)]
