@@ -1,41 +1,15 @@
--- The first place of a word, found by its first byte.
-use Rattle.std.proofs.Common.{◌≡◌, ◌≢◌, ℕ, Bool, false, cond, ◌+◌, ◌-◌, ◌%◌, ◌^◌, ◌<◌, ◌≤◌, List, length, get_or, map, replicate, ap, sym, ◌∙◌, inl, inr, arith, Fits, w8, not, ◌==◌, drop, slice_index, slice_range, get_or-drop, get_or-take, length-drop, length-take}
-use Rattle.std.specs.List.{find, prefix_len, range_with_len}
+-- The first place of a word, found in lanes of sixteen bytes.
+use Rattle.std.proofs.Common.{◌≡◌, ◌≢◌, ℕ, suc, zero, Bool, false, cond, ◌+◌, ◌-◌, ◌%◌, ◌^◌, ◌<◌, ◌≤◌, List, find, length, get_or, map, replicate, ap, sym, ◌∙◌, inl, inr, arith, w8, ◌==◌, drop, slice_index, slice_range, bit_or, take_all, get_or-take, get_or-drop, w32}
+use Rattle.std.specs.List.{range_with_len}
 use Rattle.std.specs.Int.Bits.{bit_xor, xor_assoc, xor_self, xor_zero_r}
-use Rattle.std.proofs.lemmas.Bool.{cases_eq, cases_lt, eqb-true, eq-eqb, false_from_ne_true, ne_eqb}
-use Rattle.std.proofs.lemmas.Simd.{bitmask_splat, length-chunk, none_from_empty_mask, run_in_chunk_fails, run_in_chunk_le, trailing_mask_l}
-use lib.Count.{count_trailing_zeros}
+use Rattle.std.proofs.lemmas.Bool.{cases_eq, eq-eqb, ne_eqb}
+use Rattle.std.proofs.lemmas.Simd.{bitmask_splat, get_or-chunk, get_or-replicate, get_or-zip2, length-chunk, length-zip2, none_from_empty_mask}
 use lib.Lanes.{chunk, mask_l, top, zip2}
-use Rattle.goblin_base.specs.{declared.endian.Endian.TheVariants.Little, Bytes.number}
+use Rattle.std.specs.Int.{to_le_bytes}
+use Rattle.goblin_base.specs.{declared.endian.Endian.TheVariants.Little, Bytes.IsBytes, Bytes.number, Bytes.number_bytes}
+use Rattle.goblin_base.proofs.{Numbers.number_bytes_little, RecordRoundTrip.number_bytes-number}
 use Rattle.goblin_base.proofs.First.{find_same}
 use Rattle.goblin_pe_head.specs.RichHeader.{dans_place, is_dans, least_below, word_at}
-
--- ---- a word by its first byte
-
-first_byte : (bytes : List ℕ) (p : ℕ) → Fits w8 (slice_index bytes p) → number Little 4 bytes p % 256 ≡ slice_index bytes p
-unfolding number
-first_byte bytes p typed =
-    let at : p + 0 ≡ p = omega arith in
-    rw at (omega (arith, typed.fits))
-
-another_word : (bytes : List ℕ) (p word : ℕ) → Fits w8 (slice_index bytes p) → slice_index bytes p ≢ word % 256 → (number Little 4 bytes p == word) ≡ false
-another_word bytes p word typed other =
-    false_from_ne_true (number Little 4 bytes p == word)
-    (λ same. other (sym (first_byte bytes p typed) ∙ ap (λ w. w % 256) (eqb-true (number Little 4 bytes p) word same)))
-
--- no word is where its first byte is not
-pub passed_over : (bytes : List ℕ) (at count run word : ℕ) → ((k : ℕ) → Fits w8 (slice_index bytes k)) → count ≤ length bytes
-    → ((k : ℕ) → k < run → slice_index (slice_range bytes at count) k ≢ word % 256) → run ≤ length (slice_range bytes at count)
-    → ((k : ℕ) → k < at → k < count → (number Little 4 bytes k == word) ≡ false)
-    → (k : ℕ) → k < at + run → k < count → (number Little 4 bytes k == word) ≡ false
-passed_over bytes at count run word typed inside others within before k low high = elim (cases_lt k at) [
-  | inl lt ↦ before k lt high
-  | inr le ↦
-      let size : length (slice_range bytes at count) ≡ count - at = omega (arith, length-take (count - at) (drop at bytes), length-drop at bytes, inside) in
-      let byte : slice_index (slice_range bytes at count) (k - at) ≡ slice_index bytes k =
-      get_or-take (count - at) (drop at bytes) (k - at) 0 (omega (arith, le, high)) ∙ get_or-drop at bytes (k - at) 0 ∙ ap (λ i. slice_index bytes i) (omega (arith, le)) in
-      another_word bytes k word (typed k) (λ same. others (k - at) (omega (arith, le, low)) (byte ∙ same))
-]
 
 -- a word under the key twice is the word
 pub cancelled : (a key : ℕ) → bit_xor (bit_xor a key) key ≡ a
@@ -53,33 +27,51 @@ under_key stretch key n is =
     find_same (λ i. word_at stretch i == bit_xor 0x536E6144 key) (λ i. is_dans key (word_at stretch i)) (range_with_len 0 n) (λ k i at. same_test (word_at stretch i) key 0x536E6144)
     ∙ ap (λ m. find (λ i. is_dans key (word_at stretch i)) (range_with_len 0 m)) is
 
--- ---- sixteen bytes as the lanes of a vector, and the first of them that is a byte
+-- what is found from b on is found from a on, if nothing between passes
+found_from : (test : ℕ → Bool) (m t n a b : ℕ) → b ≡ a + m → t ≡ m + n → ((k : ℕ) → a ≤ k → k < b → test k ≡ false) → find test (range_with_len b n) ≡ find test (range_with_len a t)
+found_from test zero t n a b place size none =
+    let begin : b ≡ a = omega (arith, place) in
+    let all : n ≡ t = omega (arith, size) in
+    (λ i. find test (range_with_len (begin i) (all i)))
+found_from test (suc m) zero n a b place size none = absurd (omega (arith, size))
+found_from test (suc m) (suc t) n a b place size none = rw (none a (omega arith) (omega (arith, place))) (found_from test m t n (a + 1) b (omega (arith, place)) (omega (arith, size)) (λ k low high. none k (omega (arith, low)) high))
 
-abbrev pub marks_of : ℕ → List ℕ → ℕ
-marks_of byte v = mask_l (map (top 7) (zip2 (λ a b. cond (a == b) 255 0) v (replicate 16 byte))) % 2 ^ 64
+pub found_past : (test : ℕ → Bool) (m n : ℕ) → m ≤ n → ((k : ℕ) → k < m → test k ≡ false) → find test (range_with_len m (n - m)) ≡ find test (range_with_len 0 n)
+found_past test m n le none = found_from test m n (n - m) 0 m (omega arith) (omega (arith, le)) (λ k low high. none k high)
 
-module _ (xs : List ℕ) (i byte : ℕ) (room : i + 16 ≤ length xs) where
-  abbrev is_byte : ℕ → Bool
-  is_byte x = x == byte
+-- ---- sixteen bytes as the lanes of a vector
 
-  abbrev lanes : List ℕ
-  lanes = chunk i 16 xs
+module _ (bytes : List ℕ) (at byte : ℕ) (room : at + 16 ≤ length bytes) where
+  abbrev under : List ℕ
+  under = zip2 (λ a b. bit_xor a b) (chunk at 16 bytes) (replicate 16 byte)
 
-  are : marks_of byte lanes ≡ mask_l (map is_byte lanes)
-  are = bitmask_splat w8 (λ a b. a == b) lanes 16 byte (length-chunk i 16 xs room) (omega arith)
+  pub length-under : length under ≡ 16
+  length-under = length-zip2 (λ a b. bit_xor a b) (chunk at 16 bytes) (replicate 16 byte) (length-chunk at 16 bytes room) ∙ length-chunk at 16 bytes room
 
-  other : (x : ℕ) → is_byte x ≡ false → x ≢ byte
-  other x h same = absurd (cc (h, eq-eqb x byte same))
+  pub zero-under : (k : ℕ) → k < 16 → slice_index bytes (at + k) ≡ byte → slice_index under k ≡ 0
+  zero-under k low is =
+      get_or-zip2 (λ a b. bit_xor a b) (chunk at 16 bytes) (replicate 16 byte) k 0 0 0 (omega (arith, low, length-chunk at 16 bytes room)) low
+      ∙ ap (λ a. bit_xor a (get_or (replicate 16 byte) k 0)) (get_or-chunk at 16 bytes k 0 low ∙ is)
+      ∙ ap (bit_xor byte) (get_or-replicate 16 k byte 0 low)
+      ∙ xor_self byte
 
-  -- no mark: none of the sixteen is the byte
-  pub all_others : marks_of byte lanes ≡ 0 → (k : ℕ) → i ≤ k → k < i + 16 → get_or xs k 0 ≢ byte
-  all_others none k from to = other (get_or xs k 0) (none_from_empty_mask is_byte xs i 16 0 room (sym are ∙ none) k from to)
+-- lanes that are 0 in both
+module _ (xs ys : List ℕ) (some : length xs ≡ 16) (same : length ys ≡ 16) where
+  pub length-or : length (zip2 bit_or xs ys) ≡ 16
+  length-or = length-zip2 bit_or xs ys (some ∙ sym same) ∙ some
 
-  counted : 0 < marks_of byte lanes → count_trailing_zeros 64 (marks_of byte lanes) ≡ prefix_len (λ x. not (is_byte x)) lanes
-  counted some = ap (count_trailing_zeros 64) are ∙ trailing_mask_l is_byte 64 lanes (omega (arith, length-chunk i 16 xs room)) (omega (arith, some, are))
+  pub zero-or : (k : ℕ) → k < 16 → slice_index xs k ≡ 0 → slice_index ys k ≡ 0 → slice_index (zip2 bit_or xs ys) k ≡ 0
+  zero-or k low is other = get_or-zip2 bit_or xs ys k 0 0 0 (omega (arith, low, some)) (omega (arith, low, same)) ∙ (λ i. bit_or (is i) (other i))
 
-  pub run_within : 0 < marks_of byte lanes → count_trailing_zeros 64 (marks_of byte lanes) ≤ 16
-  run_within some = run_in_chunk_le is_byte xs i 16 (count_trailing_zeros 64 (marks_of byte lanes)) 0 room (counted some)
+-- no mark: no lane is 0
+pub no_zero : (xs : List ℕ) → length xs ≡ 16 → mask_l (map (top 7) (zip2 (λ a b. cond (a == b) 255 0) xs (replicate 16 0))) % 2 ^ 64 ≡ 0 → (k : ℕ) → k < 16 → slice_index xs k ≢ 0
+no_zero xs long none k low is =
+    let marks = ap (λ l. mask_l (map (λ x. x == 0) l)) (take_all 16 xs (omega (arith, long))) ∙ sym (bitmask_splat w8 (λ a b. a == b) xs 16 0 long (omega arith)) ∙ none in
+    let other : (slice_index xs k == 0) ≡ false = none_from_empty_mask (λ x. x == 0) xs 0 16 0 (omega (arith, long)) marks k (omega arith) low in
+    absurd (cc (other, eq-eqb (slice_index xs k) 0 is))
 
-  pub run_others : 0 < marks_of byte lanes → (k : ℕ) → i ≤ k → k < i + count_trailing_zeros 64 (marks_of byte lanes) → get_or xs k 0 ≢ byte
-  run_others some k from to = other (get_or xs k 0) (run_in_chunk_fails is_byte xs i 16 (count_trailing_zeros 64 (marks_of byte lanes)) 0 room (counted some) k from to)
+-- the bytes of a word
+pub stored : (bytes : List ℕ) (word p i : ℕ) → IsBytes bytes → p + 4 ≤ length bytes → number Little 4 bytes p ≡ word → i < 4 → slice_index (to_le_bytes w32 word) i ≡ slice_index bytes (p + i)
+stored bytes word p i are room same low =
+    let is : to_le_bytes w32 word ≡ slice_range bytes p (p + 4) = sym (number_bytes_little 4 word) ∙ ap (number_bytes Little 4) (sym same) ∙ number_bytes-number Little 4 bytes p are room in
+    ap (λ s. slice_index s i) is ∙ get_or-take (p + 4 - p) (drop p bytes) i 0 (omega (arith, low)) ∙ get_or-drop p bytes i 0

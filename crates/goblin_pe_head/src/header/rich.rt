@@ -1,7 +1,8 @@
 //! The Rich header, where a linker records which tools made a file.
 
 ghost use Rattle.std.specs.Prelude.{◌≡◌, ◌≤◌, ◌<◌, ◌+◌, ◌*◌, ◌/◌, ◌^◌, List, ℕ, Some, length, drop};
-ghost use Rattle.std.specs.Prelude.{◌-◌, ◌==◌, ◌≢◌, option_map, slice_index, IfOk, IfSome};
+ghost use Rattle.std.specs.Prelude.{◌-◌, ◌==◌, false, find, option_map, slice_index, IfOk, IfSome};
+ghost use Rattle.std.specs.{Prelude.IsTrue, List.range_with_len};
 ghost use Rattle.std.specs.Iterator.{UpTo, YieldsFirst, at_most};
 ghost use Rattle.std.specs.Iterator.SizeHint.{IsWithinCount};
 ghost use Rattle.goblin_base.specs.{Reading.Reads, Bytes.IsBytes, Record.WritesRecord};
@@ -322,57 +323,63 @@ pub(crate) fn dans_place(stretch: &[u8], key: u32) -> Option<usize>
 }
 
 // The first of `count` positions at which `word` lies.
-#[tactic(auto, using(goblin_base::proofs::Parts::found_at, goblin_base::proofs::Parts::found_none))]
+#[tactic(auto, using(crate::proofs::WordPlaces::found_past))]
 fn word_place(bytes: &[u8], count: usize, word: u32) -> Option<usize>
     requires { count ≤ length bytes.now - 3 }
     ensures value { result ≡ least_below count (λ i. word_at bytes.now i == word) }
     ensures below { IfSome result (λ i. i < count) }
 {
-    let first = (word % 256) as u8;
-    let mut at = 0;
-    'places: while at < count {
-        at += run_without(&bytes[at..count], first);
-        if at < count && field_u32(bytes, at, Endian::Little) == word {
-            return Some(at);
-        }
-        at += 1;
-    }
-    None
+    word_between(bytes, places_without(bytes, count, word), count, word)
 }
 
-// How many bytes precede the first that is `byte`.
-fn run_without(bytes: &[u8], byte: u8) -> usize
-    ensures within { result ≤ length bytes.now }
-    ensures others { (k : ℕ) → k < result → slice_index bytes.now k ≢ byte }
+// The first position from `start` on and before `end` at which `word` lies.
+fn word_between(bytes: &[u8], start: usize, end: usize, word: u32) -> Option<usize>
+    requires { end ≤ length bytes.now - 3 }
+    ensures value { result
+        ≡ find (λ i. word_at bytes.now i == word) (range_with_len start (end - start)) }
+    ensures below { IfSome result (λ i. i < end) }
 {
-    let mut run = 0;
-    'lanes: while 16 <= bytes.len() - run {
-        let more = run_in_lanes(bytes, run, byte);
-        run += more;
-        if more < 16 {
-            return run;
-        }
-    }
-    'bytes: while run < bytes.len() && bytes[run] != byte {
-        run += 1;
-    }
-    run
+    (start..end).find(|i| field_u32(bytes, *i, Endian::Little) == word)
 }
 
-// How many of the 16 bytes from `at` on precede the first that is `byte`.
-fn run_in_lanes(bytes: &[u8], at: usize, byte: u8) -> usize
+// How many positions precede the 16 among which `word` lies first, or the last ones that are fewer
+// than 16.
+fn places_without(bytes: &[u8], count: usize, word: u32) -> usize
+    requires { count ≤ length bytes.now - 3 }
+    ensures within { result ≤ count }
+    ensures others { (k : ℕ) → k < result → (word_at bytes.now k == word) ≡ false }
+{
+    let mut passed = 0;
+    'lanes: while 16 <= count - passed && is_absent(bytes, passed, word) {
+        passed += 16;
+    }
+    passed
+}
+
+// Whether `word` lies at none of the 16 positions from `at` on.
+#[inline(always)]
+fn is_absent(bytes: &[u8], at: usize, word: u32) -> bool
+    requires { at + 19 ≤ length bytes.now }
+    ensures yes { IsTrue result → (k : ℕ) → at ≤ k → k < at + 16
+        → (word_at bytes.now k == word) ≡ false }
+{
+    let [first, second, third, fourth] = word.to_le_bytes();
+    let others = lanes_under(bytes, at, first)
+        | lanes_under(bytes, at + 1, second)
+        | lanes_under(bytes, at + 2, third)
+        | lanes_under(bytes, at + 3, fourth);
+    others.simd_eq(u8x16::splat(0)).to_bitmask() == 0
+}
+
+// The exclusive or of each of the 16 bytes from `at` on with `byte`.
+#[inline(always)]
+fn lanes_under(bytes: &[u8], at: usize, byte: u8) -> u8x16
     requires { at + 16 ≤ length bytes.now }
-    ensures within { result ≤ 16 }
-    ensures others { (k : ℕ) → at ≤ k → k < at + result → slice_index bytes.now k ≢ byte }
+    ensures size { length result ≡ 16 }
+    ensures zeros { (k : ℕ) → k < 16 → slice_index bytes.now (at + k) ≡ byte
+        → slice_index result k ≡ 0 }
 {
-    let marks = u8x16::from_slice(&bytes[at..])
-        .simd_eq(u8x16::splat(byte))
-        .to_bitmask();
-    if marks == 0 {
-        16
-    } else {
-        marks.trailing_zeros() as usize
-    }
+    u8x16::from_slice(&bytes[at..]) ^ u8x16::splat(byte)
 }
 
 // The index of the first word that is not the key.
