@@ -1,5 +1,5 @@
 -- A text that is ASCII, cut at a limit or not.
-use Rattle.std.proofs.Common.{inl, inr, IsUtf8, min, take-take, get_or-take, get_or-drop, slice_index, ◌≡◌, ◌<◌, ◌≤◌, ℕ, ◌+◌, ◌-◌, List, length, drop, take, take_all, refl, ap, sym, ◌∙◌, arith, slice_range, Some, None, nat_lt, length-drop, length-take, true, Option, drop-drop}
+use Rattle.std.proofs.Common.{IfSome, inl, inr, IsUtf8, min, take-take, get_or-take, get_or-drop, slice_index, ◌≡◌, ◌<◌, ◌≤◌, ℕ, ◌+◌, ◌-◌, List, length, drop, take, take_all, refl, ap, sym, ◌∙◌, arith, slice_range, Some, None, nat_lt, length-drop, length-take, true, Option, drop-drop}
 use Rattle.std.specs.{List.position_or_len, Str.is_utf8}
 use Rattle.std.proofs.lemmas.List.Sums.{position_or_len_is}
 use Rattle.std.proofs.lemmas.Str.{is_utf8-from_IsUtf8}
@@ -7,26 +7,22 @@ use Rattle.goblin_base.proofs.AsciiText.{ascii_text, ascii_utf8}
 use Rattle.std.proofs.lemmas.Bool.{cases_lt, lt-ltb}
 use Rattle.std.proofs.{lemmas.Option.cond_some}
 use Rattle.goblin_base.specs.Bytes.{begins_character, before_nul, cut_text, cut_window, front_text, text_at, text_of, text_within}
-use Rattle.goblin_base.proofs.{CutTexts.front-kept, CutTexts.uncut, Numbers.rest_is_drop, Texts.text_in_rest}
+use Rattle.goblin_base.proofs.{CutTexts.front-kept, CutTexts.front-same, CutTexts.uncut, Numbers.rest_is_drop, Texts.text_in_rest}
 
--- the bytes through a lane past the limit
-pub front_all : (bytes : List ℕ) (p limit room : ℕ)
-    → p ≤ length bytes
+-- the bytes from a place on, as far as there is room
+pub front_all : (bytes : List ℕ) (p room : ℕ) → p ≤ length bytes
     → length (slice_range bytes p (length bytes)) ≤ room
-    → room ≤ limit + 16
-    → slice_range bytes p (length bytes) ≡ take (limit + 16) (drop p bytes)
-front_all bytes p limit room within few least =
+    → slice_range bytes p (length bytes) ≡ take room (drop p bytes)
+front_all bytes p room within few =
     let same = rest_is_drop bytes p in
-    same
-    ∙ sym (take_all (limit + 16) (drop p bytes) (omega (arith, few, least, ap length same)))
+    same ∙ sym (take_all room (drop p bytes) (omega (arith, few, ap length same)))
 
-pub front_part : (bytes : List ℕ) (p limit : ℕ)
-    → slice_range (slice_range bytes p (length bytes)) 0 (limit + 16)
-    ≡ take (limit + 16) (drop p bytes)
-front_part bytes p limit =
-    let width : limit + 16 - 0 ≡ limit + 16 = omega arith in
+pub front_part : (bytes : List ℕ) (p room : ℕ)
+    → slice_range (slice_range bytes p (length bytes)) 0 room ≡ take room (drop p bytes)
+front_part bytes p room =
+    let width : room - 0 ≡ room = omega arith in
     ap (λ (k : ℕ). take k (slice_range bytes p (length bytes))) width
-    ∙ ap (λ (xs : List ℕ). take (limit + 16) xs) (rest_is_drop bytes p)
+    ∙ ap (λ (xs : List ℕ). take room xs) (rest_is_drop bytes p)
 
 pub ruleset front = (front_all, front_part)
 
@@ -143,6 +139,33 @@ module _ (bytes : List ℕ) (p limit : ℕ) (front s : List ℕ) (lt : p < lengt
       is ∙ take_all (limit + 16) (drop p bytes) (omega (arith, all, length-drop p bytes)) in
       let few : length front ≤ limit = omega (arith, all, ap length whole, length-drop p bytes) in
       rw (lt-ltb p (length bytes) lt) (sym (ap (λ (xs : List ℕ). text_of (before_nul xs)) whole) ∙ text few)
+
+-- a text that ends among the bytes through one past the limit
+pub short_text : (longest : Option ℕ) (bytes : List ℕ) (p limit : ℕ) (front s : List ℕ) → p < length bytes
+    → front ≡ take (limit + 1) (drop p bytes) → IfSome longest (λ n. limit ≡ n)
+    → text_of (before_nul front) ≡ Some s → length s < length front → text_within longest bytes p ≡ Some s
+short_text longest bytes p limit front s lt is limited text short =
+    let rest = drop p bytes in
+    let found = cond_some (is_utf8 (before_nul front)) (before_nul front) s text in
+    let few : length s < limit + 1 = omega (arith, short, ap length is, length-take (limit + 1) rest) in
+    let same : before_nul rest ≡ s =
+    sym (front-same (limit + 1) rest (omega (arith, few, ap length found.1, ap (λ (xs : List ℕ). length (before_nul xs)) is)))
+    ∙ sym (ap before_nul is) ∙ found.1 in
+    let utf8 : is_utf8 s ≡ true = sym (ap is_utf8 found.1) ∙ found.0 in
+    by_limit longest limited few same utf8
+  where
+    by_limit : (longest : Option ℕ) → IfSome longest (λ n. limit ≡ n) → length s < limit + 1
+        → before_nul (drop p bytes) ≡ s → is_utf8 s ≡ true → text_within longest bytes p ≡ Some s
+    by_limit None limited few same utf8 = rw (lt-ltb p (length bytes) lt) (ap text_of same ∙ rw utf8 refl)
+    by_limit (Some n) limited few same utf8 =
+        let rest = drop p bytes in
+        let width : p + n + 4 - p ≡ n + 4 = omega arith in
+        let window : cut_window bytes p n ≡ take (n + 4) rest = ap (λ (k : ℕ). take k rest) width in
+        let own : before_nul (take (n + 4) rest) ≡ s = front-kept (n + 4) rest (omega (arith, few, limited, ap length same)) ∙ same in
+        let there : nat_lt 0 (length (take (n + 4) rest)) ≡ true =
+        lt-ltb 0 (length (take (n + 4) rest)) (omega (arith, lt, length-take (n + 4) rest, length-drop p bytes)) in
+        ap (front_text n) window
+        ∙ rw there (ap (λ (t : List ℕ). text_of (cut_text n t)) own ∙ ap text_of (uncut n s (omega (arith, few, limited))) ∙ rw utf8 refl)
 
 -- a text in what follows a place is the text at its own place
 pub limited_in_rest : (longest : Option ℕ) (bytes : List ℕ) (p k : ℕ) → p ≤ length bytes

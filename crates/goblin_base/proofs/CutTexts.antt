@@ -110,7 +110,7 @@ cut-short n text few =
     omega (arith, few, length-take k text)
 
 -- the bytes before a NUL are the same in a longer list, where there is a NUL or no more bytes
-front-same : (m : ℕ) (bytes : List ℕ) → length (before_nul (take m bytes)) < m
+pub front-same : (m : ℕ) (bytes : List ℕ) → length (before_nul (take m bytes)) < m
     → before_nul (take m bytes) ≡ before_nul bytes
 front-same m bytes few =
     let front = take m bytes in

@@ -9,7 +9,7 @@ use Rattle.std.proofs.lemmas.List.Elements.{All-cons, All-head, All-nil, All-tai
 use Rattle.goblin_base.specs.{declared.error.ErrorOf.ErrorOf, Reading.IsInFile}
 use Rattle.goblin_base.specs.Answers.{Malformed, BadMagic, BufferTooShort, Read, Memory, BadOffset, TooBig, BadInput}
 use Rattle.goblin_base.specs.Answers.{Answers, FirstFault, IsNoText, IsOffsetFault, IsTextFault, IsTextFaultWithin}
-use Rattle.goblin_base.specs.Bytes.{before_nul, begins_character, cut_text, cut_window, replaced, slice_at, stretch, stretch_at, text_at, text_of, text_within}
+use Rattle.goblin_base.specs.Bytes.{before_nul, begins_character, cut_text, cut_window, replaced, slice_at, stretch, stretch_at, text_of, text_within}
 use Rattle.goblin_base.specs.Footprints.{Agree, Covers, Range, positions, stretch_footprint}
 use Rattle.goblin_base.specs.Parts.{MappedEnd, in_memory, positions_before, positions_in_file, stored}
 use Rattle.goblin_base.proofs.{Inside.AreInside, Inside.if-in}
@@ -423,11 +423,6 @@ pub ruleset texts = (answers_same, text_in_zeros, no_text_past, bad_offset)
 some_there : (test : Bool) (x : Option (List ℕ)) (s : List ℕ) → cond test x None ≡ Some s → test ≡ true
 some_there true x s is = refl
 some_there false x s is = absurd cc
-
-pub text_stored : (xs : List ℕ) (n p : ℕ) (s : List ℕ) → text_at xs p ≡ Some s → text_at (xs ++ replicate n 0) p ≡ Some s
-text_stored xs n p s is =
-    let lt = ltb-true p (length xs) (some_there (nat_lt p (length xs)) (text_of (stretch xs p)) s is) in
-    within_stored xs n p lt None ∙ is
 
 -- a text that was read begins in the bytes
 pub text_within_stored : (longest : Option ℕ) (xs : List ℕ) (n p : ℕ) (s : List ℕ) → text_within longest xs p ≡ Some s

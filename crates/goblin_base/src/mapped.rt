@@ -102,8 +102,8 @@ impl<'a> MappedBytes<'a> {
         }
     }
 
-    /// The text at `offset`, cut if there is a limit, if it is ASCII and ends in a whole lane of 16
-    /// bytes, as [`pread_ascii_str_within`] reads it. `None` says nothing about the text.
+    /// The text at `offset`, if it is ASCII and within the limit, as [`pread_ascii_str_within`]
+    /// reads it. `None` says nothing about the text.
     #[inline(always)]
     #[tactic(auto, using(crate::proofs::InMemory::text_within_stored))]
     pub fn ascii_str_within(self, offset: usize, longest: Option<u32>) -> Option<&'a str>
@@ -206,9 +206,24 @@ impl<'a> MappedBytes<'a> {
         requires { 0 < N }
         ensures { result ≡ slice_at (bytes_in self.entry) (N * index) N }
     {
-        if index < self.bytes.len() / N {
-            return Some(field_array(self.bytes, N * index));
+        match self.stored_entry_at(index) {
+            Some(entry) => Some(entry),
+            None => self.padded_entry(index),
         }
-        self.padded_entry(index)
+    }
+
+    /// The entry at an index of a table of entries of `N` bytes, if all of it is among the bytes of
+    /// the file. `None` says nothing about the entry.
+    #[inline(always)]
+    #[tactic(auto, using(crate::proofs::InMemory::entries))]
+    pub fn stored_entry_at<const N: usize>(self, index: usize) -> Option<[u8; N]>
+        requires { 0 < N }
+        ensures { IfSome result (λ a. slice_at (bytes_in self.entry) (N * index) N ≡ Some a) }
+    {
+        if index < self.bytes.len() / N {
+            Some(field_array(self.bytes, N * index))
+        } else {
+            None
+        }
     }
 }

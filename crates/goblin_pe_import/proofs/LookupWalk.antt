@@ -11,7 +11,7 @@ use Rattle.goblin_pe_import.specs.KeptEntries.{KeptEntry, IsEntriesCause, KeptVa
 use Rattle.goblin_pe_import.specs.ImportLookup.{entry_model, kept_model}
 use Rattle.goblin_pe_import.specs.Steps.{GivesWithin, IsOut, LooksAt}
 use Rattle.readings.specs.Walks.{GivesNext, IsWalkOf, from_slot, end_items, items_at, items_of, table_walk, until_refused}
-use Rattle.readings.proofs.Walked.{AtWalk, walk-all, walk-fault, walk-more, walk-start}
+use Rattle.readings.proofs.Walked.{AtWalk, walk-all, walk-fault, walk-more}
 use Rattle.goblin_pe_import.specs.LookupReadings.{kept_entry, lookup_entry_at, lookup_with_slots}
 use Rattle.goblin_pe_import.proofs.{ImportBound.kept_entry-few, PermissiveReads.entry-there}
 use Rattle.readings.proofs.WalkValues.{walk-value}
@@ -237,15 +237,6 @@ module _ (strict : Bool) (format : Format EntryValue) (addressing : Addressing)
       pub at : AtWalk comes IsCause (Some o) place kept
       pub are : entries ≡ map (λ k. k.entry) kept
       pub stand : rows ≡ map (λ k. k.slot) kept
-
-  pub entries-start : 1 ≤ format.width → AtEntries (Some o) [] []
-  entries-start wide = record {
-    wide = wide;
-    kept = [];
-    at = walk-start comes IsCause (Some o);
-    are = refl;
-    stand = refl;
-  }
 
   pub entries-counted : (place : Option ℕ) (entries : List LookupEntry) (rows : List ℕ)
       → AtEntries place entries rows → length entries ≡ length rows

@@ -8,16 +8,13 @@ use Rattle.goblin_pe_import.specs.declared.added.imports.WalkedImport.{WalkedImp
 use Rattle.goblin_pe.specs.added.Layouts.{FileImports}
 use Rattle.goblin_pe.specs.added.Layouts.{GivesFileImport, IsFileImportsCause, file_imports_left}
 use Rattle.readings.specs.{added.Questions.counted, Walks.GivesNext}
-use Rattle.readings.proofs.Walked.{AtWalk, walk-all, walk-fault, walk-more, walk-start}
+use Rattle.readings.proofs.Walked.{AtWalk, walk-all, walk-fault, walk-more}
 
 -- The walk over imports that began at `start` is now at `now`, and this was gathered of the imports so far.
 pub record Gathers {B : Type 0} (gather : List NumberedImport → B) (start now : FileImports) (value : B) : Type 0 where
   pub items : List NumberedImport
   pub at : AtWalk file_imports_left IsFileImportsCause start now items
   pub is : value ≡ gather items
-
-pub gathers_start : {B : Type 0} (gather : List NumberedImport → B) (start : FileImports) (value : B) → value ≡ gather [] → Gathers gather start start value
-gathers_start gather start value is = record { items = []; at = walk-start file_imports_left IsFileImportsCause start; is = is }
 
 module _ {B : Type 0} (gather : List NumberedImport → B) (start now next : FileImports) (value : B) (h : Gathers gather start now value) where
   -- one import more

@@ -19,8 +19,11 @@ ghost use Rattle.goblin_pe_export.specs.added.ExportWalks.{NumberedExport};
 
 use crate::export::Export;
 use crate::export::entries::{Entries, TablesInFile};
-use crate::export::tables::{ExportAddressTableEntry, ExportDirectoryTable, test_address_count};
-use goblin_base::{Cause, Error, MappedBytes, Result};
+use crate::export::tables::{
+    ExportAddressTableEntry, ExportDirectoryTable, SIZEOF_EXPORT_ADDRESS_TABLE_ENTRY,
+    SIZEOF_NAME_POINTER, SIZEOF_ORDINAL, test_address_count,
+};
+use goblin_base::{Cause, Endian, Error, MappedBytes, Result, field_u16, field_u32};
 use goblin_pe_sect::DataDirectory;
 use goblin_pe_sect::address_map::{AddressMap, Finder};
 use std::fmt;
@@ -290,7 +293,7 @@ impl<'a, 'm> Exports<'a, 'm> {
     // The export of the name pointer at an index, if its name is ASCII, it is not a forwarder, and
     // its RVA and its name lie among those that the finder keeps. `None` says nothing about it.
     #[inline(always)]
-    #[tactic(auto, unfolding(crate::specs::ExportReadings::numbered_row, crate::specs::ExportReadings::row_of, goblin_pe_sect::specs::AddressReadings::name_at))]
+    #[tactic(auto, unfolding(crate::specs::ExportReadings::numbered_row, crate::specs::ExportReadings::row_of, goblin_pe_sect::specs::AddressReadings::name_at), using(crate::proofs::WholeEntries::entry_read))]
     fn ascii_at(
         bytes: &'a [u8],
         tables: &TablesInFile<'a>,
@@ -303,9 +306,20 @@ impl<'a, 'm> Exports<'a, 'm> {
         ensures hint { IfSome result (λ x. x.hint ≡ index) }
         ensures unforwarded { IfSome result (λ x. (walked_export x).row.reexport ≡ None) }
     {
-        let pointer = tables.pointer(index)?;
-        let ordinal = tables.ordinal(index)?;
-        let ExportAddressTableEntry::ExportRVA(rva) = tables.address(usize::from(ordinal))? else {
+        let pointer = tables
+            .name_pointers
+            .stored_entry_at::<SIZEOF_NAME_POINTER>(index)?;
+        let pointer = field_u32(&pointer, 0, Endian::Little);
+        let ordinal = tables.ordinals.stored_entry_at::<SIZEOF_ORDINAL>(index)?;
+        let ordinal = field_u16(&ordinal, 0, Endian::Little);
+        let address = tables
+            .addresses
+            .stored_entry_at::<SIZEOF_EXPORT_ADDRESS_TABLE_ENTRY>(usize::from(ordinal))?;
+        let rva = field_u32(&address, 0, Endian::Little);
+        let ExportAddressTableEntry::ExportRVA(rva) = ExportAddressTableEntry::of_rva(
+            tables.directory,
+            rva,
+        ) else {
             return None;
         };
         let Some(offset) = finder.near_offset(rva) else {

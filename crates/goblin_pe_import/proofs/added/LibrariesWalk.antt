@@ -16,7 +16,7 @@ use Rattle.goblin_pe_import.specs.Passed.{Count, count_of, risen}
 use Rattle.goblin_pe_import.specs.Steps.{HasSteps, IsOut, spent}
 use Rattle.goblin_pe_import.specs.added.ImportWalks.{ImportCursor, lacks_table, no_imports}
 use Rattle.goblin_pe_import.specs.added.TestedTables.{pieces, tested_slots}
-use Rattle.goblin_pe_import.specs.added.Libraries.{AreLibrariesOver, Awaits, GivesLibraryWithin, GivesNextLibrary, IsLibrariesCause, LibraryValue, MovesTo, MovesWithin, after_library, at_record, directory_records, libraries_ahead, libraries_bytes, libraries_format, libraries_left, libraries_map, libraries_next, libraries_steps, library_at, library_row, library_value, row_counts, row_steps, tested_at}
+use Rattle.goblin_pe_import.specs.added.Libraries.{AreLibrariesOver, Awaits, GivesLibraryWithin, GivesNextLibrary, IsLibrariesCause, LibraryValue, MovesTo, MovesWithin, after_library, at_record, directory_records, libraries_bytes, libraries_format, libraries_left, libraries_map, libraries_next, libraries_steps, library_at, library_row, library_value, row_counts, row_steps, tested_at}
 use Rattle.goblin_pe_import.proofs.PassedSlots.{risen-start, risen-then}
 use Rattle.goblin_pe_import.proofs.SlotSteps.{counted-one, counted-start, grown_none, grown_spent, refused-one}
 use Rattle.goblin_pe_import.proofs.added.PassedLibraries.{counted-end, rows-more, rows-piece}
@@ -27,10 +27,6 @@ use Rattle.goblin_pe_import.proofs.added.TestedPieces.{summed-end, summed-first}
 pub ended-left : (s : Libraries) → s.at ≡ no_imports → libraries_left s ≡ []
 unfolding libraries_next
 ended-left s is = rw is refl
-
-pub same-over : (t : Libraries)
-    → AreLibrariesOver (libraries_map t) (libraries_format t) (libraries_bytes t) t
-same-over t = record { bytes_are = refl; map_is = refl; format_is = refl }
 
 -- what a walk is over that goes on over the same
 pub over-then : (s now t : Libraries)
@@ -66,20 +62,6 @@ module _ (s : Libraries) (steps : Option ℕ) where
 
   abbrev IsEnd : Option ℕ → ErrorOf → Type 0
   IsEnd next e = IsSomeAnd next (λ p. (directory_records strict p).IsCause bytes e)
-
-  -- no steps are left, or a look has yet to be taken
-  pub moves-start : MovesWithin s steps None s steps
-  moves-start = record {
-    steps = (refl, λ e fault. fault);
-    fault = tt;
-    over = same-over s;
-    after = inr (inl refl);
-    passed = λ k. risen-start (count_of k s.passed) (libraries_ahead s k);
-    spent = grown_none steps;
-    looked = counted-start steps (libraries_steps s);
-    bound = omega arith;
-    fewer = tt;
-  }
 
   -- no directory is left
   pub moves-none : s.at.next_record ≡ None → (t : Libraries) → t ≡ record s { at = no_imports }

@@ -14,16 +14,16 @@ use crate::import::bitfield::Bitfield;
 use crate::import::kept::KeptEntry;
 use crate::import::lookup_table::{HintNameTableEntry, SyntheticImportLookupTableEntry};
 use crate::import::slots::next_entry;
-use goblin_base::{Endian, MappedBytes, field_u16};
+use goblin_base::{Endian, MappedBytes, field_u16, pread_ascii_str_within};
 use goblin_pe_sect::address_map::Finder;
 
 // How many bytes the file must have from an entry with such a name on: those of the hint, and a
 // lane of 16 bytes for the name.
 const ASCII_ROOM: usize = 18;
 
-// The hint and the name at an offset of what a read at an address sees, the name cut if there is a
-// limit, if the name is ASCII and its NUL is not among the last bytes there that are in the file.
-// `None` says nothing about them. Both modes return the same.
+// The hint and the name at an offset of what a read at an address sees, if the name is ASCII and
+// within the limit, and its NUL is not among the last bytes there that are in the file. `None` says
+// nothing about them. Both modes return the same.
 #[inline(always)]
 fn ascii_hint_name<'a>(
     part: MappedBytes<'a>,
@@ -34,15 +34,13 @@ fn ascii_hint_name<'a>(
         → (reading.hint_name strict longest offset).value (bytes_in part.entry)
         ≡ Some (hint_name_model named)) }
 {
-    let size = part.stored().len();
-    if size < offset || size - offset < ASCII_ROOM {
+    let stored = part.stored();
+    if stored.len() < offset || stored.len() - offset < ASCII_ROOM {
         return None;
     }
-    let Ok(hint) = part.array_at::<2>(offset) else {
-        return None;
-    };
-    let hint = field_u16(&hint, 0, Endian::Little);
-    let Some(name) = part.ascii_str_within(offset + 2, longest) else {
+    let entry = &stored[offset..];
+    let hint = field_u16(entry, 0, Endian::Little);
+    let Some(name) = pread_ascii_str_within(entry, 2, longest) else {
         return None;
     };
     Some(HintNameTableEntry { hint, name })

@@ -61,7 +61,8 @@ impl<'a> HintNameTableEntry<'a> {
         HintNameTableEntry::parse_in(MappedBytes::whole(bytes), offset, None, opts)
     }
 
-    // The hint at an offset of what a read at an address sees, and the name after it, up to a limit.
+    // The hint at an offset of what a read at an address sees, and the name after it, up to a
+    // limit.
     #[inline(always)]
     #[tactic(auto, unfolding(crate::specs::LookupReadings::hint_name), using(crate::proofs::HintNames::hints))]
     fn parse_in<'e>(

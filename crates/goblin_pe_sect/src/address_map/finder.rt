@@ -22,9 +22,12 @@ pub struct Finder<'m> {
     // The addresses around the last address, and those around the address of the last name.
     run: Run,
     names: Run,
+    // The map's limit for names, which a loop then keeps in a register.
+    longest: Option<u32>,
 }
 
 impl<'m> Model for Finder<'m> {
+    ghost use Rattle.std.specs.Prelude.{◌≡◌};
     ghost use Rattle.goblin_pe_sect.specs.declared.address_map.AddressMap.{AddressMap};
     ghost use Rattle.goblin_pe_sect.specs.Addresses.{map_of, place_of};
     ghost use Rattle.goblin_pe_sect.specs.Runs.{IsRun};
@@ -35,7 +38,8 @@ impl<'m> Model for Finder<'m> {
 
     ghost invariant = { λ f.
         IsRun (place_of (map_of f.address_map.now)) f.run
-        × IsRun (place_of (map_of f.address_map.now)) f.names };
+        × IsRun (place_of (map_of f.address_map.now)) f.names
+        × (f.longest ≡ f.address_map.now.longest) };
 }
 
 impl<'m> Finder<'m> {
@@ -47,6 +51,7 @@ impl<'m> Finder<'m> {
             address_map,
             run: Run::default(),
             names: Run::default(),
+            longest: address_map.longest_name(),
         }
     }
 
@@ -58,6 +63,7 @@ impl<'m> Finder<'m> {
             address_map: self.address_map,
             run: self.run,
             names: self.names,
+            longest: self.longest,
         }
     }
 
@@ -90,7 +96,7 @@ impl<'m> Finder<'m> {
     pub fn longest_name(&self) -> Option<u32>
         ensures { result ≡ (map_of self.now).addressing.longest }
     {
-        self.address_map.longest_name()
+        self.longest
     }
 
     // The place of an address in the file.
