@@ -6,15 +6,15 @@ ghost use Rattle.std.specs.Prelude.{◌≡◌};
 /// The number of this interface. A caller that declares another one has another number.
 #[unsafe(no_mangle)]
 pub extern "C" fn goblin_pe_interface() -> u32
-    ensures { result ≡ 247437886 }
+    ensures { result ≡ 3455545740 }
 {
-    247_437_886
+    3_455_545_740
 }
 
 /// The same, by a name that no other interface has, with which programs in C are linked.
 #[unsafe(no_mangle)]
-pub extern "C" fn goblin_pe_interface_0ebf9a3e() -> u32
-    ensures { result ≡ 247437886 }
+pub extern "C" fn goblin_pe_interface_cdf7718c() -> u32
+    ensures { result ≡ 3455545740 }
 {
-    247_437_886
+    3_455_545_740
 }

@@ -100,9 +100,10 @@ pub extern "C" fn goblin_pe_raw_section_data<'a>(
     memory.missing == 0
 }
 
-/// Gives the text at an RVA, up to a NUL, the end of the file or `options.longest_name`. As a
-/// loader maps, it also ends where the section does in memory; as goblin maps, the section's end
-/// is not looked at. To read bytes that may not be UTF-8, use `goblin_pe_find_offset`.
+/// Gives the text at an RVA, up to a NUL or the end of the file. A text that is longer than
+/// `options.longest_name` ends with the character that passes the limit. As a loader maps, it also
+/// ends where the section does in memory; as goblin maps, the section's end is not looked at. To
+/// read bytes that may not be UTF-8, use `goblin_pe_find_offset`.
 ///
 /// Faults: UNMAPPED; READ if the offset is at or past the end, or the text is not UTF-8; OPTIONS.
 #[unsafe(no_mangle)]
