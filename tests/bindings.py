@@ -104,7 +104,7 @@ class Walk:
 
 
 def options(permissive=False, longest=0, mapping=0):
-    return records().Options(mapping, longest, permissive)
+    return records().Options(mapping=mapping, longest_name=longest, is_permissive=permissive)
 
 
 def image_of(data, how=None, call="read_image"):

@@ -79,7 +79,7 @@ def row(it, **more):
 
 def an_import(it):
     name = struct("Name", [("name", text(it.name)), ("hint", it.hint)]) if it.name is not None else f"Ordinal({it.ordinal})"
-    fields = [("dll", text(it.dll)), ("name", name), *((name, getattr(it, name)) for name in it._fields[4:])]
+    fields = [("dll", text(it.dll)), ("name", name), *((name, shown(getattr(it, name))) for name in it._fields[4:])]
     return struct("Import", fields)
 
 
@@ -93,13 +93,15 @@ def library(it):
 def forwarder(it):
     if it.name is None:
         return struct("Ordinal", [("dll", text(it.dll)), ("ordinal", it.ordinal)])
-    return struct("Name", [("dll", text(it.dll)), ("name", text(it.name))])
+    return struct("Name", [("dll", text(it.dll)), ("name", text(it.name)), ("is_cut", shown(it.is_cut))])
 
 
 def auxiliary(it):
     kind = words_of(it.kind.name)
     if kind == "File":
-        return f"FileAt({it.string_offset})" if it.file is None else f"File({text(it.file)})"
+        if it.file is None:
+            return f"FileAt({it.string_offset})"
+        return struct("File", [("name", text(it.file)), ("is_name_cut", shown(it.is_file_cut))])
     return struct(kind, ((name, getattr(it, name)) for name in AUXILIARY[kind].split()))
 
 
@@ -147,7 +149,7 @@ def tables(out, image):
     for block in out.rows("relocation_blocks", image.relocation_blocks(budget(20))):
         out.put(shown(list(block.relocations())))
     for symbol in out.rows("symbols", image.symbols(budget(300))):
-        out.put(some(symbol.auxiliary()), result(image.symbol_at, symbol.index, to=some))
+        out.put(some(symbol.auxiliary(image)), result(image.symbol_at, symbol.index, to=some))
         out.put(some(image.section_by_number(symbol.section_number)))
 
 

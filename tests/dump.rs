@@ -55,7 +55,7 @@ fn tables(image: &Image) {
         println!("{:?}", Vec::from_iter(block.relocations()));
     }
     for symbol in walked("symbols", image.symbols(&budget(300))) {
-        println!("{:?} {:?}", symbol.auxiliary(), image.symbol_at(symbol.index));
+        println!("{:?} {:?}", symbol.auxiliary(image), image.symbol_at(symbol.index));
         println!("{:?}", image.section_by_number(symbol.section_number));
     }
 }

@@ -535,7 +535,7 @@ class Places(unittest.TestCase):
                 table = signature + 24 + found.coff_header.size_of_optional_header
                 for section in found.sections:
                     wanted = struct.unpack_from("<8sIIIIIIHHI", data, table + 40 * section.index)
-                    self.assertEqual((section.stored_name, *section[3:]), wanted)
+                    self.assertEqual((section.stored_name, *section[3:-1]), wanted)
 
     def test_a_rich_header(self):
         data, key = bytearray(BY_NAME.read_bytes()), 0x1234ABCD

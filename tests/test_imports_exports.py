@@ -99,18 +99,21 @@ FORWARDERS = [
 ]
 NO_FORWARDERS = [b"a.", b"a", b"", b"a.#4294967296", b"a.#"]
 
-# Texts, and their fronts with a limit of eight bytes: the characters that begin within nine bytes.
+# Texts, and their fronts of at most eight bytes. If the next character is not UTF-8, the text has no front.
 UP_TO_8 = [
-    (b"12345678", b"12345678"), (b"123456789", b"123456789"), (b"123456789A", b"123456789"), (b"1" * 5000, b"1" * 9),
-    ("1234567\u00E9".encode(), "1234567\u00E9".encode()), ("12345678\u00E99".encode(), "12345678\u00E9".encode()),
-    ("1234567\u20AC9".encode(), "1234567\u20AC".encode()), ("12345678\U0001D11E9".encode(), "12345678\U0001D11E".encode()),
-    (b"123456789\xFF", b"123456789"), (b"123456789\x80", None), (b"12345678\xFF", None), (b"1234\xFF", None),
+    (b"12345678", b"12345678"), (b"123456789", b"12345678"), (b"123456789A", b"12345678"), (b"1" * 5000, b"1" * 8),
+    ("123456\u00E9".encode(), "123456\u00E9".encode()), ("1234567\u00E9".encode(), b"1234567"), ("123456\u00E99".encode(), "123456\u00E9".encode()),
+    ("12345678\u00E99".encode(), b"12345678"), ("1234567\u20AC9".encode(), b"1234567"), ("12345\u20AC9".encode(), "12345\u20AC".encode()),
+    ("12345\U0001D11E9".encode(), b"12345"), ("12345678\U0001D11E9".encode(), b"12345678"),
+    (b"123456789\xFF", b"12345678"), (b"123456789\x80", None), (b"12345678\xFF", None), (b"1234\xFF", None),
 ]
-# Texts of forwarders, and their values with a limit of eight bytes. In a longer one, a name follows the first dot.
+# Texts of forwarders, their values with a limit of eight bytes, and whether they are cut. In a longer one, a name follows the first dot.
 FORWARDERS_UP_TO_8 = [
-    (b"KERNEL.a", (b"KERNEL", b"a", None)), (b"KERNEL.ab", (b"KERNEL", b"ab", None)), (b"KERNEL.abc", (b"KERNEL", b"ab", None)),
-    (b"a.#00012", (b"a", None, 12)), (b"a.#0000012", (b"a", b"#000001", None)), (b"KERNEL32.HeapAlloc", (b"KERNEL32", b"", None)),
-    (b"KERNEL64a.HeapAlloc", (b"KERNEL64a", b"", None)), (b"KERNEL64and", (b"KERNEL64a", b"", None)),
+    (b"KERNEL.a", (b"KERNEL", b"a", None, False)), (b"KERNEL.ab", (b"KERNEL", b"a", None, True)),
+    (b"KERNEL.abc", (b"KERNEL", b"a", None, True)), ("KERNEL.\u00E9".encode(), (b"KERNEL", b"", None, True)),
+    (b"KERNELL.a", (b"KERNELL", b"", None, True)), (b"a.#00012", (b"a", None, 12, False)), (b"a.#0000012", (b"a", b"#00000", None, True)),
+    (b"KERNEL32.HeapAlloc", (b"KERNEL32", b"", None, True)), (b"KERNEL64a.HeapAlloc", (b"KERNEL64", b"", None, True)),
+    (b"KERNEL64and", (b"KERNEL64", b"", None, True)), ("KERNEL6\u00E9".encode(), (b"KERNEL6", b"", None, True)),
 ]
 
 # Files, and the offsets and lengths of the texts of their section (the name), their imports (the DLL and the name) and their
@@ -219,6 +222,16 @@ def inner(module):
     return sys.modules[f"{package().__name__}.{module}"]
 
 
+def whole_imports(rows):
+    """Rows of imports in which no name is cut."""
+    return [(*it, False, False) for it in rows]
+
+
+def whole_exports(rows):
+    """Rows of exports in which no name and no forwarder is cut."""
+    return [(*it, forwarder and (*forwarder, False), False) for *it, forwarder in rows]
+
+
 class Read(unittest.TestCase):
     def assert_refused(self, data, wanted):
         """Strict mode refuses a file for this cause."""
@@ -238,10 +251,10 @@ class Read(unittest.TestCase):
                 self.assertIn(skipped, (None, walk.skipped))
 
     def assert_imports(self, found, wanted, skipped=None):
-        self.assert_table(found.imports, wanted, skipped)
+        self.assert_table(found.imports, whole_imports(wanted), skipped)
 
     def assert_exports(self, found, wanted, skipped=None):
-        self.assert_table(found.exports, wanted, skipped)
+        self.assert_table(found.exports, whole_exports(wanted), skipped)
 
 
 class Imports(Read):
@@ -250,7 +263,7 @@ class Imports(Read):
             for permissive in MODES:
                 with self.subTest(name, permissive=permissive):
                     self.assert_imports(image(data, permissive=permissive), wanted)
-                    self.assertEqual(list(read(data, permissive=permissive).imports), wanted)
+                    self.assertEqual(list(read(data, permissive=permissive).imports), whole_imports(wanted))
 
     def test_imports_that_strict_mode_refuses_are_listed_in_permissive_mode(self):
         for name, data, refused, wanted in REFUSED_IMPORTS:
@@ -265,7 +278,7 @@ class Exports(Read):
             for permissive in MODES:
                 with self.subTest(name, permissive=permissive):
                     self.assert_exports(image(data, permissive=permissive), wanted)
-                    self.assertEqual(list(read(data, permissive=permissive).exports), wanted)
+                    self.assertEqual(list(read(data, permissive=permissive).exports), whole_exports(wanted))
 
     def test_tables_are_cut_at_the_end_of_the_file(self):
         for name, data, hints, addresses in CUT_EXPORTS:
@@ -287,8 +300,8 @@ class Exports(Read):
         for text, wanted in FORWARDERS:
             with self.subTest(text):
                 pe = read(images.library(b"a.dll", [(b"f", text)]))
-                self.assertEqual([it.forwarder for it in pe.exports], [wanted])
-                self.assertEqual([pe.image.forwarder_at(it.rva) for it in pe.export_addresses], [wanted])
+                self.assertEqual([it.forwarder for it in pe.exports], [(*wanted, False)])
+                self.assertEqual([pe.image.forwarder_at(it.rva) for it in pe.export_addresses], [(*wanted, False)])
 
     def test_texts_that_are_no_forwarders_are_no_exports(self):
         for text in NO_FORWARDERS:
@@ -309,21 +322,22 @@ class LongNames(Read):
         for text, wanted in UP_TO_8:
             with self.subTest(text):
                 strict, permissive = self.images(images.importer([(text, [b"f"]), (b"a.dll", [text])]))
-                names = [(wanted or b"", b"f"), (b"a.dll", wanted or b"")]
-                self.assertEqual([(it.dll, it.name) for it in permissive.imports()], names)
-                self.assertEqual([it.name for it in permissive.libraries()], [wanted, b"a.dll"])
+                is_cut = wanted not in (None, text)
+                names = [(wanted or b"", is_cut, b"f", False), (b"a.dll", False, wanted or b"", is_cut)]
+                libraries = [(wanted, is_cut), (b"a.dll", False)]
                 if wanted is None:
                     self.assertRaises(package().PeError, list, strict.imports())
-                else:
-                    self.assertEqual([(it.dll, it.name) for it in strict.imports()], names)
-                    self.assertEqual([it.name for it in strict.libraries()], [wanted, b"a.dll"])
+                for found in (permissive,) if wanted is None else (strict, permissive):
+                    self.assertEqual([(it.dll, it.is_library_cut, it.name, it.is_name_cut) for it in found.imports()], names)
+                    self.assertEqual([(it.name, it.is_name_cut) for it in found.libraries()], libraries)
 
     def test_the_names_of_exports(self):
         for text, wanted in UP_TO_8:
             for found in self.images(images.library(text, [(text, 0x9000), (b"g", 0x9000)])):
                 with self.subTest(text):
-                    self.assertEqual([it.name for it in found.exports()], [wanted, b"g"])
-                    self.assertEqual(found.export_directory().name, wanted)
+                    of_text = wanted, wanted not in (None, text)
+                    self.assertEqual([(it.name, it.is_name_cut) for it in found.exports()], [of_text, (b"g", False)])
+                    self.assertEqual((found.export_directory().name, found.export_directory().is_name_cut), of_text)
 
     def test_forwarders(self):
         for text, wanted in FORWARDERS_UP_TO_8:
@@ -350,13 +364,29 @@ class LongNames(Read):
                 for it in self.both(self.named(text), permissive=permissive, longest_name=8):
                     for found in it, pickle.loads(pickle.dumps(it)):
                         with self.subTest(text, permissive=permissive, kind=found.kind):
-                            self.assertEqual([s.name for s in found.sections], [b"/4" if wanted is None else wanted])
-                            self.assertEqual([s.name for s in (*found.symbols(), found.symbol_at(0))], [wanted, wanted])
-                            self.assertEqual(found.string_at(4), wanted)
+                            of_text = wanted, wanted not in (None, text)
+                            self.assertEqual([(s.name, s.is_name_cut) for s in found.sections], [(b"/4", False) if wanted is None else of_text])
+                            self.assertEqual([(s.name, s.is_name_cut) for s in (*found.symbols(), found.symbol_at(0))], [of_text] * 2)
 
-    def test_a_name_in_a_record_is_whole(self):
-        for it in self.both(self.named(b"", b".longsec", b"longname"), longest_name=4):
-            self.assertEqual((it.sections, [s.name for s in it.symbols()]), ((it.section_by_name(".longsec"),), [b"longname"]))
+    def test_a_name_in_a_record_is_cut_too(self):
+        for longest, section, symbol in (4, b".lon", b"long"), (7, b".longse", b"longnam"), (8, b".longsec", b"longname"):
+            for it in self.both(self.named(b"", b".longsec", b"longname"), longest_name=longest):
+                self.assertEqual([(s.name, s.is_name_cut) for s in it.sections], [(section, longest < 8)])
+                self.assertEqual([(s.name, s.is_name_cut) for s in it.symbols()], [(symbol, longest < 8)])
+
+    def test_a_name_that_is_not_utf_8_is_cut_before_a_byte_that_may_begin_a_character(self):
+        for longest, wanted in (1, b"a"), (2, b"a"), (3, b"a"), (4, b"a\xE2\x82\x82"), (7, b"a\xE2\x82\x82\xFF\xFE\xFD"):
+            for it in self.both(self.named(b"", b"a\xE2\x82\x82\xFF\xFE\xFD\xFC"), longest_name=longest):
+                self.assertEqual([(s.name, s.is_name_cut) for s in it.sections], [(wanted, True)])
+
+    def test_the_name_of_a_source_file_is_cut_too(self):
+        name = b"a_long_name_of_a_file.c"
+        for longest, wanted in (1, b"a"), (len(name) - 1, name[:-1]), (len(name), name), (None, name):
+            symbol = struct.pack("<8sIhHBB", b".file", 0, -2, 0, 103, 2) + name.ljust(36, b"\0")
+            file = struct.pack("<HHIIIHH", 0x8664, 0, 0, 20, 3, 0, 0) + symbol + struct.pack("<I", 4)
+            found = package().Image.object(file, how(longest_name=longest))
+            found = next(found.symbols()).auxiliary(found)
+            self.assertEqual((found.file, found.is_file_cut), (wanted, wanted != name))
 
     def test_a_section_is_found_by_its_whole_name(self):
         for it in self.both(self.named(b"123456789A")):
@@ -380,14 +410,16 @@ class LongNames(Read):
 
     def test_limits_at_the_ends(self):
         file = images.importer([(b"a.dll", [b"\xC3\xA9t\xC3\xA9"])])
-        for longest, wanted in ((1, b"\xC3\xA9"), (2, b"\xC3\xA9t"), (3, b"\xC3\xA9t\xC3\xA9"), ((1 << 32) - 1, b"\xC3\xA9t\xC3\xA9")):
-            self.assertEqual([it.name for it in image(file, longest_name=longest).imports()], [wanted])
+        whole = b"\xC3\xA9t\xC3\xA9"
+        for longest, wanted in (1, b""), (2, whole[:2]), (3, whole[:3]), (4, whole[:3]), (5, whole), ((1 << 32) - 1, whole), (None, whole):
+            self.assertEqual([(it.name, it.is_name_cut) for it in image(file, longest_name=longest).imports()], [(wanted, wanted != whole)])
         cut = packed_sample(0x29B)[:0x292] + b"123456789"  # (which ends with the file)
-        for longest, wanted in ((7, b"12345678"), (8, b"123456789"), (9, b"123456789")):
-            self.assertEqual(next(image(cut, permissive=True, longest_name=longest).imports()).name, wanted)
+        for longest in 7, 8, 9:
+            it = next(image(cut, permissive=True, longest_name=longest).imports())
+            self.assertEqual((it.name, it.is_name_cut), (b"123456789"[:longest], longest < 9))
 
     def test_a_limit_is_a_number_of_bytes(self):
-        self.assertEqual(package().Options().longest_name, None)
+        self.assertEqual(package().Options().longest_name, 4096)
         for wrong in 0, -1, 1 << 32:
             self.assertRaises(ValueError, package().Options, longest_name=wrong)
         self.assertRaises(TypeError, package().Options, longest_name="8")
@@ -536,14 +568,14 @@ class WholeFiles(Read):
             with self.subTest(permissive=permissive):
                 pe = read(sample(), permissive=permissive)
                 self.assertEqual({i: it for i, it in enumerate(pe.image.directories) if any(it)}, {0: (0x10A0, 0x60), 1: (0x1000, 0x28)})
-                self.assertEqual(list(pe.sections), [(b".rdata", b".rdata\0\0", 0, 0x100, 0x1000, 0x100, 0x200, 0, 0, 0, 0, 0)])
+                self.assertEqual(list(pe.sections), [(b".rdata", b".rdata\0\0", 0, 0x100, 0x1000, 0x100, 0x200, 0, 0, 0, 0, 0, False)])
                 self.assertEqual(pe.relocation_blocks, ())
 
     def test_what_the_export_directory_leads_to(self):
         pe = read(sample())
-        self.assertEqual(pe.export_directory, (b"a.dll", 0, 0, 0, 0, 0x1080, 1, 2, 2, 0x10C8, 0x10D0, 0x10D8))
+        self.assertEqual(pe.export_directory, (b"a.dll", 0, 0, 0, 0, 0x1080, 1, 2, 2, 0x10C8, 0x10D0, 0x10D8, False))
         self.assertEqual(list(pe.export_addresses), ADDRESSES)
-        self.assertEqual(pe.image.forwarder_at(0x10E0), TO_12)
+        self.assertEqual(pe.image.forwarder_at(0x10E0), (*TO_12, False))
 
     def test_addresses_are_read_without_the_names(self):
         """The directory counts more name pointers than the file has bytes: the exports are refused, but an ordinal is found."""

@@ -134,7 +134,7 @@ class Python(Case):
         self.assertEqual(len(found["exports"]), 2)
         # (names are limited)
         long = self.written("long.dll", bytes(images.one_long_name(3, 10000)))
-        self.assertEqual([len(it["name"]) for it in json.loads(self.lists("--json", long)[1])["sections"]], [4097] * 3)
+        self.assertEqual([len(it["name"]) for it in json.loads(self.lists("--json", long)[1])["sections"]], [4096] * 3)
 
     def test_several_files_are_listed_below_their_names(self):
         status, out, errors = self.lists(BY_NAME, self.folder / "none.dll", BY_NAME)

@@ -303,7 +303,8 @@ class Tables(unittest.TestCase):
         self.assertEqual(found, SYMBOLS)
 
     def test_auxiliary_records_are_read(self):
-        by_name = {it.name: it.auxiliary() for it in symbols_of(SYMBOL_RECORDS, STRINGS)}
+        found = package().Image.object(object_of(SYMBOL_RECORDS, STRINGS))
+        by_name = {it.name: it.auxiliary(found) for it in found.symbols()}
         kinds, it = package().AuxiliaryKind, by_name[b".text"]
         self.assertEqual((it.kind, it.length, it.number_of_relocations, it.number_of_line_numbers, it.checksum, it.number, it.selection),
                          (kinds.SECTION_DEFINITION, 90, 6, 0, 0x2EC34278, 1, 0))
@@ -470,7 +471,7 @@ class Tables(unittest.TestCase):
         file = package().Image.partial(bytes(range(256)) * 3)
         for name, (size, raw_size, pointer, flags), (begin, length, *wanted) in DATA:
             with self.subTest(name):
-                memory = package().Section(b"", bytes(8), 0, size, 0, raw_size, pointer, 0, 0, 0, 0, flags).data(file)
+                memory = package().Section(b"", bytes(8), 0, size, 0, raw_size, pointer, 0, 0, 0, 0, flags, False).data(file)
                 self.assertEqual((memory.data, memory.zeros, memory.missing), (file.data[begin:][:length], *wanted))
 
     def test_uninitialized_data_is_zeros_in_memory(self):

@@ -21,8 +21,10 @@
            struct goblin_pe_fault fault = goblin_pe_read_image(file, length, &options, &image);
            if (!fault.status) do {
                fault = goblin_pe_next_imports(&image, &cursor, rows, 4096, &steps, &batch);
-               for (size_t i = 0; i < batch.count; i++, putchar('\n'))
+               for (size_t i = 0; i < batch.count; i++) {
                    put(rows[i].dll), printf(" %u ", rows[i].hint_or_ordinal), put(rows[i].name);
+                   puts(rows[i].is_name_cut ? "..." : "");
+               }
                skipped += batch.skipped + batch.unmapped;
            } while (!batch.is_done);
            if (skipped) printf("%zu entries give no import\n", skipped);
@@ -172,8 +174,8 @@
    Time
    ----
    n is the file's length. "sections" is one look at each section header. "name" is the length of
-   one name: at most n, and at most longest_name + 4 if the options set a limit. ASCII costs 0.15
-   nanoseconds a byte, other text up to 3.
+   one name: at most n, and at most longest_name + 16. ASCII costs 0.15 nanoseconds a byte, other
+   text up to 3.
 
    call                       time at most
    kind_of                    constant
@@ -204,8 +206,9 @@
    -------------
    - Libraries may share one lookup table, so a small file can list very much: 256 KiB list 850
      million imports. Stop a walk when you have enough.
-   - Names may overlap, so m names of a file of n bytes are up to m * n bytes to read. Set
-     longest_name.
+   - Names may overlap, so m names of a file of n bytes are up to m * n bytes to read. So the length
+     of names is limited: to 4,096 bytes if you set no longest_name. A row says whether a name of it
+     is cut.
    - Dead entries cost time and give no row: without a limit 1 MiB may cost a minute. Set steps:
      100,000 need 10 to 200 milliseconds, depending on the length of the names.
    - Each call costs up to 25 milliseconds more if the image has many sections: a million imports
@@ -233,17 +236,17 @@ extern "C" {
    have different numbers. A program linked in C gets the matching library, or does not link.
    One that loads the library at run time defines GOBLIN_PE_LOADED_AT_RUN_TIME before it includes
    this header, and compares the two numbers first. */
-#define GOBLIN_PE_INTERFACE 0x98bb0961u
+#define GOBLIN_PE_INTERFACE 0xdcf80ce5u
 uint32_t goblin_pe_interface(void);
 
 /* What follows .so. in the name of the shared library. */
-#define GOBLIN_PE_SONAME "5.98bb0961"
+#define GOBLIN_PE_SONAME "5.dcf80ce5"
 
 /* Only a library of this interface has this call. */
-uint32_t goblin_pe_interface_98bb0961(void);
+uint32_t goblin_pe_interface_dcf80ce5(void);
 #if defined(__GNUC__) && !defined(GOBLIN_PE_LOADED_AT_RUN_TIME)
 __attribute__((used)) static uint32_t (*const goblin_pe_needs_interface)(void) =
-    goblin_pe_interface_98bb0961;
+    goblin_pe_interface_dcf80ce5;
 #endif
 
 /* Calls that return a fault are marked, so that a compiler warns if you drop it. */
@@ -300,18 +303,17 @@ enum goblin_pe_mapping {
     GOBLIN_PE_MAPPING_IDENTITY = 3
 };
 
+/* Lifts the limit of names, or of steps. */
+#define GOBLIN_PE_NO_LIMIT SIZE_MAX
+/* The limit of names if you set none, in bytes. */
+#define GOBLIN_PE_LONGEST_NAME 4096
+
 /* How an image is read. Zeros are the defaults. */
 struct goblin_pe_options {
     /* A `goblin_pe_mapping`. If it is another number, calls that read a header or find a table by
        its address return `GOBLIN_PE_STATUS_OPTIONS`, and look-ups find nothing. The other walks
        look at no address, and do not test it. */
     uint32_t mapping;
-    /* How many bytes of a name are read; 0 is no limit. A longer name ends with the character that
-       passes the limit, and is whole only if that is its last. What follows is not tested: it may
-       not be UTF-8. The limit holds for the names of DLLs, imports and exports, for names in a
-       string table, for forwarders and for texts at an RVA. A forwarder is cut as one text; its
-       export name may then be empty. */
-    uint32_t longest_name;
     /* Whether damaged parts are skipped, and not refused. Walks count what they skip. Neither mode
        reads a file that has one of these; a partial read does: a header or a section table that is
        cut off, an optional header of an unknown magic, more than sixteen data directories, a
@@ -321,6 +323,12 @@ struct goblin_pe_options {
     /* Zeros, because later versions may have options here. Other bytes count as an unknown
        mapping. */
     uint8_t reserved[3];
+    /* How many bytes of a name are read at most; 0 means 4,096. `GOBLIN_PE_NO_LIMIT`, and any other
+       number above 2^32 - 1, means no limit. A longer name is cut between two characters, and the
+       row says so. Different names can be cut to the same bytes, so don't compare or hash a name
+       that is cut. What follows the cut, except for the next character, is not tested: it may not
+       be UTF-8. */
+    size_t longest_name;
 };
 
 /* ---- Faults -------------------------------------------------------------------------------- */
@@ -750,8 +758,6 @@ struct goblin_pe_image {
     /* How it is read. You may change this in a copy, but `is_permissive` says nothing of the
        header, which was read already. */
     struct goblin_pe_options options;
-    /* Which call filled the record: a `goblin_pe_kind`. */
-    uint32_t kind;
     /* The file offset of the section table. */
     size_t section_table;
     /* How many section headers the walks and the mapping use. In a partial image it may be less
@@ -778,8 +784,8 @@ struct goblin_pe_image {
     size_t dos_stub_size;
     /* The Rich header. */
     struct goblin_pe_rich_header rich_header;
-    /* Zero. */
-    uint32_t reserved;
+    /* Which call filled the record: a `goblin_pe_kind`. */
+    uint32_t kind;
 };
 
 /* Which parts of a header a partial read could not read. A part that is there, or that the file
@@ -936,8 +942,10 @@ struct goblin_pe_section {
     uint32_t characteristics;
     /* Whether the name is from the string table. */
     bool has_long_name;
+    /* Whether the name is cut. */
+    bool is_name_cut;
     /* Zeros. */
-    uint8_t reserved[7];
+    uint8_t reserved[6];
 };
 
 /* Gives the next section headers. Never faults on a name: a read of the image has tested them, and
@@ -1127,8 +1135,12 @@ struct goblin_pe_import {
     bool is_by_name;
     /* Whether it has a name: it is imported by name, and the name can be read and is not empty. */
     bool has_name;
-    /* Zero. */
-    uint32_t reserved;
+    /* Whether the name is cut. */
+    bool is_name_cut;
+    /* Whether the name of the DLL is cut. */
+    bool is_library_cut;
+    /* Zeros. */
+    uint8_t reserved[2];
 };
 
 /* Gives the next imports, in the order of the import directory. Counts steps.
@@ -1187,8 +1199,10 @@ struct goblin_pe_library {
     /* Whether permissive mode skips it, as it has no address table. Strict mode refuses the
        imports. */
     bool is_skipped;
+    /* Whether the name is cut. */
+    bool is_name_cut;
     /* Zeros. */
-    uint8_t reserved[3];
+    uint8_t reserved[2];
 };
 
 /* Gives the next libraries: one for each entry of the import directory, also the skipped ones,
@@ -1225,8 +1239,10 @@ struct goblin_pe_forwarder {
     size_t ordinal;
     /* A `goblin_pe_forwarder_kind`; if it is `GOBLIN_PE_FORWARDER_KIND_NONE`, all else is zeros. */
     uint32_t kind;
-    /* Zero. */
-    uint32_t reserved;
+    /* Whether the text is cut. It then counts as a name, which may be empty. */
+    bool is_cut;
+    /* Zeros. */
+    uint8_t reserved[3];
 };
 
 /* Where a walk over exports is: the index of a name pointer. */
@@ -1253,10 +1269,12 @@ struct goblin_pe_export {
     size_t offset;
     /* Whether the name can be read. */
     bool has_name;
+    /* Whether the name is cut. */
+    bool is_name_cut;
     /* Whether `rva` has a file offset. */
     bool has_offset;
     /* Zeros. */
-    uint8_t reserved[6];
+    uint8_t reserved[5];
 };
 
 /* Gives the next exports that have a name pointer, in the order of these. Counts steps: one for
@@ -1309,10 +1327,12 @@ struct goblin_pe_export_directory {
     struct goblin_pe_export_directory_table record;
     /* Whether the name can be read. */
     bool has_name;
+    /* Whether the name is cut. */
+    bool is_name_cut;
     /* Whether the image has an export directory that is read. If not, all else is zeros. */
     bool is_present;
     /* Zeros. */
-    uint8_t reserved[6];
+    uint8_t reserved[5];
 };
 
 /* Reads the export directory table. It is not present if the image has none, or if permissive mode
@@ -1461,6 +1481,10 @@ struct goblin_pe_symbol {
     struct goblin_pe_symbol_record record;
     /* Whether it has a name. */
     bool has_name;
+    /* Whether the name is cut. */
+    bool is_name_cut;
+    /* Zeros. */
+    uint8_t reserved[2];
 };
 
 /* Gives the next symbols of an image or an object, and steps over their auxiliary records.
@@ -1470,8 +1494,9 @@ GOBLIN_PE_MUST_USE struct goblin_pe_fault goblin_pe_next_symbols(
     const struct goblin_pe_image *image, struct goblin_pe_symbol_cursor *cursor,
     struct goblin_pe_symbol *symbols, size_t room, struct goblin_pe_batch *batch);
 
-/* Sets `text` to the text at an offset of the string table, up to a NUL or `options.longest_name`.
-   The offset counts from the table's length field, as stored offsets do.
+/* Sets `text` to the text at an offset of the string table, up to a NUL. A text that is longer than
+   `options.longest_name` ends with the character that passes the limit. The offset counts from the
+   table's length field, as stored offsets do.
 
    Returns whether there is one, and it is UTF-8. */
 bool goblin_pe_string_at(
@@ -1519,8 +1544,10 @@ struct goblin_pe_auxiliary {
     uint16_t number_of_line_numbers;
     /* SECTION_DEFINITION: an `IMAGE_COMDAT_SELECT_*`. */
     uint8_t selection;
+    /* FILE: whether the name is cut. */
+    bool is_file_cut;
     /* Zeros. */
-    uint8_t reserved[3];
+    uint8_t reserved[2];
     /* WEAK_EXTERNAL: an `IMAGE_WEAK_EXTERN_SEARCH_*`. */
     uint32_t characteristics;
     /* FILE: the name of the source file. If it begins with four zeros it is in the string table, at
@@ -1536,7 +1563,8 @@ struct goblin_pe_auxiliary {
    `goblin_pe_auxiliary_kind`. The kind is NONE if the symbol has none, or they are cut, or its
    class and type name no kind. The raw bytes are in `symbol.auxiliary`. */
 uint32_t goblin_pe_read_auxiliary(
-    const struct goblin_pe_symbol *symbol, struct goblin_pe_auxiliary *auxiliary);
+    const struct goblin_pe_image *image, const struct goblin_pe_symbol *symbol,
+    struct goblin_pe_auxiliary *auxiliary);
 
 /* A relocation of a COFF object. It says which bytes of a section a linker changes, and how.
 

@@ -11,11 +11,11 @@ HAS_SIZE(slice, 16, 8);
 IS_AT(slice, bytes, 0);
 IS_AT(slice, length, 8);
 
-HAS_SIZE(options, 12, 4);
+HAS_SIZE(options, 16, 8);
 IS_AT(options, mapping, 0);
-IS_AT(options, longest_name, 4);
-IS_AT(options, is_permissive, 8);
-IS_AT(options, reserved, 9);
+IS_AT(options, is_permissive, 4);
+IS_AT(options, reserved, 5);
+IS_AT(options, longest_name, 8);
 
 HAS_SIZE(dos_header, 64, 4);
 IS_AT(dos_header, signature, 0);
@@ -100,7 +100,6 @@ IS_AT(rich_header, reserved, 17);
 HAS_SIZE(image, 440, 8);
 IS_AT(image, bytes, 0);
 IS_AT(image, options, 16);
-IS_AT(image, kind, 28);
 IS_AT(image, section_table, 32);
 IS_AT(image, section_count, 40);
 IS_AT(image, dos_header, 48);
@@ -112,7 +111,7 @@ IS_AT(image, optional_header, 136);
 IS_AT(image, directories, 280);
 IS_AT(image, dos_stub_size, 408);
 IS_AT(image, rich_header, 416);
-IS_AT(image, reserved, 436);
+IS_AT(image, kind, 436);
 
 HAS_SIZE(export_cursor, 8, 8);
 IS_AT(export_cursor, index, 0);
@@ -122,7 +121,8 @@ IS_AT(forwarder, dll, 0);
 IS_AT(forwarder, name, 16);
 IS_AT(forwarder, ordinal, 32);
 IS_AT(forwarder, kind, 40);
-IS_AT(forwarder, reserved, 44);
+IS_AT(forwarder, is_cut, 44);
+IS_AT(forwarder, reserved, 45);
 
 HAS_SIZE(export, 112, 8);
 IS_AT(export, name, 0);
@@ -133,8 +133,9 @@ IS_AT(export, rva, 80);
 IS_AT(export, name_rva, 88);
 IS_AT(export, offset, 96);
 IS_AT(export, has_name, 104);
-IS_AT(export, has_offset, 105);
-IS_AT(export, reserved, 106);
+IS_AT(export, is_name_cut, 105);
+IS_AT(export, has_offset, 106);
+IS_AT(export, reserved, 107);
 
 HAS_SIZE(batch, 32, 8);
 IS_AT(batch, count, 0);
@@ -166,8 +167,9 @@ HAS_SIZE(export_directory, 64, 8);
 IS_AT(export_directory, name, 0);
 IS_AT(export_directory, record, 16);
 IS_AT(export_directory, has_name, 56);
-IS_AT(export_directory, is_present, 57);
-IS_AT(export_directory, reserved, 58);
+IS_AT(export_directory, is_name_cut, 57);
+IS_AT(export_directory, is_present, 58);
+IS_AT(export_directory, reserved, 59);
 
 HAS_SIZE(export_address_cursor, 8, 8);
 IS_AT(export_address_cursor, index, 0);
@@ -207,7 +209,9 @@ IS_AT(import, thunk_index, 56);
 IS_AT(import, hint_or_ordinal, 64);
 IS_AT(import, is_by_name, 66);
 IS_AT(import, has_name, 67);
-IS_AT(import, reserved, 68);
+IS_AT(import, is_name_cut, 68);
+IS_AT(import, is_library_cut, 69);
+IS_AT(import, reserved, 70);
 
 HAS_SIZE(import_directory_entry, 20, 4);
 IS_AT(import_directory_entry, import_lookup_table_rva, 0);
@@ -224,7 +228,8 @@ IS_AT(library, offset, 48);
 IS_AT(library, imports, 56);
 IS_AT(library, record, 128);
 IS_AT(library, is_skipped, 148);
-IS_AT(library, reserved, 149);
+IS_AT(library, is_name_cut, 149);
+IS_AT(library, reserved, 150);
 
 HAS_SIZE(memory, 48, 8);
 IS_AT(memory, bytes, 0);
@@ -256,7 +261,8 @@ IS_AT(section, number_of_relocations, 72);
 IS_AT(section, number_of_linenumbers, 74);
 IS_AT(section, characteristics, 76);
 IS_AT(section, has_long_name, 80);
-IS_AT(section, reserved, 81);
+IS_AT(section, is_name_cut, 81);
+IS_AT(section, reserved, 82);
 
 HAS_SIZE(header_faults, 216, 8);
 IS_AT(header_faults, dos_header, 0);
@@ -323,6 +329,8 @@ IS_AT(symbol, auxiliary, 16);
 IS_AT(symbol, index, 32);
 IS_AT(symbol, record, 40);
 IS_AT(symbol, has_name, 60);
+IS_AT(symbol, is_name_cut, 61);
+IS_AT(symbol, reserved, 62);
 
 HAS_SIZE(coff_relocation, 12, 4);
 IS_AT(coff_relocation, virtual_address, 0);
@@ -346,7 +354,8 @@ IS_AT(auxiliary, checksum, 24);
 IS_AT(auxiliary, number_of_relocations, 28);
 IS_AT(auxiliary, number_of_line_numbers, 30);
 IS_AT(auxiliary, selection, 32);
-IS_AT(auxiliary, reserved, 33);
+IS_AT(auxiliary, is_file_cut, 33);
+IS_AT(auxiliary, reserved, 34);
 IS_AT(auxiliary, characteristics, 36);
 IS_AT(auxiliary, file, 40);
 IS_AT(auxiliary, string_offset, 56);
@@ -635,12 +644,16 @@ bool goblin_pe_string_at(
 }
 
 uint32_t goblin_pe_raw_read_auxiliary(
-    const struct goblin_pe_symbol *symbol, struct goblin_pe_auxiliary *auxiliary);
+    const struct goblin_pe_image *image, const struct goblin_pe_symbol *symbol,
+    struct goblin_pe_auxiliary *auxiliary);
 uint32_t goblin_pe_read_auxiliary(
-    const struct goblin_pe_symbol *symbol, struct goblin_pe_auxiliary *auxiliary)
+    const struct goblin_pe_image *image, const struct goblin_pe_symbol *symbol,
+    struct goblin_pe_auxiliary *auxiliary)
 {
+    struct goblin_pe_image its_image;
     struct goblin_pe_symbol its_symbol;
-    return goblin_pe_raw_read_auxiliary(sound_symbol(symbol, &its_symbol), auxiliary);
+    return goblin_pe_raw_read_auxiliary(
+        sound_image(image, &its_image), sound_symbol(symbol, &its_symbol), auxiliary);
 }
 
 struct goblin_pe_fault goblin_pe_raw_write_header(

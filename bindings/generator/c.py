@@ -9,7 +9,7 @@ from .declared import HERE, INTERFACE, MADE, NUMBERS, VERSION, Declared, Interfa
 # The header's parts, in its order, by the names of types and calls. Each record and call belongs to one of them.
 PARTS = (
     ("Basic records", "Slice Batch"),
-    ("Options", "Mapping Options"),
+    ("Options", "Mapping limits Options"),
     ("Faults", "Status Cause Counted ReadFault Fault fault_string"),
     ("The image", "Kind DosHeader CoffHeader StandardFields WindowsFields OptionalHeader DataDirectory DirectoryType RichHeader Image"
      " HeaderFaults kind_of read_image read_partial_image read_object TeHeader read_te"),
@@ -29,7 +29,7 @@ PARTS = (
 # The files of calls that say something of all calls of a part.
 ABOUT = {"Addresses": "look_up"}
 # The call by hand, with that of the library below it.
-BY_HAND = {"fault_string": "fault_text"}
+BY_HAND = {"fault_string": "fault_text", "limits": ""}
 
 
 def c_name(name: str) -> str:
@@ -208,6 +208,11 @@ def c_files(it: Interface) -> Dict[str, str]:
 
 
 BY_HAND_DECLARED = {
+    "limits": """/* Lifts the limit of names, or of steps. */
+#define GOBLIN_PE_NO_LIMIT SIZE_MAX
+/* The limit of names if you set none, in bytes. */
+#define GOBLIN_PE_LONGEST_NAME 4096
+""",
     "fault_string": """/* The size of a buffer that holds any fault's text. */
 #define GOBLIN_PE_FAULT_ROOM 256
 

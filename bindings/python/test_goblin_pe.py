@@ -417,7 +417,7 @@ class Memory(unittest.TestCase):
     def test_walks_keep_no_row(self):
         data = with_names(count=18000, length=150000)
         self.assertLess(len(data), 1 << 18)
-        image = Image(data, Options(permissive=True, mapping=Mapping.IDENTITY))
+        image = Image(data, Options(permissive=True, mapping=Mapping.IDENTITY, longest_name=None))
         self.assertEqual(sum(len(it.name) for it in itertools.islice(image.exports(), 100)), sum(range(150000, 150000 - 100, -1)))
         self.assertLess(most_memory(lambda: [None for _ in itertools.islice(image.exports(), 2000)]), 256 * 150000 + (1 << 20))
         short = image.with_options(dataclasses.replace(image.options, longest_name=512))
@@ -428,7 +428,7 @@ class Memory(unittest.TestCase):
         """Of an image of 320 KB whose names have 400 MB."""
         count, length = 4000, 110000
         data = with_section_names(count, length)
-        image = Image(data, PERMISSIVE)
+        image = Image(data, Options(permissive=True, longest_name=None))
         self.assertLess(most_memory(lambda: (repr(image), image.find_offset(0x1010), image.find_rva(0x210), image.memory_at(0x1010, 4))), 1 << 19)
         self.assertEqual((image.memory_at(0x1010, 4).section, image.memory_at(0x5000, 4).section), (count - 1, None))
         self.assertLess(most_memory(image.close), 1 << 19)
@@ -441,14 +441,15 @@ class Memory(unittest.TestCase):
     def test_a_name_of_many_rows_is_one_object(self):
         """In each batch: that of a DLL, from which 4,000 ordinals are imported."""
         data = with_libraries(FORWARDERS, [b"x" * 200000], [4000])
-        self.assertLess(most_memory(lambda: Pe(data, dataclasses.replace(IDENTITY, permissive=True))), 20 * 200000 + (1 << 22))
+        options = dataclasses.replace(IDENTITY, permissive=True, longest_name=None)
+        self.assertLess(most_memory(lambda: Pe(data, options)), 20 * 200000 + (1 << 22))
 
     def test_symbols_are_walked_and_looked_up_alone(self):
         """Those of an object of 140 KB, whose names have 180 MB."""
         count, length = 2000, 100000
         header = struct.pack("<HHIIIHH", 0x8664, 0, 0, 20, count, 0, 0)
         data = header + b"".join(struct.pack("<IIIhHBB", 0, 4 + i, i, 1, 0, 2, 0) for i in range(count))
-        image = Image.object(data + struct.pack("<I", length + 5) + b"n" * length + bytes(1))
+        image = Image.object(data + struct.pack("<I", length + 5) + b"n" * length + bytes(1), Options(longest_name=None))
         self.assertLess(most_memory(lambda: image.symbol_at(1)), 1 << 20)
         self.assertEqual([len(s.name) for s in image.symbols()], [length - i for i in range(count)])
         self.assertEqual((len(image.symbol_at(7).name), image.symbol_at(7).value, image.string_at(4)), (length - 7, 7, b"n" * length))
@@ -975,16 +976,16 @@ class Objects(unittest.TestCase):
                 for s in symbols:
                     self.assertEqual(len(s.aux_bytes), 18 * s.number_of_aux_symbols)
                     if s.storage_class == 3 and s.number_of_aux_symbols == 1:
-                        self.assertEqual(s.auxiliary().kind, AuxiliaryKind.SECTION_DEFINITION)
-                        self.assertEqual(s.auxiliary().length, image.section_by_number(s.section_number).size_of_raw_data)
+                        self.assertEqual(s.auxiliary(image).kind, AuxiliaryKind.SECTION_DEFINITION)
+                        self.assertEqual(s.auxiliary(image).length, image.section_by_number(s.section_number).size_of_raw_data)
                         self.assertEqual(image.section_by_number(s.section_number).name, s.name)
                     elif not s.aux_bytes:
-                        self.assertIsNone(s.auxiliary())
+                        self.assertIsNone(s.auxiliary(image))
                 self.assertEqual([image.symbol_at(s.index) for s in symbols], symbols)
                 count = image.coff_header.number_of_symbol_table
                 for index in range(count):  # (auxiliary records, too)
                     stored = struct.unpack_from("<IhHBB", data, image.coff_header.pointer_to_symbol_table + 18 * index + 8)
-                    self.assertEqual((image.symbol_at(index).index, image.symbol_at(index)[3:-1]), (index, stored))
+                    self.assertEqual((image.symbol_at(index).index, image.symbol_at(index)[3:-2]), (index, stored))
                 self.assertIsNone(image.symbol_at(count))
             for closed in lambda: next(image.symbols()), lambda: image.symbol_at(0), lambda: next(image.sections[0].relocations(image)):
                 self.assertRaises(ValueError, closed)
@@ -1006,10 +1007,11 @@ class Objects(unittest.TestCase):
                 storage_class, typ, section, value = row
                 records = struct.pack("<8sIhHBB", b"name", value, section, typ, storage_class, 1) + record
                 header = struct.pack("<HHIIIHH", 0x8664, 0, 0, 20, 2, 0, 0)
-                symbol, = Image.object(header + records + struct.pack("<I", 4)).symbols()
-                found = symbol.auxiliary()
+                image = Image.object(header + records + struct.pack("<I", 4))
+                symbol, = image.symbols()
+                found = symbol.auxiliary(image)
                 self.assertEqual(found and {name: it for name, it in found._asdict().items() if it}, wanted and {"kind": wanted, **fields[wanted]})
-                self.assertIsNone(symbol._replace(aux_bytes=b"").auxiliary())
+                self.assertIsNone(symbol._replace(aux_bytes=b"").auxiliary(image))
 
     def test_more_relocations_than_a_counter_says(self):
         """Those of 70,000, and one that passes the end."""
@@ -1307,7 +1309,7 @@ class Idioms(unittest.TestCase):
         self.assertIn(pe.sections[2], reversed(pe.sections))
 
     def test_rows_of_imports_by_name_and_by_ordinal_are_sorted(self):
-        name, number = Import(b"a.dll", b"b", 3, None, 8, 9, 0, 1), Import(b"a.dll", None, None, 7, 8, 0, 0, 0)
+        name, number = Import(b"a.dll", b"b", 3, None, 8, 9, 0, 1, False, False), Import(b"a.dll", None, None, 7, 8, 0, 0, 0, False, False)
         other = name._replace(dll=b"b.dll")
         self.assertEqual(sorted([other, name, number]), [number, name, other])
         self.assertEqual((number < name, number <= name, number > name, number >= name, name <= name, name < name), (True, True, False, False, True, False))

@@ -166,7 +166,8 @@ static bool is_found_by_name(const struct module *m, struct wanted *wanted)
         if (goblin_pe_next_exports(&m->image, is_hint ? &at : &first, rows, is_hint ? 1 : 256, &steps, &batch).status)
             return false;
         for (size_t i = 0; i < batch.count; i++)
-            if (rows[i].name.length == wanted->name.length && !memcmp(rows[i].name.bytes, wanted->name.bytes, wanted->name.length)) {
+            if (!rows[i].is_name_cut && rows[i].name.length == wanted->name.length &&
+                !memcmp(rows[i].name.bytes, wanted->name.bytes, wanted->name.length)) {
                 wanted->number = rows[i].ordinal;
                 return true;
             }
@@ -190,7 +191,7 @@ static bool is_found(const struct module *m, struct wanted *wanted, struct gobli
         return false;
     if (!found->is_forwarder)
         return true;
-    if (goblin_pe_forwarder_at(&m->image, found->rva, &it).status)
+    if (goblin_pe_forwarder_at(&m->image, found->rva, &it).status || it.is_cut)
         return false;
     *wanted = (struct wanted) { it.dll, it.name, it.ordinal, it.kind == GOBLIN_PE_FORWARDER_KIND_NAME };
     return true;
@@ -202,6 +203,8 @@ static bool is_resolved(struct module *modules, size_t count, const struct gobli
     struct wanted wanted = { row->dll, row->name, row->hint_or_ordinal, row->is_by_name };
     struct goblin_pe_export_address found = { .is_forwarder = true };
     size_t size = modules->image.optional_header.standard_fields.magic == GOBLIN_PE_MAGIC_64 ? 8 : 4;
+    if (row->is_name_cut || row->is_library_cut)
+        return puts("a name is too long"), false;
     for (int forwarders = 0; forwarders <= MOST_FORWARDERS; forwarders++) {
         const struct module *library = NULL;
         for (size_t i = 1; i < count && !library; i++)

@@ -26,7 +26,7 @@ static struct goblin_pe_fault list_symbols(const struct goblin_pe_image *image)
         for (size_t i = 0; i < batch.count && left; i++, left--) {
             printf("symbol %zu in section %d at 0x%x: ", rows[i].index, rows[i].record.section_number, rows[i].record.value);
             put(rows[i].name);
-            if (goblin_pe_read_auxiliary(&rows[i], &auxiliary) == GOBLIN_PE_AUXILIARY_KIND_SECTION_DEFINITION)
+            if (goblin_pe_read_auxiliary(image, &rows[i], &auxiliary) == GOBLIN_PE_AUXILIARY_KIND_SECTION_DEFINITION)
                 printf(" (%u bytes)", auxiliary.length);
             putchar('\n');
         }

@@ -79,7 +79,7 @@ static void check_symbols(const struct goblin_pe_image *image)
     struct goblin_pe_slice text;
     WALK(goblin_pe_next_symbols, cursor, symbol, &batch) {
         symbols++;
-        auxiliaries += goblin_pe_read_auxiliary(&symbol, &auxiliary) != GOBLIN_PE_AUXILIARY_KIND_NONE;
+        auxiliaries += goblin_pe_read_auxiliary(image, &symbol, &auxiliary) != GOBLIN_PE_AUXILIARY_KIND_NONE;
         EXPECT(is_in_file(symbol.name) && is_in_file(symbol.auxiliary));
     }
     if (goblin_pe_string_at(image, 4, &text))

@@ -13,12 +13,12 @@ STEPS, LONGEST, SECTIONS, BYTES = 100_000, 512, 200, 1 << 20
 
 
 def export_hash(image: Image, budget: Optional[Budget] = None) -> Optional[str]:
-    """The SHA-256 of the names of all exports, as pefile's get_exphash. It is "" if no export has a name, and None if the options cut
-    a name, because the hash would be another one."""
-    digest, separator, longest = hashlib.sha256(), b"", image.options.longest_name
+    """The SHA-256 of the names of all exports, as pefile's get_exphash. It is "" if no export has a name, and None if a name is cut,
+    because the hash would be another one."""
+    digest, separator = hashlib.sha256(), b""
     for it in image.exports(budget):
         if it.name is not None:
-            if longest and len(it.name) > longest:
+            if it.is_name_cut:
                 return None
             digest.update(separator + it.name.lower())
             separator = b","

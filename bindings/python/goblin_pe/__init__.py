@@ -30,7 +30,8 @@ on nothing is mapped, and in objects and Terse Executables nothing at all. Sizes
 A small file can list very much: 256 KiB can list 850 million imports. So calls whose work depends
 on the tables have an argument `budget`, a Budget of steps, and raise OutOfSteps when it is used up.
 A call without one has 1,000,000 steps; Budget() has no limit. Several calls can share one budget,
-which then limits their sum. Options(longest_name=..) limits how much of a name is read.
+which then limits their sum. At most 4,096 bytes of a name are read, or as many as
+Options(longest_name=..) says, and a row says whether a name of it is cut.
 
 Strict mode, the default, refuses a damaged table. Permissive mode skips the damaged parts, and each
 Walk counts what it has skipped. By default addresses are mapped as Windows maps them. Mapping

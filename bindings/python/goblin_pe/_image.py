@@ -3,7 +3,6 @@ from __future__ import annotations
 
 import contextlib
 import ctypes as c
-import dataclasses
 import hashlib
 import os
 import types
@@ -352,13 +351,9 @@ class Image:
 
     # Look-ups.
     def section_by_name(self, name: bytes | str) -> Section | None:
-        """The first section of this name; None if there is none, or if the options cut the name."""
-        wanted, longest = _bytes_of(name), self.options.longest_name
-        if longest is None or len(wanted) <= longest:
-            return next((it for it in self.sections if it.name == wanted), None)
-        # (a name that is longer than this limit is cut to a longer text than the wanted one)
-        limited = self.with_options(dataclasses.replace(self.options, longest_name=len(wanted)))
-        return next((it for it, other in zip(self.sections, limited.sections) if it.name == wanted == other.name), None)
+        """The first section of this name; None if there is none, or if the name is cut."""
+        wanted = _bytes_of(name)
+        return next((it for it in self.sections if it.name == wanted and not it.is_name_cut), None)
 
     def section_by_number(self, number: int) -> Section | None:
         """The section of a number that a symbol has: the first section has the number 1. None if
@@ -377,11 +372,9 @@ class Image:
 
     def find_export(self, name: bytes | str, budget: Budget | None = None) -> Export | None:
         """The first export of this name that `exports` gives; None if there is none, or if the name is
-        longer than `longest_name`."""
-        wanted, longest = _bytes_of(name), self.options.longest_name
-        if longest is not None and len(wanted) > longest:
-            return None
-        return next((it for it in self.exports(budget) if it.name == wanted), None)
+        cut."""
+        wanted = _bytes_of(name)
+        return next((it for it in self.exports(budget) if it.name == wanted and not it.is_name_cut), None)
 
     def find_export_by_ordinal(self, ordinal: int) -> ExportAddress | None:
         """The export of this ordinal, whether or not it has a name; None if there is none."""
@@ -440,16 +433,16 @@ class Image:
         found = _records.Forwarder()
         with self._held() as image:
             test(LIB.goblin_pe_forwarder_at(image, in_range(rva), c.byref(found)), None)
-            return forwarder(found) or Forwarder(b"", None, None)
+            return forwarder(found) or Forwarder(b"", None, None, False)
 
     # Facts about the whole file.
     def imphash(self, budget: Budget | None = None) -> str | None:
         """The hash of the imports that analysts compare, in hexadecimal, as pefile's get_imphash. It
-        is "" if no import counts. It is None if `longest_name` cuts the name of a DLL or of an import,
-        as it is in the file, because the hash of a name that is cut would be another hash."""
-        digest, separator, longest = hashlib.md5(usedforsecurity=False), b"", self.options.longest_name
+        is "" if no import counts. It is None if the name of a DLL or of an import is cut, because the
+        hash of a name that is cut would be another hash."""
+        digest, separator = hashlib.md5(usedforsecurity=False), b""
         for it in self.imports(budget):
-            if longest and (len(it.dll) > longest or len(it.name or b"") > longest):
+            if it.is_name_cut or it.is_library_cut:
                 return None
             line = imphash_line(it.dll, it.name, it.ordinal)
             if line:

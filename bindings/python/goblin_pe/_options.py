@@ -36,19 +36,20 @@ class Mapping(Number):
 @dataclasses.dataclass(frozen=True)
 class Options:
     """How a file is read. dataclasses.replace makes changed options. ValueError is raised if
-    `longest_name` is not from 1 to 2**32 - 1, and TypeError if it is no int.
+    `longest_name` is not from 1 to 2**32 - 1 or None, and TypeError if it is no int.
 
     permissive: whether damaged parts are skipped. If not, they are refused.
     mapping: how addresses are mapped to file offsets.
-    longest_name: how many bytes of a name are read; None reads all. A longer name ends with the
-        character that passes the limit, and is whole only if that is its last.
+    longest_name: how many bytes of a name are read at most; None is no limit. A longer name is cut
+        between two characters, and its row says so. Different names can be cut to the same bytes, so
+        don't compare or hash a name that is cut.
     """
 
     permissive: bool = False
     mapping: Mapping = Mapping.AS_LOADED
-    longest_name: int | None = None
+    longest_name: int | None = 4096
 
-    def __init__(self, *, permissive: bool = False, mapping: Mapping = Mapping.AS_LOADED, longest_name: int | None = None) -> None:
+    def __init__(self, *, permissive: bool = False, mapping: Mapping = Mapping.AS_LOADED, longest_name: int | None = 4096) -> None:
         if isinstance(longest_name, bool):
             raise TypeError("longest_name has to be a number of bytes, not %r" % longest_name)
         if longest_name is not None and not 0 < operator.index(longest_name) < 1 << 32:
@@ -57,14 +58,15 @@ class Options:
             object.__setattr__(self, name, value)
 
     def _record(self) -> _records.Options:
-        return _records.Options(self.mapping, self.longest_name or 0, self.permissive)
+        longest = (1 << 64) - 1 if self.longest_name is None else self.longest_name
+        return _records.Options(mapping=self.mapping, is_permissive=self.permissive, longest_name=longest)
 
 
 class Budget:
     """How many steps calls may still take. A step is one look at an entry of an import or export
     table, or at 64 entries of an address table of imports, or one row of another walk. A call that
     needs more steps raises OutOfSteps. A call without a budget has 1,000,000 steps, Pe ten million;
-    Budget() has no limit. If the options limit names, 100,000 steps take 10 to 200 milliseconds.
+    Budget() has no limit. If names are limited, 100,000 steps take 10 to 200 milliseconds.
 
     Walks read their rows in batches. So the budget may already have paid for rows that you do not
     have yet. Threads can share a budget; their calls then wait for one another.

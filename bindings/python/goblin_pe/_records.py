@@ -3,7 +3,7 @@ import ctypes as c
 from typing import Any, Dict, List, Tuple
 
 # The number of this interface.
-INTERFACE = 0x98bb0961
+INTERFACE = 0xdcf80ce5
 
 
 class Slice(c.Structure):
@@ -16,9 +16,9 @@ class Slice(c.Structure):
 class Options(c.Structure):
     _fields_ = [
         ("mapping", c.c_uint32),
-        ("longest_name", c.c_uint32),
         ("is_permissive", c.c_bool),
         ("reserved", c.c_uint8 * 3),
+        ("longest_name", c.c_size_t),
     ]
 
 
@@ -127,7 +127,6 @@ class Image(c.Structure):
     _fields_ = [
         ("bytes", Slice),
         ("options", Options),
-        ("kind", c.c_uint32),
         ("section_table", c.c_size_t),
         ("section_count", c.c_size_t),
         ("dos_header", DosHeader),
@@ -139,7 +138,7 @@ class Image(c.Structure):
         ("directories", DataDirectory * 16),
         ("dos_stub_size", c.c_size_t),
         ("rich_header", RichHeader),
-        ("reserved", c.c_uint32),
+        ("kind", c.c_uint32),
     ]
 
 
@@ -155,7 +154,8 @@ class Forwarder(c.Structure):
         ("name", Slice),
         ("ordinal", c.c_size_t),
         ("kind", c.c_uint32),
-        ("reserved", c.c_uint32),
+        ("is_cut", c.c_bool),
+        ("reserved", c.c_uint8 * 3),
     ]
 
 
@@ -169,8 +169,9 @@ class Export(c.Structure):
         ("name_rva", c.c_size_t),
         ("offset", c.c_size_t),
         ("has_name", c.c_bool),
+        ("is_name_cut", c.c_bool),
         ("has_offset", c.c_bool),
-        ("reserved", c.c_uint8 * 6),
+        ("reserved", c.c_uint8 * 5),
     ]
 
 
@@ -214,8 +215,9 @@ class ExportDirectory(c.Structure):
         ("name", Slice),
         ("record", ExportDirectoryTable),
         ("has_name", c.c_bool),
+        ("is_name_cut", c.c_bool),
         ("is_present", c.c_bool),
-        ("reserved", c.c_uint8 * 6),
+        ("reserved", c.c_uint8 * 5),
     ]
 
 
@@ -267,7 +269,9 @@ class Import(c.Structure):
         ("hint_or_ordinal", c.c_uint16),
         ("is_by_name", c.c_bool),
         ("has_name", c.c_bool),
-        ("reserved", c.c_uint32),
+        ("is_name_cut", c.c_bool),
+        ("is_library_cut", c.c_bool),
+        ("reserved", c.c_uint8 * 2),
     ]
 
 
@@ -290,7 +294,8 @@ class Library(c.Structure):
         ("imports", ImportCursor),
         ("record", ImportDirectoryEntry),
         ("is_skipped", c.c_bool),
-        ("reserved", c.c_uint8 * 3),
+        ("is_name_cut", c.c_bool),
+        ("reserved", c.c_uint8 * 2),
     ]
 
 
@@ -331,7 +336,8 @@ class Section(c.Structure):
         ("number_of_linenumbers", c.c_uint16),
         ("characteristics", c.c_uint32),
         ("has_long_name", c.c_bool),
-        ("reserved", c.c_uint8 * 7),
+        ("is_name_cut", c.c_bool),
+        ("reserved", c.c_uint8 * 6),
     ]
 
 
@@ -431,6 +437,8 @@ class Symbol(c.Structure):
         ("index", c.c_size_t),
         ("record", SymbolRecord),
         ("has_name", c.c_bool),
+        ("is_name_cut", c.c_bool),
+        ("reserved", c.c_uint8 * 2),
     ]
 
 
@@ -463,7 +471,8 @@ class Auxiliary(c.Structure):
         ("number_of_relocations", c.c_uint16),
         ("number_of_line_numbers", c.c_uint16),
         ("selection", c.c_uint8),
-        ("reserved", c.c_uint8 * 3),
+        ("is_file_cut", c.c_bool),
+        ("reserved", c.c_uint8 * 2),
         ("characteristics", c.c_uint32),
         ("file", Slice),
         ("string_offset", c.c_uint32),
@@ -497,7 +506,7 @@ CALLS: Dict[str, Tuple[Any, List[Any]]] = {
     "goblin_pe_next_coff_relocations": (Fault, [c.POINTER(Image), c.POINTER(CoffRelocationCursor), c.c_void_p, c.c_size_t, c.POINTER(Batch)]),
     "goblin_pe_next_base_relocations": (Fault, [c.POINTER(Image), c.POINTER(BaseRelocationCursor), c.c_void_p, c.c_size_t, c.POINTER(Batch)]),
     "goblin_pe_string_at": (c.c_bool, [c.POINTER(Image), c.c_size_t, c.POINTER(Slice)]),
-    "goblin_pe_read_auxiliary": (c.c_uint32, [c.POINTER(Symbol), c.POINTER(Auxiliary)]),
+    "goblin_pe_read_auxiliary": (c.c_uint32, [c.POINTER(Image), c.POINTER(Symbol), c.POINTER(Auxiliary)]),
     "goblin_pe_write_header": (Fault, [c.POINTER(Image), c.c_void_p, c.c_size_t, c.POINTER(c.c_size_t)]),
     "goblin_pe_write_section": (Fault, [c.POINTER(Section), c.c_void_p, c.c_size_t, c.POINTER(c.c_size_t)]),
 }

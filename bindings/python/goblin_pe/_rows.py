@@ -76,8 +76,9 @@ class Memory(NamedTuple):
 
 class Section(NamedTuple):
     """A section header. If the stored name is a slash and a number, the name comes from the string
-    table. Else it is the stored bytes before the first NUL. In a Terse Executable, the address and
-    the pointers are already moved to where they are in the file."""
+    table. Else it is the stored bytes before the first NUL. `is_name_cut` says whether `longest_name`
+    cuts it. In a Terse Executable, the address and the pointers are already moved to where they are
+    in the file."""
 
     name: bytes
     stored_name: bytes
@@ -91,6 +92,7 @@ class Section(NamedTuple):
     number_of_relocations: int
     number_of_linenumbers: int
     characteristics: int
+    is_name_cut: bool
 
     def data(self, image: Image) -> Memory:
         """The contents of the section: its raw data, and the zeros up to the virtual size."""
@@ -139,7 +141,8 @@ class Import(NamedTuple):
     The other fields are None. The loader puts the address of the function at `iat_rva`, which may
     pass 2**32. `library` is the index of the import descriptor, and `thunk_index` that of the entry in
     its lookup table. In permissive mode, and in a walk over one library, `dll` is empty if it
-    can't be read."""
+    can't be read. `is_name_cut` and `is_library_cut` say whether `longest_name` cuts the name or that
+    of the DLL."""
 
     dll: bytes
     name: bytes | None
@@ -149,13 +152,16 @@ class Import(NamedTuple):
     hint_name_rva: int
     library: int
     thunk_index: int
+    is_name_cut: bool
+    is_library_cut: bool
 
 
 @_sorted_with_none
 class Library(NamedTuple):
     """An import descriptor: a DLL that the image imports from. Several descriptors may have the same
     DLL. `is_skipped` says that permissive mode skips it, because it has no address table. If the
-    name can't be read, it is None, and `name_error` says why."""
+    name can't be read, it is None, and `name_error` says why. `is_name_cut` says whether `longest_name`
+    cuts it."""
 
     name: bytes | None
     name_error: PeError | None
@@ -167,6 +173,7 @@ class Library(NamedTuple):
     name_rva: int
     import_address_table_rva: int
     is_skipped: bool
+    is_name_cut: bool
     cursor: tuple[int, ...]
 
     def imports(self, image: Image, budget: Budget | None = None) -> Walk[Import]:
@@ -181,18 +188,20 @@ class Library(NamedTuple):
 @_sorted_with_none
 class Forwarder(NamedTuple):
     """The export of another DLL to which an export leads, by `name` or by `ordinal`; the other one is
-    None. The `dll` has no ending, as in the file."""
+    None. The `dll` has no ending, as in the file. `is_cut` says whether `longest_name` cuts the text of
+    both: the `name` may then be empty, or a part of an ordinal."""
 
     dll: bytes
     name: bytes | None
     ordinal: int | None
+    is_cut: bool
 
 
 @_sorted_with_none
 class Export(NamedTuple):
     """An export that has a name pointer. `name` is None if it can't be read, `offset` if the address
     has no file offset, and `forwarder` if the export is in this image. `hint` is the index of the
-    name pointer."""
+    name pointer. `is_name_cut` says whether `longest_name` cuts the name."""
 
     name: bytes | None
     ordinal: int
@@ -201,6 +210,7 @@ class Export(NamedTuple):
     name_rva: int
     offset: int | None
     forwarder: Forwarder | None
+    is_name_cut: bool
 
 
 class ExportAddress(NamedTuple):
@@ -213,7 +223,8 @@ class ExportAddress(NamedTuple):
 
 
 class ExportDirectory(NamedTuple):
-    """The export directory: the name of the image as a DLL, and the fields as stored."""
+    """The export directory: the name of the image as a DLL, the fields as stored, and whether
+    `longest_name` cuts the name."""
 
     name: bytes | None
     export_flags: int
@@ -227,6 +238,7 @@ class ExportDirectory(NamedTuple):
     export_address_table_rva: int
     name_pointer_rva: int
     ordinal_table_rva: int
+    is_name_cut: bool
 
 
 class BaseRelocation(NamedTuple):
@@ -267,8 +279,8 @@ class Auxiliary(NamedTuple):
     FUNCTION_DEFINITION: tag_index, total_size, pointer_to_line_number, pointer_to_next_function.
     BEGIN_AND_END_FUNCTION: line_number, pointer_to_next_function.
     WEAK_EXTERNAL: tag_index, the index of the symbol that replaces it, and characteristics.
-    FILE: file, the name of a source file; if that is None, it is in the string table at
-        string_offset.
+    FILE: file, the name of a source file, and is_file_cut; if the file is None, it is in the string
+        table at string_offset.
     SECTION_DEFINITION: length, number_of_relocations, number_of_line_numbers, checksum, number and
         selection.
     """
@@ -288,12 +300,14 @@ class Auxiliary(NamedTuple):
     checksum: int
     number: int
     selection: int
+    is_file_cut: bool
 
 
 @_sorted_with_none
 class Symbol(NamedTuple):
-    """A symbol of an image or an object. The name is None if it can't be read. `index` counts
-    auxiliary records, too: relocations name symbols by it."""
+    """A symbol of an image or an object. The name is None if it can't be read. `is_name_cut` says
+    whether `longest_name` cuts it. `index` counts auxiliary records, too: relocations name symbols by
+    it."""
 
     index: int  # type: ignore[assignment]
     name: bytes | None
@@ -304,14 +318,16 @@ class Symbol(NamedTuple):
     storage_class: int
     number_of_aux_symbols: int
     aux_bytes: bytes
+    is_name_cut: bool
 
-    def auxiliary(self) -> Auxiliary | None:
+    def auxiliary(self, image: Image) -> Auxiliary | None:
         """What the auxiliary records say; None if there are none, or if their kind is unknown."""
         auxiliary, found = c.create_string_buffer(self.aux_bytes, len(self.aux_bytes) or 1), _records.Auxiliary()
         stored = _records.SymbolRecord(
             (c.c_uint8 * 8)(*self.stored_name), self.value, self.section_number, self.typ, self.storage_class, self.number_of_aux_symbols)
         record = _records.Symbol(auxiliary=_records.Slice(c.addressof(auxiliary), len(self.aux_bytes)), record=stored)
-        kind = LIB.goblin_pe_read_auxiliary(c.byref(record), c.byref(found))
+        with image._held() as held:
+            kind = LIB.goblin_pe_read_auxiliary(held, c.byref(record), c.byref(found))
         return _auxiliary(AuxiliaryKind(kind), found) if kind else None
 
 
@@ -337,7 +353,7 @@ def _section_record(it: Section) -> _records.Section:
         index=it.index, virtual_size=it.virtual_size, virtual_address=it.virtual_address, size_of_raw_data=it.size_of_raw_data,
         pointer_to_raw_data=it.pointer_to_raw_data, pointer_to_relocations=it.pointer_to_relocations,
         pointer_to_linenumbers=it.pointer_to_linenumbers, number_of_relocations=it.number_of_relocations,
-        number_of_linenumbers=it.number_of_linenumbers, characteristics=it.characteristics)
+        number_of_linenumbers=it.number_of_linenumbers, characteristics=it.characteristics, is_name_cut=it.is_name_cut)
     record.stored_name[:] = it.stored_name
     if tuple(getattr(record, name) for name in it._fields[2:]) != it[2:]:
         raise OverflowError("a number does not fit its field: %r" % (it,))
@@ -350,7 +366,8 @@ def _section_record(it: Section) -> _records.Section:
 def _section(it: Any, text: Texts) -> Section:
     return Section(
         text(it.name), bytes(it.stored_name), it.index, it.virtual_size, it.virtual_address, it.size_of_raw_data, it.pointer_to_raw_data,
-        it.pointer_to_relocations, it.pointer_to_linenumbers, it.number_of_relocations, it.number_of_linenumbers, it.characteristics)
+        it.pointer_to_relocations, it.pointer_to_linenumbers, it.number_of_relocations, it.number_of_linenumbers, it.characteristics,
+        it.is_name_cut)
 
 
 def _rich_entry(it: Any, text: Texts) -> RichEntry:
@@ -361,14 +378,14 @@ def _import(it: Any, text: Texts) -> Import:
     is_by_name, number = it.is_by_name, it.hint_or_ordinal
     return Import(
         text(it.dll), text(it.name) if is_by_name else None, number if is_by_name else None, None if is_by_name else number,
-        it.iat_rva, it.hint_name_rva, it.library_index, it.thunk_index)
+        it.iat_rva, it.hint_name_rva, it.library_index, it.thunk_index, it.is_name_cut, it.is_library_cut)
 
 
 def _library(it: Any, text: Texts) -> Library:
     error, record, cursor = error_of(it.name_fault, Table.IMPORTS), it.record, it.imports
     return Library(
         None if error else text(it.name), error, it.index, it.offset, record.import_lookup_table_rva, record.time_date_stamp,
-        record.forwarder_chain, record.name_rva, record.import_address_table_rva, it.is_skipped,
+        record.forwarder_chain, record.name_rva, record.import_address_table_rva, it.is_skipped, it.is_name_cut,
         tuple(int(getattr(cursor, name)) for name, _ in cursor._fields_ if name != "reserved"))
 
 
@@ -376,13 +393,13 @@ def forwarder(it: Any, text: Callable[[Any], bytes] = text) -> Forwarder | None:
     """The forwarder of a record; None if it is none."""
     if not it.kind:
         return None
-    return Forwarder(text(it.dll), text(it.name) if it.kind == 1 else None, it.ordinal if it.kind == 2 else None)
+    return Forwarder(text(it.dll), text(it.name) if it.kind == 1 else None, it.ordinal if it.kind == 2 else None, it.is_cut)
 
 
 def _export(it: Any, text: Texts) -> Export:
     return Export(
         text(it.name) if it.has_name else None, it.ordinal, it.hint, it.rva, it.name_rva,
-        it.offset if it.has_offset else None, forwarder(it.forwarder, text))
+        it.offset if it.has_offset else None, forwarder(it.forwarder, text), it.is_name_cut)
 
 
 def _export_address(it: Any, text: Texts) -> ExportAddress:
@@ -393,8 +410,8 @@ def export_directory(it: Any) -> ExportDirectory | None:
     """The export directory of a record; None if there is none."""
     if not it.is_present:
         return None
-    fields = (getattr(it.record, name) for name in ExportDirectory._fields[1:])
-    return ExportDirectory(text(it.name) if it.has_name else None, *fields)
+    fields = (getattr(it.record, name) for name in ExportDirectory._fields[1:-1])
+    return ExportDirectory(text(it.name) if it.has_name else None, *fields, it.is_name_cut)
 
 
 def _block(it: Any, text: Texts) -> RelocationBlock:
@@ -405,7 +422,7 @@ def _symbol(it: Any, text: Texts) -> Symbol:
     record = it.record
     return Symbol(
         it.index, text(it.name) if it.has_name else None, bytes(record.name), record.value, record.section_number, record.typ,
-        record.storage_class, record.number_of_aux_symbols, text(it.auxiliary))
+        record.storage_class, record.number_of_aux_symbols, text(it.auxiliary), it.is_name_cut)
 
 
 def _auxiliary(kind: AuxiliaryKind, it: Any) -> Auxiliary:
@@ -413,7 +430,7 @@ def _auxiliary(kind: AuxiliaryKind, it: Any) -> Auxiliary:
     return Auxiliary(
         kind, it.tag_index, it.total_size, it.pointer_to_line_number, it.pointer_to_next_function, it.line_number, it.characteristics,
         text(it.file) if is_named else None, it.string_offset, it.length, it.number_of_relocations, it.number_of_line_numbers,
-        it.checksum, it.number, it.selection)
+        it.checksum, it.number, it.selection, it.is_file_cut)
 
 
 def _coff_relocation(it: Any, text: Texts) -> CoffRelocation:

@@ -35,7 +35,7 @@ borrow! {
     Forwarder: "image.forwarder_at(0)";
     RelocationBlock: "image.relocation_blocks(&budget).next()";
     Symbol: "image.symbols(&budget).next()";
-    Auxiliary: "image.symbol_at(0).unwrap().unwrap().auxiliary()";
+    Auxiliary: "image.symbol_at(0).unwrap().unwrap().auxiliary(&image)";
     Memory: "image.memory_at(0, 1)";
     Text: "image.text_at(0)";
 }

@@ -10,11 +10,11 @@ use crate::headers::{
 };
 
 /// The number of this interface.
-pub const INTERFACE: u32 = 0x98bb_0961;
+pub const INTERFACE: u32 = 0xdcf8_0ce5;
 
 // Programs link only with a library of this interface, as no other one has this call.
 #[used]
-static NEEDS_INTERFACE: extern "C" fn() -> u32 = goblin_pe_interface_98bb0961;
+static NEEDS_INTERFACE: extern "C" fn() -> u32 = goblin_pe_interface_dcf80ce5;
 
 /// Bytes of the file.
 #[repr(C)]
@@ -55,9 +55,9 @@ impl Default for Slice<'_> {
 #[derive(Clone, Copy, Default, Debug, PartialEq, Eq, Hash)]
 pub struct Options {
     pub mapping: u32,
-    pub longest_name: u32,
     pub is_permissive: bool,
     pub reserved: [u8; 3],
+    pub longest_name: usize,
 }
 
 #[repr(C)]
@@ -76,7 +76,6 @@ pub struct RichHeader {
 pub struct Image<'a> {
     pub bytes: Slice<'a>,
     pub options: Options,
-    pub kind: u32,
     pub section_table: usize,
     pub section_count: usize,
     pub dos_header: DosHeader,
@@ -88,7 +87,7 @@ pub struct Image<'a> {
     pub directories: [DataDirectory; 16],
     pub dos_stub_size: usize,
     pub rich_header: RichHeader,
-    pub reserved: u32,
+    pub kind: u32,
 }
 
 #[repr(C)]
@@ -104,7 +103,8 @@ pub struct Forwarder<'a> {
     pub name: Slice<'a>,
     pub ordinal: usize,
     pub kind: u32,
-    pub reserved: u32,
+    pub is_cut: bool,
+    pub reserved: [u8; 3],
 }
 
 #[repr(C)]
@@ -118,8 +118,9 @@ pub struct Export<'a> {
     pub name_rva: usize,
     pub offset: usize,
     pub has_name: bool,
+    pub is_name_cut: bool,
     pub has_offset: bool,
-    pub reserved: [u8; 6],
+    pub reserved: [u8; 5],
 }
 
 #[repr(C)]
@@ -163,8 +164,9 @@ pub struct ExportDirectory<'a> {
     pub name: Slice<'a>,
     pub record: ExportDirectoryTable,
     pub has_name: bool,
+    pub is_name_cut: bool,
     pub is_present: bool,
-    pub reserved: [u8; 6],
+    pub reserved: [u8; 5],
 }
 
 #[repr(C)]
@@ -216,7 +218,9 @@ pub struct Import<'a> {
     pub hint_or_ordinal: u16,
     pub is_by_name: bool,
     pub has_name: bool,
-    pub reserved: u32,
+    pub is_name_cut: bool,
+    pub is_library_cut: bool,
+    pub reserved: [u8; 2],
 }
 
 #[repr(C)]
@@ -239,7 +243,8 @@ pub struct Library<'a> {
     pub imports: ImportCursor,
     pub record: ImportDirectoryEntry,
     pub is_skipped: bool,
-    pub reserved: [u8; 3],
+    pub is_name_cut: bool,
+    pub reserved: [u8; 2],
 }
 
 #[repr(C)]
@@ -280,7 +285,8 @@ pub struct Section<'a> {
     pub number_of_linenumbers: u16,
     pub characteristics: u32,
     pub has_long_name: bool,
-    pub reserved: [u8; 7],
+    pub is_name_cut: bool,
+    pub reserved: [u8; 6],
 }
 
 #[repr(C)]
@@ -365,6 +371,8 @@ pub struct Symbol<'a> {
     pub index: usize,
     pub record: SymbolRecord,
     pub has_name: bool,
+    pub is_name_cut: bool,
+    pub reserved: [u8; 2],
 }
 
 #[repr(C)]
@@ -397,7 +405,8 @@ pub struct Auxiliary<'a> {
     pub number_of_relocations: u16,
     pub number_of_line_numbers: u16,
     pub selection: u8,
-    pub reserved: [u8; 3],
+    pub is_file_cut: bool,
+    pub reserved: [u8; 2],
     pub characteristics: u32,
     pub file: Slice<'a>,
     pub string_offset: u32,
@@ -409,11 +418,11 @@ const _: () = {
     assert!(size_of::<Slice>() == 16 && align_of::<Slice>() == 8);
     assert!(offset_of!(Slice, bytes) == 0);
     assert!(offset_of!(Slice, length) == 8);
-    assert!(size_of::<Options>() == 12 && align_of::<Options>() == 4);
+    assert!(size_of::<Options>() == 16 && align_of::<Options>() == 8);
     assert!(offset_of!(Options, mapping) == 0);
-    assert!(offset_of!(Options, longest_name) == 4);
-    assert!(offset_of!(Options, is_permissive) == 8);
-    assert!(offset_of!(Options, reserved) == 9);
+    assert!(offset_of!(Options, is_permissive) == 4);
+    assert!(offset_of!(Options, reserved) == 5);
+    assert!(offset_of!(Options, longest_name) == 8);
     assert!(size_of::<DosHeader>() == 64 && align_of::<DosHeader>() == 4);
     assert!(offset_of!(DosHeader, signature) == 0);
     assert!(offset_of!(DosHeader, bytes_on_last_page) == 2);
@@ -490,7 +499,6 @@ const _: () = {
     assert!(size_of::<Image>() == 440 && align_of::<Image>() == 8);
     assert!(offset_of!(Image, bytes) == 0);
     assert!(offset_of!(Image, options) == 16);
-    assert!(offset_of!(Image, kind) == 28);
     assert!(offset_of!(Image, section_table) == 32);
     assert!(offset_of!(Image, section_count) == 40);
     assert!(offset_of!(Image, dos_header) == 48);
@@ -502,7 +510,7 @@ const _: () = {
     assert!(offset_of!(Image, directories) == 280);
     assert!(offset_of!(Image, dos_stub_size) == 408);
     assert!(offset_of!(Image, rich_header) == 416);
-    assert!(offset_of!(Image, reserved) == 436);
+    assert!(offset_of!(Image, kind) == 436);
     assert!(size_of::<ExportCursor>() == 8 && align_of::<ExportCursor>() == 8);
     assert!(offset_of!(ExportCursor, index) == 0);
     assert!(size_of::<Forwarder>() == 48 && align_of::<Forwarder>() == 8);
@@ -510,7 +518,8 @@ const _: () = {
     assert!(offset_of!(Forwarder, name) == 16);
     assert!(offset_of!(Forwarder, ordinal) == 32);
     assert!(offset_of!(Forwarder, kind) == 40);
-    assert!(offset_of!(Forwarder, reserved) == 44);
+    assert!(offset_of!(Forwarder, is_cut) == 44);
+    assert!(offset_of!(Forwarder, reserved) == 45);
     assert!(size_of::<Export>() == 112 && align_of::<Export>() == 8);
     assert!(offset_of!(Export, name) == 0);
     assert!(offset_of!(Export, forwarder) == 16);
@@ -520,8 +529,9 @@ const _: () = {
     assert!(offset_of!(Export, name_rva) == 88);
     assert!(offset_of!(Export, offset) == 96);
     assert!(offset_of!(Export, has_name) == 104);
-    assert!(offset_of!(Export, has_offset) == 105);
-    assert!(offset_of!(Export, reserved) == 106);
+    assert!(offset_of!(Export, is_name_cut) == 105);
+    assert!(offset_of!(Export, has_offset) == 106);
+    assert!(offset_of!(Export, reserved) == 107);
     assert!(size_of::<Batch>() == 32 && align_of::<Batch>() == 8);
     assert!(offset_of!(Batch, count) == 0);
     assert!(offset_of!(Batch, skipped) == 8);
@@ -549,8 +559,9 @@ const _: () = {
     assert!(offset_of!(ExportDirectory, name) == 0);
     assert!(offset_of!(ExportDirectory, record) == 16);
     assert!(offset_of!(ExportDirectory, has_name) == 56);
-    assert!(offset_of!(ExportDirectory, is_present) == 57);
-    assert!(offset_of!(ExportDirectory, reserved) == 58);
+    assert!(offset_of!(ExportDirectory, is_name_cut) == 57);
+    assert!(offset_of!(ExportDirectory, is_present) == 58);
+    assert!(offset_of!(ExportDirectory, reserved) == 59);
     assert!(size_of::<ExportAddressCursor>() == 8 && align_of::<ExportAddressCursor>() == 8);
     assert!(offset_of!(ExportAddressCursor, index) == 0);
     assert!(size_of::<ExportAddress>() == 32 && align_of::<ExportAddress>() == 8);
@@ -586,7 +597,9 @@ const _: () = {
     assert!(offset_of!(Import, hint_or_ordinal) == 64);
     assert!(offset_of!(Import, is_by_name) == 66);
     assert!(offset_of!(Import, has_name) == 67);
-    assert!(offset_of!(Import, reserved) == 68);
+    assert!(offset_of!(Import, is_name_cut) == 68);
+    assert!(offset_of!(Import, is_library_cut) == 69);
+    assert!(offset_of!(Import, reserved) == 70);
     assert!(size_of::<ImportDirectoryEntry>() == 20 && align_of::<ImportDirectoryEntry>() == 4);
     assert!(offset_of!(ImportDirectoryEntry, import_lookup_table_rva) == 0);
     assert!(offset_of!(ImportDirectoryEntry, time_date_stamp) == 4);
@@ -601,7 +614,8 @@ const _: () = {
     assert!(offset_of!(Library, imports) == 56);
     assert!(offset_of!(Library, record) == 128);
     assert!(offset_of!(Library, is_skipped) == 148);
-    assert!(offset_of!(Library, reserved) == 149);
+    assert!(offset_of!(Library, is_name_cut) == 149);
+    assert!(offset_of!(Library, reserved) == 150);
     assert!(size_of::<Memory>() == 48 && align_of::<Memory>() == 8);
     assert!(offset_of!(Memory, bytes) == 0);
     assert!(offset_of!(Memory, zeros) == 16);
@@ -630,7 +644,8 @@ const _: () = {
     assert!(offset_of!(Section, number_of_linenumbers) == 74);
     assert!(offset_of!(Section, characteristics) == 76);
     assert!(offset_of!(Section, has_long_name) == 80);
-    assert!(offset_of!(Section, reserved) == 81);
+    assert!(offset_of!(Section, is_name_cut) == 81);
+    assert!(offset_of!(Section, reserved) == 82);
     assert!(size_of::<HeaderFaults>() == 216 && align_of::<HeaderFaults>() == 8);
     assert!(offset_of!(HeaderFaults, dos_header) == 0);
     assert!(offset_of!(HeaderFaults, dos_stub) == 24);
@@ -686,6 +701,8 @@ const _: () = {
     assert!(offset_of!(Symbol, index) == 32);
     assert!(offset_of!(Symbol, record) == 40);
     assert!(offset_of!(Symbol, has_name) == 60);
+    assert!(offset_of!(Symbol, is_name_cut) == 61);
+    assert!(offset_of!(Symbol, reserved) == 62);
     assert!(size_of::<CoffRelocation>() == 12 && align_of::<CoffRelocation>() == 4);
     assert!(offset_of!(CoffRelocation, virtual_address) == 0);
     assert!(offset_of!(CoffRelocation, symbol_table_index) == 4);
@@ -706,7 +723,8 @@ const _: () = {
     assert!(offset_of!(Auxiliary, number_of_relocations) == 28);
     assert!(offset_of!(Auxiliary, number_of_line_numbers) == 30);
     assert!(offset_of!(Auxiliary, selection) == 32);
-    assert!(offset_of!(Auxiliary, reserved) == 33);
+    assert!(offset_of!(Auxiliary, is_file_cut) == 33);
+    assert!(offset_of!(Auxiliary, reserved) == 34);
     assert!(offset_of!(Auxiliary, characteristics) == 36);
     assert!(offset_of!(Auxiliary, file) == 40);
     assert!(offset_of!(Auxiliary, string_offset) == 56);
@@ -716,7 +734,7 @@ const _: () = {
 #[rustfmt::skip]
 unsafe extern "C" {
     pub safe fn goblin_pe_interface() -> u32;
-    safe fn goblin_pe_interface_98bb0961() -> u32;
+    safe fn goblin_pe_interface_dcf80ce5() -> u32;
     pub safe fn goblin_pe_fault_string(fault: &Fault, text: &mut [u8; 256]) -> *const u8;
     pub safe fn goblin_pe_checksum<'a>(image: &Image<'a>, sum: &mut u32) -> bool;
     pub fn goblin_pe_next_exports<'a>(image: &Image<'a>, cursor: &mut ExportCursor, exports: *mut Export<'a>, room: usize, steps: &mut usize, batch: &mut Batch) -> Fault;
@@ -741,7 +759,7 @@ unsafe extern "C" {
     pub fn goblin_pe_next_coff_relocations<'a>(image: &Image<'a>, cursor: &mut CoffRelocationCursor, relocations: *mut CoffRelocation, room: usize, batch: &mut Batch) -> Fault;
     pub fn goblin_pe_next_base_relocations<'a>(image: &Image<'a>, cursor: &mut BaseRelocationCursor, relocations: *mut BaseRelocation, room: usize, batch: &mut Batch) -> Fault;
     pub safe fn goblin_pe_string_at<'a>(image: &Image<'a>, offset: usize, text: &mut Slice<'a>) -> bool;
-    pub safe fn goblin_pe_read_auxiliary<'a>(symbol: &Symbol<'a>, auxiliary: &mut Auxiliary<'a>) -> u32;
+    pub safe fn goblin_pe_read_auxiliary<'a>(image: &Image<'a>, symbol: &Symbol<'a>, auxiliary: &mut Auxiliary<'a>) -> u32;
     pub fn goblin_pe_write_header<'a>(image: &Image<'a>, out: *mut u8, room: usize, written: &mut usize) -> Fault;
     pub fn goblin_pe_write_section<'a>(section: &Section<'a>, out: *mut u8, room: usize, written: &mut usize) -> Fault;
 }

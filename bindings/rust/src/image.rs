@@ -375,16 +375,10 @@ impl<'a> Image<'a> {
 
 /// # Look-ups
 impl<'a> Image<'a> {
-    /// The first section of this name. `None` if there is none, or if the options cut this name.
+    /// The first section of this name. `None` if there is none, or if this name is cut.
     #[must_use]
     pub fn section_by_name(&self, name: impl AsRef<[u8]>) -> Option<Section<'a>> {
-        let name = name.as_ref();
-        let longest = u32::try_from(name.len().max(1)).unwrap_or(0);
-        // (a name of the options may be a part of one, and one by this limit is longer then)
-        let limited = self.with_options(self.options().with_longest_name(longest));
-        let is_named = |it: &Section| it.name == *name;
-        let mut found = self.sections().zip(limited.sections());
-        found.find_map(|(it, limited)| (is_named(&it) && is_named(&limited)).then_some(it))
+        self.sections().find(|it| it.name == *name.as_ref() && !it.is_name_cut)
     }
 
     /// The section of this number, from 1, as the `section_number` of a symbol has it. `None` for
@@ -427,13 +421,9 @@ impl<'a> Image<'a> {
         name: impl AsRef<[u8]>,
         budget: &Budget,
     ) -> Result<Option<Export<'a>>, Error> {
-        let (name, longest) = (name.as_ref(), self.options().longest_name as usize);
-        if longest > 0 && longest < name.len() {
-            return Ok(None);
-        }
-        let name = Some(Text(name));
-        let is_it = |row: &Result<Export, _>| row.as_ref().map_or(true, |it| it.name == name);
-        self.exports(budget).find(is_it).transpose()
+        let name = Some(Text(name.as_ref()));
+        let is_named = |it: &Export| it.name == name && !it.is_name_cut;
+        self.exports(budget).find(|row| row.as_ref().map_or(true, is_named)).transpose()
     }
 
     /// The export of this ordinal, also one without a name; `None` if there is none, or the ordinal
@@ -552,13 +542,12 @@ impl<'a> Image<'a> {
 /// # Facts about the whole file
 impl<'a> Image<'a> {
     /// The text whose MD5 is the imphash that analysts compare, as pefile's `get_imphash` hashes it.
-    /// `None` if there are no imports, or if the options cut a name: then the hash would differ.
+    /// `None` if there are no imports, or if a name is cut: then the hash would differ.
     ///
     /// # Errors
     /// As a walk over the imports, and [`ErrorKind::Steps`](crate::ErrorKind::Steps).
     pub fn imphash_text(&self, budget: &Budget) -> Result<Option<String>, Error> {
-        let longest = self.options().longest_name as usize;
-        imphash::text(self.imports(budget), longest)
+        imphash::text(self.imports(budget))
     }
 
     /// The overlay: the bytes after the data of all sections; empty if there are none. Its file offset

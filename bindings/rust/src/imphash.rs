@@ -10,12 +10,10 @@ use crate::rows::{Import, Imported};
 // The endings that the name of a DLL loses.
 const ENDINGS: [&str; 3] = [".dll", ".ocx", ".sys"];
 
-/// The text of these imports; `None` if there are none, or if a name of the file has more bytes than
-/// `longest`, unless that is 0. An import without a name, one of the ordinal 0 and one of a DLL without
-/// a name are left out.
+/// The text of these imports; `None` if there are none, or if a name of the file is cut. An import
+/// without a name, one of the ordinal 0 and one of a DLL without a name are left out.
 pub fn text<'a>(
     imports: impl Iterator<Item = Result<Import<'a>, Error>>,
-    longest: usize,
 ) -> Result<Option<String>, Error> {
     let mut text = Vec::new();
     for import in imports {
@@ -31,8 +29,7 @@ pub fn text<'a>(
                 (ordinal_name.as_bytes(), ordinal != 0)
             }
         };
-        let stored = import.by_name().unwrap_or_default();
-        if longest > 0 && longest < stored.len().max(import.dll.len()) {
+        if import.is_name_cut || import.is_library_cut {
             return Ok(None);
         }
         if is_named && !import.dll.is_empty() {

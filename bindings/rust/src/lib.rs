@@ -55,8 +55,8 @@
 //! steps are used up, a call returns an error of the kind [`ErrorKind::Steps`]. It never leaves
 //! anything out without that error.
 //!
-//! [`Options::with_longest_name`] limits how much of a name is read. Without it a file of a megabyte
-//! can list a million names of a megabyte.
+//! At most 4,096 bytes of a name are read, or as many as [`Options::longest_name`] says: a file of a
+//! megabyte can list a million names of a megabyte. A row says whether a name of it is cut.
 //!
 //! # Strict and permissive
 //!

@@ -5,7 +5,8 @@ use std::fmt;
 
 use crate::ffi;
 
-/// How a file is read. The default is strict, maps as Windows does, and reads names whole.
+/// How a file is read. The default is strict, maps as Windows does, and reads at most 4,096 bytes of
+/// a name.
 ///
 /// ```
 /// use goblin_pe::{Mapping, Options};
@@ -14,26 +15,29 @@ use crate::ffi;
 /// let as_goblin = Options::default().with_mapping(Mapping::AsStored);
 /// assert!(UNTRUSTED.is_permissive && !as_goblin.is_permissive);
 /// ```
-#[derive(Clone, Copy, Debug, Default, PartialEq, Eq, Hash)]
+#[derive(Clone, Copy, Debug, PartialEq, Eq, Hash)]
 #[non_exhaustive]
 pub struct Options {
     /// How addresses are mapped to file offsets, and where the data of a section begins.
     pub mapping: Mapping,
-    /// How many bytes of a name are read; 0 is no limit. A longer name ends with the character that
-    /// passes the limit, and is whole only if that is its last. The limit holds for the names of
-    /// DLLs, imports and exports, for names in a string table and for forwarders.
-    pub longest_name: u32,
+    /// How many bytes of a name are read at most. Any number above 2^32 - 1 means no limit, and 0
+    /// means the default, 4,096. A longer name is cut between two characters, and its row says so.
+    /// Different names can be cut to the same bytes, so don't compare or hash a name that is cut.
+    pub longest_name: usize,
     /// Whether damaged parts are skipped. If not, they are refused.
     pub is_permissive: bool,
 }
 
 impl Options {
+    /// Lifts the limit of names: a [`longest_name`](Self::longest_name).
+    pub const NO_LIMIT: usize = usize::MAX;
+
     /// The defaults, except that damaged parts are skipped.
     #[must_use]
     pub const fn permissive() -> Options {
         Options {
             mapping: Mapping::AsLoaded,
-            longest_name: 0,
+            longest_name: 4096,
             is_permissive: true,
         }
     }
@@ -45,9 +49,9 @@ impl Options {
         self
     }
 
-    /// The same options with this limit for names, in bytes; 0 is no limit.
+    /// The same options with this limit for names, in bytes; or with [`Options::NO_LIMIT`].
     #[must_use]
-    pub const fn with_longest_name(mut self, longest_name: u32) -> Options {
+    pub const fn with_longest_name(mut self, longest_name: usize) -> Options {
         self.longest_name = longest_name;
         self
     }
@@ -74,6 +78,14 @@ impl Options {
             longest_name: record.longest_name,
             is_permissive: record.is_permissive,
         }
+    }
+}
+
+impl Default for Options {
+    fn default() -> Options {
+        let mut options = Options::permissive();
+        options.is_permissive = false;
+        options
     }
 }
 
@@ -129,8 +141,8 @@ pub struct Budget {
 }
 
 impl Budget {
-    /// A budget with this number of steps. If the options limit the length of names, 100,000 steps
-    /// need 10 to 200 milliseconds, depending on that length.
+    /// A budget with this number of steps. If the length of names is limited, 100,000 steps need 10 to
+    /// 200 milliseconds, depending on that length.
     pub const fn steps(steps: usize) -> Budget {
         Budget {
             steps: Cell::new(steps),

@@ -114,6 +114,8 @@ pub struct Section<'a> {
     pub number_of_linenumbers: u16,
     /// Flags, `IMAGE_SCN_*`.
     pub characteristics: u32,
+    /// Whether the name is cut.
+    pub is_name_cut: bool,
 }
 
 impl<'a> Section<'a> {
@@ -170,6 +172,7 @@ impl<'a> Section<'a> {
             number_of_relocations: it.number_of_relocations,
             number_of_linenumbers: it.number_of_linenumbers,
             characteristics: it.characteristics,
+            is_name_cut: it.is_name_cut,
         }
     }
 
@@ -197,6 +200,7 @@ impl<'a> Section<'a> {
             number_of_relocations: self.number_of_relocations,
             number_of_linenumbers: self.number_of_linenumbers,
             characteristics: self.characteristics,
+            is_name_cut: self.is_name_cut,
             ..ffi::Section::default()
         }
     }
@@ -281,6 +285,10 @@ pub struct Import<'a> {
     pub library: usize,
     /// The index of its entry in the lookup table. Skipped entries count.
     pub thunk_index: usize,
+    /// Whether the name is cut.
+    pub is_name_cut: bool,
+    /// Whether the name of the DLL is cut.
+    pub is_library_cut: bool,
 }
 
 impl<'a> Import<'a> {
@@ -297,6 +305,8 @@ impl<'a> Import<'a> {
             hint_name_rva: stored(it.hint_name_rva),
             library: it.library_index,
             thunk_index: it.thunk_index,
+            is_name_cut: it.is_name_cut,
+            is_library_cut: it.is_library_cut,
         }
     }
 
@@ -356,6 +366,8 @@ pub struct Library<'a> {
     /// Whether permissive mode skips it, because it has no address table. Strict mode refuses the
     /// imports then.
     pub is_skipped: bool,
+    /// Whether the name is cut.
+    pub is_name_cut: bool,
     imports: ffi::ImportCursor,
 }
 
@@ -393,6 +405,7 @@ impl<'a> Library<'a> {
             name_rva: record.name_rva,
             import_address_table_rva: record.import_address_table_rva,
             is_skipped: it.is_skipped,
+            is_name_cut: it.is_name_cut,
             imports: it.imports,
         }
     }
@@ -416,6 +429,8 @@ pub struct Export<'a> {
     pub offset: Option<usize>,
     /// Where it is forwarded to; `None` if it is not forwarded.
     pub forwarder: Option<Forwarder<'a>>,
+    /// Whether the name is cut.
+    pub is_name_cut: bool,
 }
 
 impl<'a> Export<'a> {
@@ -428,6 +443,7 @@ impl<'a> Export<'a> {
             name_rva: stored(it.name_rva),
             offset: it.has_offset.then_some(it.offset),
             forwarder: Forwarder::of(&it.forwarder),
+            is_name_cut: it.is_name_cut,
         }
     }
 }
@@ -442,6 +458,9 @@ pub enum Forwarder<'a> {
         dll: Text<'a>,
         /// The name of the export there.
         name: Text<'a>,
+        /// Whether the text is cut: the library, a dot and the name. The name may then be empty, or a
+        /// part of an ordinal.
+        is_cut: bool,
     },
     /// An ordinal.
     Ordinal {
@@ -464,7 +483,7 @@ impl<'a> Forwarder<'a> {
     pub(crate) fn of(it: &ffi::Forwarder<'a>) -> Option<Forwarder<'a>> {
         let (dll, name, ordinal) = (Text(it.dll.get()), Text(it.name.get()), it.ordinal);
         match it.kind {
-            1 => Some(Forwarder::Name { dll, name }),
+            1 => Some(Forwarder::Name { dll, name, is_cut: it.is_cut }),
             2 => Some(Forwarder::Ordinal { dll, ordinal }),
             _ => None,
         }
@@ -474,7 +493,7 @@ impl<'a> Forwarder<'a> {
 impl fmt::Display for Forwarder<'_> {
     fn fmt(&self, f: &mut fmt::Formatter<'_>) -> fmt::Result {
         f.pad(&match self {
-            Forwarder::Name { dll, name } => format!("{dll}.{name}"),
+            Forwarder::Name { dll, name, .. } => format!("{dll}.{name}"),
             Forwarder::Ordinal { dll, ordinal } => format!("{dll}.#{ordinal}"),
         })
     }
@@ -508,6 +527,8 @@ pub struct ExportDirectory<'a> {
     pub name_pointer_rva: u32,
     /// The RVA of the ordinals of the name pointers.
     pub ordinal_table_rva: u32,
+    /// Whether the name is cut.
+    pub is_name_cut: bool,
 }
 
 impl<'a> ExportDirectory<'a> {
@@ -526,6 +547,7 @@ impl<'a> ExportDirectory<'a> {
             export_address_table_rva: record.export_address_table_rva,
             name_pointer_rva: record.name_pointer_rva,
             ordinal_table_rva: record.ordinal_table_rva,
+            is_name_cut: it.is_name_cut,
         })
     }
 }
@@ -623,6 +645,8 @@ pub struct Symbol<'a> {
     pub number_of_aux_symbols: u8,
     /// The bytes of its auxiliary records, 18 each.
     pub aux_bytes: &'a [u8],
+    /// Whether the name is cut.
+    pub is_name_cut: bool,
 }
 
 impl<'a> Symbol<'a> {
@@ -635,8 +659,8 @@ impl<'a> Symbol<'a> {
     /// # let bytes = [];
     /// let object = Image::read_object(&bytes, Options::default())?;
     /// for symbol in object.symbols(&Budget::default()) {
-    ///     match symbol?.auxiliary() {
-    ///         Some(Auxiliary::File(name)) => println!("made of {name}"),
+    ///     match symbol?.auxiliary(&object) {
+    ///         Some(Auxiliary::File { name, .. }) => println!("made of {name}"),
     ///         Some(Auxiliary::FileAt(offset)) => println!("made of {:?}", object.string_at(offset)),
     ///         _ => {}
     ///     }
@@ -644,9 +668,9 @@ impl<'a> Symbol<'a> {
     /// # Ok::<(), goblin_pe::Error>(())
     /// ```
     #[must_use]
-    pub fn auxiliary(&self) -> Option<Auxiliary<'a>> {
+    pub fn auxiliary(&self, image: &Image<'a>) -> Option<Auxiliary<'a>> {
         let mut it = ffi::Auxiliary::default();
-        let kind = ffi::goblin_pe_read_auxiliary(&self.record(), &mut it);
+        let kind = ffi::goblin_pe_read_auxiliary(&image.record, &self.record(), &mut it);
         Auxiliary::of(kind, &it)
     }
 
@@ -662,6 +686,7 @@ impl<'a> Symbol<'a> {
             storage_class: record.storage_class,
             number_of_aux_symbols: record.number_of_aux_symbols,
             aux_bytes: it.auxiliary.get(),
+            is_name_cut: it.is_name_cut,
         }
     }
 
@@ -680,6 +705,8 @@ impl<'a> Symbol<'a> {
                 number_of_aux_symbols: self.number_of_aux_symbols,
             },
             has_name: self.name.is_some(),
+            is_name_cut: self.is_name_cut,
+            reserved: [0; 2],
         }
     }
 }
@@ -717,7 +744,13 @@ pub enum Auxiliary<'a> {
         characteristics: u32,
     },
     /// The name of a source file.
-    File(Text<'a>),
+    #[non_exhaustive]
+    File {
+        /// The name.
+        name: Text<'a>,
+        /// Whether the name is cut.
+        is_name_cut: bool,
+    },
     /// The name of a source file is in the string table, at this offset:
     /// [`Image::string_at`] reads it.
     FileAt(u32),
@@ -758,7 +791,10 @@ impl<'a> Auxiliary<'a> {
                 characteristics: it.characteristics,
             },
             4 if it.string_offset != 0 => Auxiliary::FileAt(it.string_offset),
-            4 => Auxiliary::File(Text(it.file.get())),
+            4 => Auxiliary::File {
+                name: Text(it.file.get()),
+                is_name_cut: it.is_file_cut,
+            },
             5 => Auxiliary::SectionDefinition {
                 length: it.length,
                 number_of_relocations: it.number_of_relocations,

@@ -345,7 +345,7 @@ fn too_few_steps_for_many_sections_are_used_up() -> Result<(), Error> {
 #[test]
 fn a_limit_of_the_length_of_all_names_changes_no_imphash() -> Result<(), Error> {
     let bytes = libraries_of_shared_imports();
-    for (longest, is_there) in [(0, true), (5, true), (4, false)] {
+    for (longest, is_there) in [(0, true), (Options::NO_LIMIT, true), (5, true), (4, false)] {
         let image = Image::read(&bytes, Options::permissive().with_longest_name(longest))?;
         let text = image.imphash_text(&Budget::unlimited())?;
         assert_eq!(text.is_some_and(|it| it.starts_with("a.ord7,a.ord8,a.ord900,")), is_there);
@@ -373,13 +373,13 @@ fn addresses_may_pass_32_bits() -> Result<(), Error> {
 }
 
 #[test]
-fn names_are_cut_after_the_limit() -> Result<(), Error> {
+fn names_are_cut_at_the_limit() -> Result<(), Error> {
     let mut bytes = sample("imports_by_name_x64.dll");
     let long = Options::default().with_longest_name(8);
     let image = Image::read(&bytes, long)?;
     let import = image.imports(&Budget::default()).next().expect("an import")?;
-    assert_eq!(import.dll, Text(b"KERNEL32."));
-    assert!(matches!(import.name, Imported::Name { name: Text(b"GetTickCo"), .. }));
+    assert_eq!((import.dll, import.is_library_cut), (Text(b"KERNEL32"), true));
+    assert_eq!((import.by_name(), import.is_name_cut), (Some(Text(b"GetTickC")), true));
     assert_eq!(image.imphash_text(&Budget::unlimited())?, None);
     let (header, end) = (image.dos_header().pe_pointer as usize, bytes.len());
     let name = bytes.windows(8).position(|it| it == b".text\0\0\0").expect("a name");
@@ -387,7 +387,7 @@ fn names_are_cut_after_the_limit() -> Result<(), Error> {
     bytes[name..name + 8].copy_from_slice(b"/4\0\0\0\0\0\0");
     bytes.extend(b"\x10\0\0\0eleven_more\0");
     let image = Image::read(&bytes, long)?;
-    assert_eq!(image.sections().next().map(|it| it.name), Some(Text(b"eleven_mo")));
+    assert_eq!(image.sections().next().map(|it| it.name), Some(Text(b"eleven_m")));
     assert_eq!(image.section_by_name("eleven_more"), None);
     assert!(Image::parse(&bytes)?.section_by_name("eleven_more").is_some());
     Ok(())

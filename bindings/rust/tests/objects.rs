@@ -36,7 +36,7 @@ fn relocations_and_symbols_are_those_of_the_file() -> Result<(), Error> {
         let symbol = symbol?;
         assert!(symbol.name.is_some());
         assert_eq!(object.symbol_at(symbol.index)?, Some(symbol));
-        if let Some(Auxiliary::SectionDefinition { length, .. }) = symbol.auxiliary() {
+        if let Some(Auxiliary::SectionDefinition { length, .. }) = symbol.auxiliary(&object) {
             let section = object.section_by_number(symbol.section_number).expect("a section");
             assert_eq!((length, symbol.aux_bytes.len()), (section.size_of_raw_data, 18));
             definitions += 1;
@@ -68,11 +68,11 @@ fn auxiliary_records_have_a_kind() -> Result<(), Error> {
         let mut symbol: Symbol = first;
         (symbol.storage_class, symbol.typ, symbol.value) = (storage_class, typ, 0);
         symbol.section_number = section_number;
-        let found = symbol.auxiliary().map(|it| format!("{it:?}"));
+        let found = symbol.auxiliary(&object).map(|it| format!("{it:?}"));
         let is_found = found.as_ref().is_some_and(|it| it.starts_with(kind));
         assert_eq!(is_found, !kind.is_empty(), "{symbol:?}: {found:?}");
         (symbol.number_of_aux_symbols, symbol.aux_bytes) = (0, &[]);
-        assert_eq!(symbol.auxiliary(), None);
+        assert_eq!(symbol.auxiliary(&object), None);
     }
     Ok(())
 }
@@ -153,18 +153,19 @@ fn uninitialized_data_is_zeros_and_a_bad_name_is_none() -> Result<(), Error> {
 }
 
 #[test]
-fn names_are_cut_after_the_limit() -> Result<(), Error> {
+fn names_are_cut_at_the_limit() -> Result<(), Error> {
     let file = odd_object(b"\x10\0\0\0eleven_more\0");
-    for (longest, wanted) in [(0, 11), (3, 4), (8, 9), (11, 11)] {
+    for (longest, wanted) in [(0, 11), (3, 3), (8, 8), (10, 10), (11, 11)] {
         let options = Options::default().with_longest_name(longest);
         let (name, mut named) = (&b"eleven_more"[..wanted], file.clone());
         let object = Image::read_object(&file, options)?;
-        assert_eq!(object.string_at(4), Some(Text(name)));
-        assert_eq!(object.symbol_at(0)?.and_then(|it| it.name), Some(Text(name)));
-        assert!(object.section_by_name(".bss").is_some());
+        let symbol = object.symbol_at(0)?.expect("a symbol");
+        assert_eq!((symbol.name, symbol.is_name_cut), (Some(Text(name)), wanted < 11));
+        assert_eq!(object.section_by_name(".bss").is_some(), wanted > 3);
         named[20..24].copy_from_slice(b"/4\0\0");
         let object = Image::read_object(&named, options)?;
-        assert_eq!(object.sections().next().map(|it| it.name), Some(Text(name)));
+        let section = object.sections().next().expect("a section");
+        assert_eq!((section.name, section.is_name_cut), (Text(name), wanted < 11));
         assert_eq!(object.section_by_name(name).is_some(), wanted == 11);
     }
     Ok(())

@@ -245,7 +245,7 @@ fn texts_print_safely() {
     assert_eq!(format!("{:?}", Text(b"a\"b")), r#""a\x22b""#);
     assert_eq!(String::from(Text(b"a\xFF")), Text(b"a\xFF").to_string());
     let (ordinal, dll, name) = (Imported::Ordinal(7), Text(b"A"), Text(b"b"));
-    assert_eq!(format!("{ordinal:*>4}|{:*<5}", Forwarder::Name { dll, name }), "**#7|A.b**");
+    assert_eq!(format!("{ordinal:*>4}|{:*<5}", Forwarder::Name { dll, name, is_cut: false }), "**#7|A.b**");
     let (flags, machine) = (names::file_flags(0x2002), names::machine(0x14C));
     assert_eq!(format!("{flags:_^48}"), "__IMAGE_FILE_EXECUTABLE_IMAGE | IMAGE_FILE_DLL__");
     assert_eq!(format!("{machine:>18}|{:-<7}", Table::Header), "  COFF_MACHINE_X86|header-");

@@ -1,4 +1,5 @@
 pub mod Batches
+pub mod CutNames
 pub mod GivenEntries
 pub mod GivenOnward
 pub mod GivenWords

@@ -1,5 +1,5 @@
 -- The rows of sections that were read have their names from the string table.
-use Rattle.std.proofs.Common.{◌≡◌, ◌∙◌, ℕ, zero, suc, ◌+◌, ◌*◌, ◌/◌, ◌<◌, ◌≤◌, ◌==◌, Bool, true, false, not, List, [], ◌∷◌, length, map, refl, ap, arith, subst, sym, Option, None, Some, slice_get, slice_range, take, min, IsSomeAnd, ne_eqb, length-take, take-take}
+use Rattle.std.proofs.Common.{◌≡◌, ◌∙◌, ℕ, zero, suc, ◌+◌, ◌*◌, ◌/◌, ◌<◌, ◌≤◌, ◌==◌, Bool, true, false, not, List, [], ◌∷◌, length, map, refl, ap, arith, subst, sym, Option, None, Some, option_map, slice_get, slice_range, take, min, IsSomeAnd, ne_eqb, length-take, take-take}
 use Rattle.std.specs.{List.prefix_len, List.range_with_len, Str.is_utf8}
 use Rattle.std.proofs.{lemmas.List.take_all, lemmas.Simd.map-map, lemmas.Option.cond_some}
 use Rattle.goblin_base.specs.{declared.endian.Endian.TheVariants.Little, Record.record_at}
@@ -14,7 +14,7 @@ use Rattle.goblin_pe_sect.specs.SectionTable.{Section, recorded_sections, sectio
 use Rattle.goblin_pe_head.specs.{CoffHeader.symbols_end, added.HeaderParts.sections_there}
 use Rattle.goblin_pe_head.specs.TeHeader.{section_adjusted, section_moved}
 use Rattle.goblin_pe_c_headers.specs.{Images.PeImage, Places.headers_there}
-use Rattle.goblin_pe_c_headers.specs.Options.{header_options, longest_of}
+use Rattle.goblin_pe_c_headers.specs.{Names.cut_name, Options.header_options, Options.longest_of}
 use Rattle.goblin_pe_c_headers.specs.Sections.{RowsHold, SectionRow, displacement_of, long_name, real_name_in, row_of, section_rows}
 use Rattle.goblin_pe_c_headers.proofs.GivenOnward.{record_inside}
 use Rattle.goblin_pe_c_headers.proofs.PlacedSections.{placed, value}
@@ -39,7 +39,7 @@ front-first p n x xs true is rest =
     rw (is, own, whole) (ap (λ (ys : List ℕ). x ∷ ys) rest)
 front-first p n x xs false is rest = rw is refl
 
-front-passed : (p : ℕ → Bool) (n : ℕ) (xs : List ℕ) → take (prefix_len p (take n xs)) (take n xs) ≡ take n (take (prefix_len p xs) xs)
+pub front-passed : (p : ℕ → Bool) (n : ℕ) (xs : List ℕ) → take (prefix_len p (take n xs)) (take n xs) ≡ take n (take (prefix_len p xs) xs)
 front-passed p zero xs = refl
 front-passed p (suc n) [] = refl
 front-passed p (suc n) (x ∷ xs) = front-first p n x xs (p x) refl (front-passed p n xs)
@@ -98,7 +98,7 @@ all-same {A} f g value (suc len) start xs same h =
 -- the section of a row, by its header
 abbrev row_section : PeImage → Section → Section
 row_section n s =
-    let moved = section_moved (displacement_of n) s in record moved { real_name = long_name n moved.name }
+    let moved = section_moved (displacement_of n) s in record moved { real_name = option_map (λ t. (cut_name (longest_of n.options) t).0) (long_name n moved.name) }
 
 rows-of : (n : PeImage) (headers : List ℕ) (len start : ℕ)
     → map (λ (r : SectionRow). r.section) (map (λ (i : ℕ). row_of n i (slice_range headers (40 * i) (40 * i + 40))) (range_with_len start len))
@@ -115,6 +115,11 @@ moved-named : (strict : Bool) (bytes : List ℕ) (table : ℕ) (d : Option ℕ) 
 unfolding section_adjusted
 moved-named strict bytes table None s = refl
 moved-named strict bytes table (Some d) s = refl
+
+-- without a limit no name is cut
+uncut : (s : Section) (name : Option (List ℕ)) → record s { real_name = option_map (λ t. t) name } ≡ record s { real_name = name }
+uncut s None = refl
+uncut s (Some name) = refl
 
 -- the headers of sections that are there
 headers-there : (bytes : List ℕ) (count p : ℕ) (xs : List Section) → (sections_there count p).value bytes ≡ Some xs → IsSomeAnd ((headers_there count p).value bytes) (λ headers. sections_in headers ≡ xs)
@@ -148,7 +153,7 @@ rows_hold image all d whole moved read =
     rows-sections image headers ∙ ap (map (row_section image)) are ∙ map-map (row_section image) unnamed all
     ∙ all-same (λ (s : Section). row_section image (unnamed s)) (section_moved d) (value strict strings bytes image.section_table) image.section_count 0 all
     (λ i s is.
-    rw (whole, moved) (moved-named strict bytes strings d s ∙ ap (section_moved d) (section-named strict strings bytes (image.section_table + 40 * i) s is)))
+    rw (whole, moved) (uncut (section_moved d (unnamed s)) (real_name_in strict None bytes strings (section_moved d (unnamed s)).name) ∙ moved-named strict bytes strings d s ∙ ap (section_moved d) (section-named strict strings bytes (image.section_table + 40 * i) s is)))
     read)
     there
 

@@ -15,17 +15,17 @@ abbrev symbols : List ℕ → ℕ → List (Option SymbolItem)
 symbols table i = unrefused (symbols_onward table i)
 
 -- the records hold the symbols up to a position
-abbrev pub IsGiving : List ℕ → (ℕ → Option (List ℕ)) → ℕ → List PeSymbol → ℕ → List PeSymbol → ℕ → Type 0
-IsGiving table names from old = AtIndex (named_symbol_table table names) (symbols table) (λ n. index_after table n from) from old
+abbrev pub IsGiving : Option ℕ → List ℕ → List ℕ → ℕ → List PeSymbol → ℕ → List PeSymbol → ℕ → Type 0
+IsGiving longest table strings from old = AtIndex (named_symbol_table longest table strings) (symbols table) (λ n. index_after table n from) from old
 
-pub giving_start : (table : List ℕ) (names : ℕ → Option (List ℕ)) (from : ℕ) (old : List PeSymbol) → IsGiving table names from old from old 0
+pub giving_start : (longest : Option ℕ) (table strings : List ℕ) (from : ℕ) (old : List PeSymbol) → IsGiving longest table strings from old from old 0
 unfolding index_after
-giving_start table names from old = index-start (named_symbol_table table names) (symbols table) (λ n. index_after table n from) from old refl refl
+giving_start longest table strings from old = index-start (named_symbol_table longest table strings) (symbols table) (λ n. index_after table n from) from old refl refl
 
-module _ (table : List ℕ) (names : ℕ → Option (List ℕ)) {from : ℕ} {old : List PeSymbol} {position : ℕ} {records : List PeSymbol} {count : ℕ}
-    (h : IsGiving table names from old position records count) where
+module _ (longest : Option ℕ) (table strings : List ℕ) {from : ℕ} {old : List PeSymbol} {position : ℕ} {records : List PeSymbol} {count : ℕ}
+    (h : IsGiving longest table strings from old position records count) where
   pub giving_next : (n : ℕ) (r : PeSymbol) → count < length records → position < length table / 18 → n ≡ aux table position
-      → named_symbol_model r ≡ named_symbol table names (symbol_of table position) → IsGiving table names from old (position + (1 + n)) (set records count r) (count + 1)
+      → named_symbol_model r ≡ named_symbol longest table strings (symbol_of table position) → IsGiving longest table strings from old (position + (1 + n)) (set records count r) (count + 1)
   unfolding index_after
   giving_next n r room inside size is =
       let next : position + (1 + n) ≡ next_index table position = omega (arith, size) in
@@ -35,7 +35,7 @@ module _ (table : List ℕ) (names : ℕ → Option (List ℕ)) {from : ℕ} {ol
 
   -- where no more symbols come
   pub giving_all : length table / 18 ≤ position → count < length records
-      → GivesSymbols table names (record { position = from; records = old }) (record { position = position; records = records }) (rows_given count true)
+      → GivesSymbols longest table strings (record { position = from; records = old }) (record { position = position; records = records }) (rows_given count true)
   giving_all past within =
       let none = symbols_past (length table / 18) table position past in
       index-end h (ap unrefused none) (ap (λ (xs : List SymbolItem). Some (unrefused xs)) none) within

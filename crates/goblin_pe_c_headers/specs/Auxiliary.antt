@@ -1,6 +1,6 @@
 -- The auxiliary records of a symbol, as a call gives them.
 use Rattle.std.specs.Prelude.{◌≡◌, ℕ, ◌*◌, ◌/◌, ◌==◌, ◌&&◌, ◌||◌, nat_lt, pos, int_lt, nat_abs}
-use Rattle.std.specs.Prelude.{if◌then◌else◌, List, [], ◌∷◌, length, take}
+use Rattle.std.specs.Prelude.{if◌then◌else◌, Bool, false, List, [], ◌∷◌, length, Option, take}
 use Rattle.goblin_base.specs.declared.endian.Endian.TheVariants.{Little}
 use Rattle.goblin_base.specs.Bytes.{before_nul, number}
 use Rattle.goblin_pe_symbol.specs.declared.symbol.Symbol.{Symbol}
@@ -9,7 +9,7 @@ use Rattle.goblin_pe_symbol.specs.AuxiliarySymbols.{function_definition_record}
 use Rattle.goblin_pe_symbol.specs.AuxiliarySymbols.{section_definition_record, weak_external_record}
 use Rattle.goblin_pe_c_headers.specs.declared.auxiliary.AuxiliaryKind.{AuxiliaryKind}
 use Rattle.goblin_pe_c_headers.specs.declared.auxiliary.AuxiliaryKind.TheVariants as kind
-use Rattle.goblin_pe_c_headers.specs.declared.auxiliary.PeAuxiliary.{PeAuxiliary}
+use Rattle.goblin_pe_c_headers.specs.{declared.auxiliary.PeAuxiliary.PeAuxiliary, Names.cut_name}
 
 -- Source: PE Format, "Auxiliary Symbol Records".
 
@@ -56,7 +56,8 @@ zero_auxiliary a = record a {
   number_of_relocations = 0;
   number_of_line_numbers = 0;
   selection = 0;
-  reserved = 0 ∷ 0 ∷ 0 ∷ [];
+  is_file_cut = false;
+  reserved = 0 ∷ 0 ∷ [];
   characteristics = 0;
   string_offset = 0;
   reserved2 = 0;
@@ -66,9 +67,10 @@ zero_auxiliary a = record a {
 abbrev pub offset_in_strings : List ℕ → ℕ
 offset_in_strings records = if number Little 4 records 0 == 0 then number Little 4 records 4 else 0
 
-abbrev pub file_name : AuxiliaryKind → List ℕ → List ℕ
-file_name kind.File records = before_nul records
-file_name other records = []
+-- the name of a file, and whether it is cut
+abbrev pub file_name : Option ℕ → AuxiliaryKind → List ℕ → List ℕ × Bool
+file_name longest kind.File records = cut_name longest (before_nul records)
+file_name longest other records = ([], false)
 
 -- the first of these records, of this kind
 abbrev pub auxiliary_fields : AuxiliaryKind → List ℕ → PeAuxiliary → PeAuxiliary
@@ -103,7 +105,9 @@ auxiliary_fields kind.SectionDefinition records zeros =
       selection = read.selection;
     }
 
--- the record says the first of these records, of this kind
-abbrev pub AuxiliaryModel : AuxiliaryKind → List ℕ → PeAuxiliary → Type 0
-AuxiliaryModel kind records a =
-    (a.file.now ≡ file_name kind records) × (a ≡ auxiliary_fields kind records (zero_auxiliary a))
+-- the record says the first of these records, of this kind; the name of a file is cut at a limit
+abbrev pub AuxiliaryModel : Option ℕ → AuxiliaryKind → List ℕ → PeAuxiliary → Type 0
+AuxiliaryModel longest kind records a =
+    let file = file_name longest kind records in
+    (a.file.now ≡ file.0)
+    × (a ≡ record (auxiliary_fields kind records (zero_auxiliary a)) { is_file_cut = file.1 })

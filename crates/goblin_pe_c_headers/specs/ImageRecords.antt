@@ -36,7 +36,6 @@ zero_image options kind image = record image {
   directories = replicate 16 zero_directory;
   dos_stub_size = 0;
   rich_header = no_rich_header;
-  reserved = 0;
 }
 
 -- the record of the file with these bytes

@@ -9,6 +9,7 @@ pub mod Images
 pub mod Items
 pub mod Kinds
 pub mod Memory
+pub mod Names
 pub mod Objects
 pub mod Onward
 pub mod Options

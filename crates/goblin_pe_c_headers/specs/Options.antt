@@ -1,5 +1,5 @@
 -- The options that a caller passes.
-use Rattle.std.specs.Prelude.{ℕ, ◌==◌, ◌&&◌, nat_le, false, true, if◌then◌else◌, Bool, Option}
+use Rattle.std.specs.Prelude.{ℕ, ◌^◌, ◌==◌, ◌&&◌, nat_le, nat_lt, false, true, if◌then◌else◌, Bool, Option}
 use Rattle.std.specs.Prelude.{Some, None}
 use Rattle.std.specs.List.{list_all}
 use Rattle.goblin_base.specs.declared.permissive.ParseMode.TheVariants.{Strict, Permissive}
@@ -42,9 +42,12 @@ options_at o alignment = record (header_options o) {
       else AsStored;
 }
 
--- the limit of a name's length that a number says; 0 is none
+-- the limit of a name's length that a number says: 4,096 if it is 0, and none from 2^32 on
 abbrev pub name_limit : ℕ → Option ℕ
-name_limit longest = if longest == 0 then None else Some longest
+name_limit longest =
+    if longest == 0 then Some 4096
+    else if nat_lt longest (2 ^ 32) then Some longest
+    else None
 
 -- how many bytes of a name are read, if there is a limit
 abbrev pub longest_of : PeOptions → Option ℕ

@@ -1,7 +1,7 @@
 -- The rows of sections, as definitions.
 use Rattle.std.specs.Prelude.{◌≡◌, IsSomeAnd, ℕ, Bool, if◌then◌else◌, List, Option, Some, None}
 use Rattle.std.specs.Prelude.{Result, ◌+◌, ◌*◌, ◌/◌, ◌==◌, map, length, option_and_then}
-use Rattle.std.specs.Prelude.{replicate, slice_range, take, unwrap_or}
+use Rattle.std.specs.Prelude.{option_map, replicate, slice_range, take, unwrap_or}
 use Rattle.std.specs.List.{range_with_len}
 use Rattle.goblin_base.specs.declared.error.ErrorOf.{ErrorOf}
 use Rattle.goblin_base.specs.{declared.endian.Endian.TheVariants.Little, Bytes.before_nul}
@@ -14,7 +14,7 @@ use Rattle.goblin_pe_c_headers.specs.declared.cursor.PeCoffRelocationCursor.{PeC
 use Rattle.goblin_pe_c_headers.specs.{Images.PeImage, declared.section.PeSection.PeSection}
 use Rattle.goblin_pe_c_headers.specs.{Calls.ReadsWithout, Places.headers_there}
 use Rattle.goblin_pe_c_headers.specs.Relocations.{relocations_begin}
-use Rattle.goblin_pe_c_headers.specs.Options.{header_options, longest_of}
+use Rattle.goblin_pe_c_headers.specs.{Names.cut_name, Options.header_options, Options.longest_of}
 
 -- the name that the eight bytes of a name lead to in the string table, whole or, where there is a
 -- limit, cut there
@@ -39,10 +39,10 @@ section_model s = record {
   characteristics = s.characteristics;
 }
 
--- a row: a section, its name, its index, and where its relocations begin
+-- a row: a section, its name and whether that is cut, its index, and where its relocations begin
 pub record SectionRow : Type 0 where
   pub section : Section
-  pub name : List ℕ
+  pub name : List ℕ × Bool
   pub index : ℕ
   pub relocations : PeCoffRelocationCursor
   pub reserved : List ℕ
@@ -50,7 +50,7 @@ pub record SectionRow : Type 0 where
 abbrev pub row_model : PeSection → SectionRow
 row_model s = record {
   section = section_model s;
-  name = s.name.now;
+  name = (s.name.now, s.is_name_cut);
   index = s.index;
   relocations = s.relocations;
   reserved = s.reserved;
@@ -67,17 +67,18 @@ abbrev pub displacement_of : PeImage → Option ℕ
 displacement_of image = if image.kind == 3 then Some image.moved_by else None
 
 -- the row of the section header with these bytes; its name is from the string table, or else the
--- bytes at the front of the header before a NUL
+-- bytes at the front of the header before a NUL, cut at the limit
 abbrev pub row_of : PeImage → ℕ → List ℕ → SectionRow
 row_of image i header =
     let s = section_moved (displacement_of image) (section_record Little header) in
-    let name = long_name image s.name in
+    let long = long_name image s.name in
+    let name = cut_name (longest_of image.options) (unwrap_or long (before_nul (take 8 header))) in
     record {
-      section = record s { real_name = name };
-      name = unwrap_or name (before_nul (take 8 header));
+      section = record s { real_name = option_map (λ t. (cut_name (longest_of image.options) t).0) long };
+      name = name;
       index = i;
       relocations = relocations_begin s;
-      reserved = replicate 7 0;
+      reserved = replicate 6 0;
     }
 
 abbrev pub section_rows : PeImage → List ℕ → List SectionRow

@@ -1,6 +1,6 @@
 -- The symbols of a table from one of its records on, and what a call gives of them.
 use Rattle.std.specs.Prelude.{◌≡◌, ℕ, zero, suc, ◌+◌, ◌-◌, ◌*◌, ◌/◌, ◌==◌, if◌then◌else◌, List, []}
-use Rattle.std.specs.Prelude.{length, nat_lt, take, drop, slice_index, true, Option, Some, None}
+use Rattle.std.specs.Prelude.{◌∷◌, Bool, is_some, length, nat_lt, take, drop, slice_index, true, Option, Some, None}
 use Rattle.std.specs.{Option.unwrap_or, Str.is_utf8}
 use Rattle.goblin_base.specs.{declared.endian.Endian.TheVariants.Little, Answers.◌>>=◌}
 use Rattle.goblin_base.specs.{Bytes.text_within, Reading.Reading}
@@ -16,7 +16,7 @@ use Rattle.goblin_pe_head.specs.declared.header.coff.CoffHeader.{CoffHeader}
 use Rattle.goblin_pe_head.specs.CoffHeader.{string_table_offset, symbols_end}
 use Rattle.goblin_pe_head.specs.CoffReadings.{strings_of, symbols_of}
 use Rattle.goblin_pe_c_headers.specs.{declared.symbol.PeSymbol.PeSymbol, Images.PeImage}
-use Rattle.goblin_pe_c_headers.specs.Options.{longest_of}
+use Rattle.goblin_pe_c_headers.specs.{Names.cut_name, Options.longest_of}
 use Rattle.goblin_pe_c_headers.specs.Onward.{Batch, FillsRows, Table, unrefused, PeBatch}
 
 -- The name at an offset of the bytes of a string table: what is left of the piece there, where that
@@ -42,41 +42,43 @@ name_in names inline_name symbol =
     then (name_offset_of symbol.name >>= names)
     else inline_name
 
--- a symbol with its index, its name, and the bytes of its auxiliary records
+-- a symbol with its index, its name and whether that is cut, and the bytes of its auxiliary records
 pub record NamedSymbol : Type 0 where
   pub index : ℕ
-  pub name : Option (List ℕ)
+  pub name : List ℕ × Bool
+  pub has_name : Bool
   pub auxiliary : List ℕ
   pub symbol : Symbol
+  pub reserved : List ℕ
 
 -- the bytes of the auxiliary records of the symbol at index i: as many as it says and the table has
 abbrev pub auxiliary_of : List ℕ → ℕ → Symbol → List ℕ
 auxiliary_of table i symbol = take (18 * symbol.number_of_aux_symbols) (drop (18 * (i + 1)) table)
 
--- a symbol of a table with its name from the record or a string table, its auxiliary records, and
--- nothing in place of a missing name
-abbrev pub named_symbol : List ℕ → (ℕ → Option (List ℕ)) → SymbolItem → NamedSymbol × List ℕ
-named_symbol table names item = (
-  record {
-    index = item.0;
-    name = name_in names item.1 item.2;
-    auxiliary = auxiliary_of table item.0 item.2;
-    symbol = item.2;
-  },
-  [],
-)
+-- a symbol of a table with its name from the record or a string table, cut at the limit, and its
+-- auxiliary records; a missing name is empty
+abbrev pub named_symbol : Option ℕ → List ℕ → List ℕ → SymbolItem → NamedSymbol
+named_symbol longest table strings item =
+    let name = name_in (name_in_piece longest strings) item.1 item.2 in
+    record {
+      index = item.0;
+      name = cut_name longest (unwrap_or name []);
+      has_name = is_some name;
+      auxiliary = auxiliary_of table item.0 item.2;
+      symbol = item.2;
+      reserved = 0 ∷ 0 ∷ [];
+    }
 
--- what a record holds of it, and what replaces a missing name
-abbrev pub named_symbol_model : PeSymbol → NamedSymbol × List ℕ
-named_symbol_model s = (
-  record {
-    index = s.index;
-    name = if s.has_name then Some s.name.now else None;
-    auxiliary = s.auxiliary.now;
-    symbol = s.record;
-  },
-  if s.has_name then [] else s.name.now,
-)
+-- what a record holds of it
+abbrev pub named_symbol_model : PeSymbol → NamedSymbol
+named_symbol_model s = record {
+  index = s.index;
+  name = (s.name.now, s.is_name_cut);
+  has_name = s.has_name;
+  auxiliary = s.auxiliary.now;
+  symbol = s.record;
+  reserved = s.reserved;
+}
 
 -- the symbols of a table from record i on, which is read as a symbol whatever it is
 abbrev pub symbols_onward : List ℕ → ℕ → List SymbolItem
@@ -92,20 +94,20 @@ index_after table zero i = i
 index_after table (suc n) i = next_index table (index_after table n i)
 
 -- the symbols of a table with their names, from any record on
-abbrev pub named_symbol_table : List ℕ → (ℕ → Option (List ℕ))
-    → Table ℕ PeSymbol SymbolItem (NamedSymbol × List ℕ)
-named_symbol_table table names = record {
+abbrev pub named_symbol_table : Option ℕ → List ℕ → List ℕ
+    → Table ℕ PeSymbol SymbolItem NamedSymbol
+named_symbol_table longest table strings = record {
   view = named_symbol_model;
-  value_of = named_symbol table names;
+  value_of = named_symbol longest table strings;
   from = λ i. Some (unrefused (symbols_onward table i));
 }
 
 -- The records hold the symbols from the position on, as far as there is room. The position is then
 -- that of the symbols that come next.
-abbrev pub GivesSymbols : List ℕ → (ℕ → Option (List ℕ)) → Batch ℕ PeSymbol → Batch ℕ PeSymbol
+abbrev pub GivesSymbols : Option ℕ → List ℕ → List ℕ → Batch ℕ PeSymbol → Batch ℕ PeSymbol
     → PeBatch → Type 0
-GivesSymbols table names old new batch =
-    FillsRows (named_symbol_table table names)
+GivesSymbols longest table strings old new batch =
+    FillsRows (named_symbol_table longest table strings)
     (new.position ≡ index_after table batch.count old.position) old new batch
 
 -- ---- where the tables lie

@@ -3,8 +3,10 @@
 ghost use Rattle.std.specs.Prelude.{◌≡◌, ◌≤◌, [], length};
 ghost use Rattle.goblin_pe_c_headers.specs.Auxiliary.{AuxiliaryModel, auxiliary_kind};
 ghost use Rattle.goblin_pe_c_headers.specs.Auxiliary.{kind_by_class, offset_in_strings};
-ghost use Rattle.goblin_pe_c_headers.specs.Auxiliary.{zero_auxiliary};
+ghost use Rattle.goblin_pe_c_headers.specs.{Auxiliary.zero_auxiliary, Options.longest_of};
 
+use crate::name::cut_name;
+use crate::options::{PeOptions, longest_of};
 use crate::symbol::PeSymbol;
 use goblin_base::read::before_nul;
 use goblin_base::{Endian, Record, field_u32};
@@ -60,8 +62,10 @@ pub struct PeAuxiliary<'a> {
     pub number_of_line_numbers: u16,
     /// SECTION_DEFINITION: an `IMAGE_COMDAT_SELECT_*`.
     pub selection: u8,
+    /// FILE: whether the name is cut.
+    pub is_file_cut: bool,
     /// Zeros.
-    pub reserved: [u8; 3],
+    pub reserved: [u8; 2],
     /// WEAK_EXTERNAL: an `IMAGE_WEAK_EXTERN_SEARCH_*`.
     pub characteristics: u32,
     /// FILE: the name of the source file. If it begins with four zeros it is in the string table,
@@ -121,7 +125,8 @@ fn zero_auxiliary(bytes: &[u8]) -> PeAuxiliary<'_>
         number_of_relocations: 0,
         number_of_line_numbers: 0,
         selection: 0,
-        reserved: [0; 3],
+        is_file_cut: false,
+        reserved: [0; 2],
         characteristics: 0,
         file: &bytes[..0],
         string_offset: 0,
@@ -142,9 +147,9 @@ fn offset_in_strings(records: &[u8]) -> u32
 }
 
 // The record that these bytes are for a symbol of this kind.
-fn auxiliary_for_c(kind: AuxiliaryKind, records: &[u8]) -> PeAuxiliary<'_>
+fn auxiliary_for_c(kind: AuxiliaryKind, records: &[u8], longest: Option<u32>) -> PeAuxiliary<'_>
     requires { 18 ≤ length records.now }
-    ensures { AuxiliaryModel kind records.now result }
+    ensures { AuxiliaryModel longest kind records.now result }
 {
     let zeros = zero_auxiliary(records);
     let record = &records[..COFF_SYMBOL_SIZE];
@@ -176,11 +181,15 @@ fn auxiliary_for_c(kind: AuxiliaryKind, records: &[u8]) -> PeAuxiliary<'_>
                 ..zeros
             }
         }
-        AuxiliaryKind::File => PeAuxiliary {
-            file: before_nul(records),
-            string_offset: offset_in_strings(records),
-            ..zeros
-        },
+        AuxiliaryKind::File => {
+            let (file, is_file_cut) = cut_name(before_nul(records), longest);
+            PeAuxiliary {
+                file,
+                is_file_cut,
+                string_offset: offset_in_strings(records),
+                ..zeros
+            }
+        }
         AuxiliaryKind::SectionDefinition => {
             let read = AuxSectionDefinition::in_record(record, Endian::Little);
             PeAuxiliary {
@@ -198,16 +207,21 @@ fn auxiliary_for_c(kind: AuxiliaryKind, records: &[u8]) -> PeAuxiliary<'_>
 
 /// Reads the auxiliary records of a symbol, and returns their kind. It is none if the symbol has
 /// none, or they are cut, or its class and type name no kind.
-pub fn read_auxiliary<'a>(symbol: &PeSymbol<'a>, auxiliary: &mut PeAuxiliary<'a>) -> AuxiliaryKind
+pub fn read_auxiliary<'a>(
+    options: &PeOptions,
+    symbol: &PeSymbol<'a>,
+    auxiliary: &mut PeAuxiliary<'a>,
+) -> AuxiliaryKind
     ensures kind { result ≡ auxiliary_kind symbol.now.record symbol.now.auxiliary.now }
-    ensures value { AuxiliaryModel result symbol.now.auxiliary.now auxiliary.new }
+    ensures value { AuxiliaryModel (longest_of options.now) result symbol.now.auxiliary.now
+        auxiliary.new }
 {
     let records = symbol.auxiliary;
     let kind = auxiliary_kind(&symbol.record, records);
     *auxiliary = if records.len() < COFF_SYMBOL_SIZE {
         zero_auxiliary(records)
     } else {
-        auxiliary_for_c(kind, records)
+        auxiliary_for_c(kind, records, longest_of(options))
     };
     kind
 }

@@ -58,8 +58,6 @@ pub struct PeImage<'a> {
     /// How it is read. You may change this in a copy, but `is_permissive` says nothing of the
     /// header, which was read already.
     pub options: PeOptions,
-    /// Which call filled the record: a [`Kind`](crate::kind::Kind).
-    pub kind: u32,
     /// The file offset of the section table.
     pub section_table: usize,
     /// How many section headers the walks and the mapping use. In a partial image it may be less
@@ -86,8 +84,8 @@ pub struct PeImage<'a> {
     pub dos_stub_size: usize,
     /// The Rich header.
     pub rich_header: PeRichHeader,
-    /// Zero.
-    pub reserved: u32,
+    /// Which call filled the record: a [`Kind`](crate::kind::Kind).
+    pub kind: u32,
 }
 
 /// An image of zeros, except its bytes, its options and its kind.
@@ -98,7 +96,6 @@ pub fn zero_image<'a>(bytes: &'a [u8], options: &PeOptions, kind: u32) -> PeImag
     PeImage {
         bytes,
         options: *options,
-        kind,
         section_table: 0,
         section_count: 0,
         dos_header: DosHeader::default(),
@@ -110,7 +107,7 @@ pub fn zero_image<'a>(bytes: &'a [u8], options: &PeOptions, kind: u32) -> PeImag
         directories: [DataDirectory::default(); 16],
         dos_stub_size: 0,
         rich_header: PeRichHeader::default(),
-        reserved: 0,
+        kind,
     }
 }
 

@@ -19,6 +19,7 @@ pub mod headers;
 pub mod image;
 pub mod kind;
 pub mod memory;
+pub mod name;
 pub mod object;
 pub mod onward;
 pub mod options;

@@ -31,12 +31,6 @@ pub struct PeOptions {
     /// address return [`Status::Options`](crate::fault::Status), and look-ups find nothing. The
     /// other walks look at no address, and do not test it.
     pub mapping: u32,
-    /// How many bytes of a name are read; 0 is no limit. A longer name ends with the character that
-    /// passes the limit, and is whole only if that is its last. What follows is not tested: it may
-    /// not be UTF-8. The limit holds for the names of DLLs, imports and exports, for names in a
-    /// string table, for forwarders and for texts at an RVA. A forwarder is cut as one text; its
-    /// export name may then be empty.
-    pub longest_name: u32,
     /// Whether damaged parts are skipped, and not refused. Walks count what they skip. Neither
     /// mode reads a file that has one of these; a partial read does: a header or a section table
     /// that is cut off, an optional header of an unknown magic, more than sixteen data directories,
@@ -46,6 +40,12 @@ pub struct PeOptions {
     /// Zeros, because later versions may have options here. Other bytes count as an unknown
     /// mapping.
     pub reserved: [u8; 3],
+    /// How many bytes of a name are read at most; 0 means 4,096. `GOBLIN_PE_NO_LIMIT`, and any other
+    /// number above 2^32 - 1, means no limit. A longer name is cut between two characters, and the
+    /// row says so. Different names can be cut to the same bytes, so don't compare or hash a name
+    /// that is cut. What follows the cut, except for the next character, is not tested: it may not
+    /// be UTF-8.
+    pub longest_name: usize,
 }
 
 /// Whether the options are known: a mapping with a number of its own, and zeros after it.
@@ -57,12 +57,16 @@ pub fn are_known(options: &PeOptions) -> bool
     options.mapping <= PeMapping::Identity as u32 && first == 0 && second == 0 && third == 0
 }
 
-/// The limit of a name's length that a number says; 0 is none.
+/// The limit of a name's length that a number says, if it says one.
 #[inline(always)]
-pub fn name_limit(longest: u32) -> Option<u32>
+pub fn name_limit(longest: usize) -> Option<u32>
     ensures { result ≡ name_limit longest }
 {
-    if longest == 0 { None } else { Some(longest) }
+    match longest {
+        0 => Some(4096),
+        1..=0xFFFF_FFFF => Some(longest as u32),
+        _ => None,
+    }
 }
 
 /// How many bytes of a name are read, if there is a limit.

@@ -16,6 +16,7 @@ use crate::batch::{PeBatch, ended, goes_on};
 use crate::cursor::PeCoffRelocationCursor;
 use crate::image::PeImage;
 use crate::kind::Kind;
+use crate::name::cut_name;
 use crate::options::{header_options, longest_of};
 use crate::places::section_headers;
 use goblin_base::read::{before_nul, pread_ascii_str, pread_str_within};
@@ -60,8 +61,10 @@ pub struct PeSection<'a> {
     pub characteristics: u32,
     /// Whether the name is from the string table.
     pub has_long_name: bool,
+    /// Whether the name is cut.
+    pub is_name_cut: bool,
     /// Zeros.
-    pub reserved: [u8; 7],
+    pub reserved: [u8; 6],
 }
 
 /// The section of a row, without its name from the string table, which would take memory.
@@ -177,11 +180,13 @@ fn put_row<'a>(place: &mut PeSection<'a>, image: &PeImage<'a>, headers: &'a [u8]
     let header = &headers[begin..begin + SIZEOF_SECTION_TABLE];
     let section = stored_section(headers, index, displacement_of(image));
     let long_name = long_name(image, &section);
+    let name = match long_name {
+        Some(name) => name.as_bytes(),
+        None => raw_name(header),
+    };
+    let (name, is_name_cut) = cut_name(name, longest_of(&image.options));
     *place = PeSection {
-        name: match long_name {
-            Some(name) => name.as_bytes(),
-            None => raw_name(header),
-        },
+        name,
         index,
         relocations: relocations_begin(&section),
         stored_name: section.name,
@@ -195,7 +200,8 @@ fn put_row<'a>(place: &mut PeSection<'a>, image: &PeImage<'a>, headers: &'a [u8]
         number_of_linenumbers: section.number_of_linenumbers,
         characteristics: section.characteristics,
         has_long_name: long_name.is_some(),
-        reserved: [0; 7],
+        is_name_cut,
+        reserved: [0; 6],
     };
 }
 

@@ -15,6 +15,7 @@ ghost use Rattle.goblin_pe_c_headers.specs.Symbols.{texts_of};
 
 use crate::batch::{PeBatch, ended, goes_on};
 use crate::image::PeImage;
+use crate::name::cut_name;
 use crate::options::longest_of;
 use goblin_base::read::{
     no_text, pread_ascii_str_within, pread_slice, pread_str_within, pread_u32,
@@ -40,6 +41,10 @@ pub struct PeSymbol<'a> {
     pub record: Symbol,
     /// Whether it has a name.
     pub has_name: bool,
+    /// Whether the name is cut.
+    pub is_name_cut: bool,
+    /// Zeros.
+    pub reserved: [u8; 2],
 }
 
 // The bytes of a symbol table, those of the texts of a string table, and how many bytes of a name
@@ -152,17 +157,20 @@ fn fill_symbol<'a>(
     requires inside { index < length tables.records.now / 18 }
     requires found { named_value found ≡ name_and_symbol (record_of tables.records.now index) }
     ensures { named_symbol_model place.new
-        ≡ named_symbol tables.entry.records.now
-        (name_in_piece tables.entry.longest tables.entry.strings.now)
+        ≡ named_symbol tables.entry.longest tables.entry.records.now tables.entry.strings.now
         (symbol_of tables.entry.records.now index) }
 {
     let (inline_name, symbol) = found;
     let name = name_in(inline_name, &symbol, tables);
     place.has_name = name.is_some();
-    place.name = match name {
+    let name = match name {
         Some(name) => name.as_bytes(),
         None => &bytes[..0],
     };
+    let (name, is_name_cut) = cut_name(name, tables.longest);
+    place.name = name;
+    place.is_name_cut = is_name_cut;
+    place.reserved = [0; 2];
     place.auxiliary = auxiliary_of(tables.records, index, &symbol);
     place.index = index;
     place.record = symbol;
@@ -176,8 +184,7 @@ fn fill_symbols_at<'a>(
     position: &mut usize,
     records: &mut [PeSymbol<'a>],
 ) -> PeBatch
-    ensures { GivesSymbols tables.entry.records.now
-        (name_in_piece tables.entry.longest tables.entry.strings.now)
+    ensures { GivesSymbols tables.entry.longest tables.entry.records.now tables.entry.strings.now
         (batch_at position.old records.old) (batch_at position.new records.new) result }
 {
     let mut index = *position; // (a place behind a pointer is stored for each symbol)
@@ -254,7 +261,7 @@ pub fn next_symbols<'a>(
     ensures given { let old = batch_at position.old records.old in
         let new = batch_at position.new records.new in
         ReadsWithout (found_tables image.now.coff_header) image.now.bytes.now
-        (λ t. GivesSymbols t.0 (name_in_piece (longest_of image.now.options) t.1) old new batch.new)
+        (λ t. GivesSymbols (longest_of image.now.options) t.0 t.1 old new batch.new)
         ((new ≡ old) × (batch.new ≡ no_batch)) result }
     ensures same { FindsTables }
     ensures names { NamesOfText }

@@ -38,8 +38,8 @@ abbrev to_come : Exports → List (Option NumberedExport)
 to_come walk = unrefused (exports_left walk)
 
 -- the records hold what has come so far, and the walk goes on
-pub record AtExports (start : Exports) (old : List PeExport) (end : ℕ) (now : Exports) (records : List PeExport) (count : ℕ) : Type 0 where
-  pub at : AtItems (exports_table exports_left) to_come start start old now now records count
+pub record AtExports (longest : Option ℕ) (start : Exports) (old : List PeExport) (end : ℕ) (now : Exports) (records : List PeExport) (count : ℕ) : Type 0 where
+  pub at : AtItems (exports_table longest exports_left) to_come start start old now now records count
   pub over : KeepsOver start now
   pub further : exports_position start ≤ exports_position now
   pub within : exports_position now ≤ max (exports_position start) end
@@ -47,12 +47,12 @@ pub record AtExports (start : Exports) (old : List PeExport) (end : ℕ) (now : 
 over-next : (start now next : Exports) → KeepsOver start now → KeepsOver now next → KeepsOver start next
 over-next start now next h k = ((k.0.0 ∙ h.0.0, k.0.1 ∙ h.0.1), k.1 ∙ h.1)
 
-module _ {start : Exports} {old : List PeExport} {end : ℕ} {now : Exports} {records : List PeExport} {count : ℕ} (h : AtExports start old end now records count) where
+module _ {longest : Option ℕ} {start : Exports} {old : List PeExport} {end : ℕ} {now : Exports} {records : List PeExport} {count : ℕ} (h : AtExports longest start old end now records count) where
   pub exports-more : (x : WalkedExport) (next : Exports) (r : PeExport)
       → YieldsFirstBy walked_export exports_left now (Some x) next → KeepsOver now next
       → exports_position now ≤ exports_position next → exports_position next ≤ max (exports_position start) end
-      → count < length records → export_model r ≡ export_for_c (walked_export x)
-      → AtExports start old end next (set records count r) (count + 1)
+      → count < length records → export_model r ≡ export_for_c longest (walked_export x)
+      → AtExports longest start old end next (set records count r) (count + 1)
   exports-more x next r given over further below within says = record {
     at = items-more h.at (walked_export x) next next r (ap unrefused given) within says refl;
     over = over-next start now next h.over over;
@@ -63,7 +63,7 @@ module _ {start : Exports} {old : List PeExport} {end : ℕ} {now : Exports} {re
   -- what a batch has given that ends here
   abbrev pub AreGiven : Exports → Type 0
   AreGiven next =
-      FillsFrom (exports_table exports_left) ((end < pointer_count start) × (end ≤ exports_position next)) (to_come start)
+      FillsFrom (exports_table longest exports_left) ((end < pointer_count start) × (end ≤ exports_position next)) (to_come start)
       (record { position = start; records = old }) (record { position = next; records = records }) count
 
   -- nothing more comes before the end
@@ -109,10 +109,10 @@ module _ (m : MapOfAddresses) (places : TablePlaces) (bytes : List ℕ) (found :
         ap (λ (n : MapOfAddresses). numbered_from n.addressing walk.bytes.now (walked_tables walk) y) over.0.1
         ∙ ap (λ (b : List ℕ). numbered_from m.addressing b (walked_tables walk) y) over.0.0
 
-    pub exports-given : (before after : ℕ) (now next : Exports) (end count unmapped : ℕ) (is_done : Bool) (new : List PeExport)
-        → exports_left now ≡ exports_at walk x → KeepsOver walk now → exports_position now ≡ x
+    pub exports-given : (before after : ℕ) (now next : Exports) (end count unmapped : ℕ) (is_done : Bool) (new : List PeExport) (longest : Option ℕ)
+        → longest ≡ m.addressing.longest → exports_left now ≡ exports_at walk x → KeepsOver walk now → exports_position now ≡ x
         → end ≤ x + before → end ≤ pointer_count now → (end ≡ pointer_count now) ⊎ (end ≡ x + before)
-        → FillsFrom (exports_table exports_left) ((end < pointer_count now) × (end ≤ exports_position next)) (to_come now)
+        → FillsFrom (exports_table longest exports_left) ((end < pointer_count now) × (end ≤ exports_position next)) (to_come now)
         (record { position = now; records = old }) (record { position = next; records = new }) count
         → KeepsOver now next → exports_position now ≤ exports_position next → exports_position next ≤ max (exports_position now) end
         → (length old ≤ count) ⊎ (min end (pointer_count now) ≤ exports_position next)
@@ -120,7 +120,7 @@ module _ (m : MapOfAddresses) (places : TablePlaces) (bytes : List ℕ) (found :
         → unmapped ≡ exports_position next - x - count → is_done ≡ nat_le (pointer_count now) (exports_position next)
         → GivesExports before after m places bytes (record { position = x; records = old }) (record { position = exports_position next; records = new })
         (at_room (length old) count unmapped is_done)
-    exports-given before after now next end count unmapped is_done new begun over_now at limit inside limited fills over_next further within through is nowhere ends =
+    exports-given before after now next end count unmapped is_done new longest up_to begun over_now at limit inside limited fills over_next further within through is nowhere ends =
         let left_is : exports_left now ≡ numbered_from m.addressing bytes (walked_tables walk) x = begun ∙ from-there x in
         let rest : numbered_from m.addressing bytes (walked_tables walk) (exports_position next) ≡ exports_left next =
         sym (at-over now next (exports_position next) over_next ∙ at-over walk now (exports_position next) over_now ∙ from-there (exports_position next)) in
@@ -132,9 +132,12 @@ module _ (m : MapOfAddresses) (places : TablePlaces) (bytes : List ℕ) (found :
           | inl all ↦ absurd (omega (arith, cut.0, all))
           | inr run ↦ omega (arith, run, cut.1, is)
         ] in
-        let given = fills-by export_model export_for_c (exports_table exports_left).from (exports_table (exports_in m bytes (part.Read (walked_exports walk)))).from
+        let given = fills-by export_model (export_for_c m.addressing.longest) (exports_table m.addressing.longest exports_left).from (exports_table m.addressing.longest (exports_in m bytes (part.Read (walked_exports walk)))).from
         ((end < pointer_count now) × (end ≤ exports_position next)) (after ≡ 0)
-        (to_come now) (unrefused (numbered_from m.addressing bytes (walked_tables walk) x)) now next x (exports_position next) old new count fills
+        (to_come now) (unrefused (numbered_from m.addressing bytes (walked_tables walk) x)) now next x (exports_position next) old new count
+        (subst
+        (λ (n : Option ℕ). FillsFrom (exports_table n exports_left) ((end < pointer_count now) × (end ≤ exports_position next)) (to_come now) (record { position = now; records = old }) (record { position = next; records = new }) count)
+        up_to fills)
         (ap unrefused left_is) (ap (λ (items : List NumberedExport). Some (unrefused items)) rest) out (λ same. ap exports_position same ∙ at) in
         let ended : is_done ≡ true → drop count (unrefused (numbered_from m.addressing bytes (walked_tables walk) x)) ≡ [] = λ yes.
         let past : pointer_count now ≤ exports_position next = leb-true (pointer_count now) (exports_position next) (sym ends ∙ yes) in
@@ -170,7 +173,7 @@ module _ (m : MapOfAddresses) (places : TablePlaces) (bytes : List ℕ) (found :
       let looks : LooksAtPointers steps steps 0 x x (at_room (length old) 0 0 true) =
       (record { further = omega arith; within = omega arith; looked = refl; ended = λ done. omega arith; skipped = refl; unmapped = omega arith }) in
       rw (read ∙ ap (λ (p : Part Exports). Some (part_map walked_exports p)) is)
-      (none-given (exports_table (exports_in m bytes Absent)) (steps ≡ 0) (λ left. LooksAtPointers steps steps 0 x x (at_room (length old) 0 0 true)) x old refl looks)
+      (none-given (exports_table m.addressing.longest (exports_in m bytes Absent)) (steps ≡ 0) (λ left. LooksAtPointers steps steps 0 x x (at_room (length old) 0 0 true)) x old refl looks)
 
   pub exports-refused : (steps : ℕ) → found ≡ Refused → (new : Batch ℕ PeExport) (batch : PeBatch) → SkipsTable (record { position = x; records = old }) new batch
       → GivesExports steps steps m places bytes (record { position = x; records = old }) new batch

@@ -112,22 +112,22 @@ library-given (Narrow s) (Wide t) Holds gives = absurd gives
 library-given (Wide s) (Narrow t) Holds gives = absurd gives
 
 -- nothing was filled, and one record more
-pub filled-none : (records : List PeImport) (first : ℕ) → Fills records records first first []
-filled-none records first = (
+pub filled-none : (longest : Option ℕ) (records : List PeImport) (first : ℕ) → Fills longest records records first first []
+filled-none longest records first = (
   omega arith,
   λ base before at.
-      subst (λ (values : List NumberedImport). AtBatch import_model import_for_c base values records first) (sym (append-nil before)) at,
+      subst (λ (values : List NumberedImport). AtBatch import_model (import_for_c longest) base values records first) (sym (append-nil before)) at,
 )
 
-pub filled-more : (old records : List PeImport) (first count : ℕ) (x : WalkedImport) (r : PeImport) → count < length records
-    → import_model r ≡ import_for_c (walked_value x) → (values : List NumberedImport) → Fills old records first count values
-    → Fills old (set records count r) first (count + 1) (values ++ walked_value x ∷ [])
-filled-more old records first count x r within says values h = (
+pub filled-more : (longest : Option ℕ) (old records : List PeImport) (first count : ℕ) (x : WalkedImport) (r : PeImport) → count < length records
+    → import_model r ≡ import_for_c longest (walked_value x) → (values : List NumberedImport) → Fills longest old records first count values
+    → Fills longest old (set records count r) first (count + 1) (values ++ walked_value x ∷ [])
+filled-more longest old records first count x r within says values h = (
   (let so_far = h.0 in omega (arith, so_far, length-append values (walked_value x ∷ []))),
   λ base before at.
-      subst (λ (values : List NumberedImport). AtBatch import_model import_for_c base values (set records count r) (count + 1))
+      subst (λ (values : List NumberedImport). AtBatch import_model (import_for_c longest) base values (set records count r) (count + 1))
       (append_assoc before values (walked_value x ∷ []))
-      (batch-more import_model import_for_c base (before ++ values) records count (walked_value x) r (h.1 base before at) within says),
+      (batch-more import_model (import_for_c longest) base (before ++ values) records count (walked_value x) r (h.1 base before at) within says),
 )
 
 -- ---- steps
@@ -175,21 +175,23 @@ module _ {m : MapOfAddresses} {places : TablePlaces} {bytes : List ℕ} {steps :
       (h.passes k) (subst (λ (x : Passed). HasRisen (count_of k x) (count_of k (file_passed next)) (file_passes now k) (file_passes next k)) h.passed_is (rises k))
 
   -- an import has come, and those of its library that there is room for
-  pub library-more : (x : WalkedImport) (next last : FileImports) (q : PeImportCursor) (limit : Option ℕ) (left1 left2 : ℕ) (r : PeImport) (new : List PeImport) (end : ℕ)
-      → GivesFileWithin now (Some left) (Some (Ok x)) next limit → left1 ≡ unwrap_or limit 0 → count < length records → import_model r ≡ import_for_c (walked_value x)
-      → GivesInFile next last (Fills (set records count r) new (count + 1) end)
+  pub library-more : (x : WalkedImport) (next last : FileImports) (q : PeImportCursor) (limit : Option ℕ) (left1 left2 : ℕ) (r : PeImport) (new : List PeImport) (end : ℕ) (longest : Option ℕ)
+      → longest ≡ m.addressing.longest
+      → GivesFileWithin now (Some left) (Some (Ok x)) next limit → left1 ≡ unwrap_or limit 0 → count < length records → import_model r ≡ import_for_c longest (walked_value x)
+      → GivesInFile next last (Fills longest (set records count r) new (count + 1) end)
       → file_ahead next + left2 ≡ file_ahead last + left1 → GoesOn m places bytes q last
       → AtImports m places bytes steps start from old last q left2 (file_passed next) new end
-  library-more x next last q limit left1 left2 r new end gives is within says fills spent goes =
-      let at = batch-more import_model import_for_c old h.at.values records count (walked_value x) r h.at.held within says in
-      let filled = library-given next last (Fills (set records count r) new (count + 1) end) fills in
+  library-more x next last q limit left1 left2 r new end longest up_to gives is within says fills spent goes =
+      let value = import_for_c m.addressing.longest in
+      let at = batch-more import_model value old h.at.values records count (walked_value x) r h.at.held within (says ∙ ap (λ (n : Option ℕ). import_for_c n (walked_value x)) up_to) in
+      let filled = library-given next last (Fills m.addressing.longest (set records count r) new (count + 1) end) (subst (λ (n : Option ℕ). GivesInFile next last (Fills n (set records count r) new (count + 1) end)) up_to fills) in
       let one = limit-left left limit (file_ahead now) (file_ahead next) gives.looked in
       let counted = h.counted in
       let last_is = filled.held.0 in
       record {
         at = items-then h.at (walked_value x ∷ filled.values) last q new end
             (gives.steps.0 ∙ ap (λ (items : List (Option NumberedImport)). Some (walked_value x) ∷ items) filled.yielded)
-            (subst (λ (values : List NumberedImport). AtBatch import_model import_for_c old values new end) (append_assoc h.at.values (walked_value x ∷ []) filled.values)
+            (subst (λ (values : List NumberedImport). AtBatch import_model value old values new end) (append_assoc h.at.values (walked_value x ∷ []) filled.values)
             (filled.held.1 old (h.at.values ++ walked_value x ∷ []) at))
             (omega (arith, last_is)) goes.left;
         goes = goes;

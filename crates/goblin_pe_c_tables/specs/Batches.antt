@@ -117,7 +117,7 @@ abbrev pub import_table : MapOfAddresses → TablePlaces → List ℕ
     → Table PeImportCursor PeImport NumberedImport ImportModel
 import_table m places bytes = record {
   view = import_model;
-  value_of = import_for_c;
+  value_of = import_for_c m.addressing.longest;
   from = λ p. option_map (file_cursor_left m places.magic bytes)
       ((import_cursor m places p).value bytes);
 }
@@ -165,12 +165,12 @@ IsImportsFault m places bytes old e =
     (IsFileCursorCause m places.magic bytes) old e
 
 -- Whatever the records held up to `first`, they hold these imports after it, up to `last`.
-abbrev pub Fills : List PeImport → List PeImport → ℕ → ℕ → List NumberedImport → Type 0
-Fills old new first last values =
+abbrev pub Fills : Option ℕ → List PeImport → List PeImport → ℕ → ℕ → List NumberedImport → Type 0
+Fills longest old new first last values =
     (last ≡ first + length values)
     × ((base : List PeImport) (before : List NumberedImport)
-    → AtBatch import_model import_for_c base before old first
-    → AtBatch import_model import_for_c base (before ++ values) new last)
+    → AtBatch import_model (import_for_c longest) base before old first
+    → AtBatch import_model (import_for_c longest) base (before ++ values) new last)
 
 -- `GivesHere` of the imports of a file
 abbrev pub GivesInFile : FileImports → FileImports → (List NumberedImport → Type 0) → Type 0
@@ -196,11 +196,14 @@ exports_in m bytes p x = read_or [] (λ read. numbered_from m.addressing bytes r
 abbrev pub pointers_in : Part (ExportTables × List NumberedExport) → ℕ
 pointers_in p = read_or 0 (λ read. length read.0.export_name_pointer_table) p
 
--- a table of exports; `left` are those from a position on
-abbrev pub exports_table : {P : Type 0} → (P → List NumberedExport)
+-- a table of exports with names up to a limit; `left` are those from a position on
+abbrev pub exports_table : {P : Type 0} → Option ℕ → (P → List NumberedExport)
     → Table P PeExport NumberedExport ExportModel
-exports_table left =
-    record { view = export_model; value_of = export_for_c; from = λ p. Some (unrefused (left p)) }
+exports_table longest left = record {
+  view = export_model;
+  value_of = export_for_c longest;
+  from = λ p. Some (unrefused (left p));
+}
 
 -- A step looks at one of the name pointers from the old position up to the new one, which is past
 -- all of them at the end. Those that give no export lead nowhere.
@@ -218,7 +221,7 @@ abbrev pub GivesExportsOf : MapOfAddresses → List ℕ → ℕ → ℕ
 GivesExportsOf m bytes before after part.Refused old new batch =
     (after ≡ before) × SkipsTable old new batch
 GivesExportsOf m bytes before after p old new batch =
-    FillsNext (exports_table (exports_in m bytes p)) (after ≡ 0)
+    FillsNext (exports_table m.addressing.longest (exports_in m bytes p)) (after ≡ 0)
     (λ left. LooksAtPointers before after (pointers_in p) old.position new.position batch)
     old new batch
 
@@ -238,7 +241,7 @@ IsExportBatchFault m places bytes old e =
 abbrev pub SaysDirectory : MapOfAddresses → TablePlaces → List ℕ → DirectoryModel → Type 0
 SaysDirectory m places bytes directory =
     IsSomeAnd ((address_part m.opts m.addressing places).value bytes)
-    (λ p. directory ≡ read_or no_export_directory directory_for_c p)
+    (λ p. directory ≡ read_or no_export_directory (directory_for_c m.addressing.longest) p)
 
 -- it is refused, for another reason than the number of its name pointers
 abbrev pub IsAddressesFault : MapOfAddresses → TablePlaces → List ℕ → ErrorOf → Type 0

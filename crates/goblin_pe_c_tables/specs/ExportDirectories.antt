@@ -1,5 +1,6 @@
 -- The records of what an export directory says, and of the export address table, as definitions.
-use Rattle.std.specs.Prelude.{ℕ, ◌+◌, Bool, true, false, List, [], ◌∷◌, map, unwrap_or, is_some}
+use Rattle.std.specs.Prelude.{ℕ, ◌+◌, Bool, true, false, List, [], ◌∷◌, map, Option, unwrap_or}
+use Rattle.std.specs.Prelude.{is_some}
 use Rattle.std.specs.List.{enumerate_from}
 use Rattle.goblin_pe_export.specs.declared.export.tables as tables
 use tables.ExportAddressTableEntry.{ExportAddressTableEntry}
@@ -7,6 +8,7 @@ use tables.ExportAddressTableEntry.TheVariants as variant
 use tables.ExportDirectoryTable.{ExportDirectoryTable}
 use Rattle.goblin_pe_export.specs.ExportRecords.{ExportTables, rva_of}
 use Rattle.goblin_pe_sect.specs.Addresses.{Addressing}
+use Rattle.goblin_pe_c_headers.specs.Names.{cut_name}
 pub use Rattle.goblin_pe_c_tables.specs.declared.export_directory.PeExportAddress.{PeExportAddress}
 use Rattle.goblin_pe_c_tables.specs.declared.export_directory.PeExportDirectory.{PeExportDirectory}
 
@@ -35,17 +37,21 @@ pub record DirectoryModel : Type 0 where
   pub name : List ℕ
   pub table : ExportDirectoryTable
   pub has_name : Bool
+  pub is_name_cut : Bool
   pub is_present : Bool
   pub reserved : List ℕ
 
-abbrev pub directory_for_c : ExportTables → DirectoryModel
-directory_for_c tables = record {
-  name = unwrap_or tables.name [];
-  table = tables.export_directory_table;
-  has_name = is_some tables.name;
-  is_present = true;
-  reserved = 0 ∷ 0 ∷ 0 ∷ 0 ∷ 0 ∷ 0 ∷ [];
-}
+abbrev pub directory_for_c : Option ℕ → ExportTables → DirectoryModel
+directory_for_c longest tables =
+    let name = cut_name longest (unwrap_or tables.name []) in
+    record {
+      name = name.0;
+      table = tables.export_directory_table;
+      has_name = is_some tables.name;
+      is_name_cut = name.1;
+      is_present = true;
+      reserved = 0 ∷ 0 ∷ 0 ∷ 0 ∷ 0 ∷ [];
+    }
 
 -- zeros, if the exports are not read
 abbrev pub no_export_directory : DirectoryModel
@@ -65,8 +71,9 @@ no_export_directory = record {
     ordinal_table_rva = 0;
   };
   has_name = false;
+  is_name_cut = false;
   is_present = false;
-  reserved = 0 ∷ 0 ∷ 0 ∷ 0 ∷ 0 ∷ 0 ∷ [];
+  reserved = 0 ∷ 0 ∷ 0 ∷ 0 ∷ 0 ∷ [];
 }
 
 abbrev pub directory_model : PeExportDirectory → DirectoryModel
@@ -74,6 +81,7 @@ directory_model d = record {
   name = d.name.now;
   table = d.«record»;
   has_name = d.has_name;
+  is_name_cut = d.is_name_cut;
   is_present = d.is_present;
   reserved = d.reserved;
 }

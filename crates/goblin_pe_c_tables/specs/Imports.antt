@@ -1,11 +1,12 @@
 -- The records of imports, as definitions.
-use Rattle.std.specs.Prelude.{◌≡◌, ℕ, Bool, List, [], ◌++◌, Some, if◌then◌else◌}
+use Rattle.std.specs.Prelude.{◌≡◌, ℕ, Bool, List, [], ◌∷◌, ◌++◌, Option, Some, if◌then◌else◌}
 use Rattle.std.specs.Prelude.{◌+◌, ◌==◌, length, map, not}
 use Rattle.goblin_base.specs.{declared.error.ErrorOf.ErrorOf, Tables.Format}
 use Rattle.goblin_pe_import.specs.{ImportEntries.EntryValue, added.StepsAhead.imports_ahead}
 use Rattle.goblin_pe_import.specs.{declared.added.imports.Imports.Imports, Imports.NumberedImport}
 use Rattle.goblin_pe_import.specs.added.ImportWalks.{AreImportsOver, HasName, IsImportsCause}
 use Rattle.goblin_pe_import.specs.Passed.{Count}
+use Rattle.goblin_pe_c_headers.specs.Names.{cut_name}
 use Rattle.goblin_pe_import.specs.added.ImportWalks.{imports_bytes, imports_left, imports_map}
 use Rattle.goblin_pe_import.specs.added.ImportWalks.{passed_of, walk_passes}
 pub use Rattle.goblin_pe_c_tables.specs.declared.import.PeImport.{PeImport}
@@ -21,23 +22,29 @@ pub record ImportModel : Type 0 where
   pub hint_or_ordinal : ℕ
   pub is_by_name : Bool
   pub has_name : Bool
-  pub reserved : ℕ
+  pub is_name_cut : Bool
+  pub is_library_cut : Bool
+  pub reserved : List ℕ
 
 -- the record of an import, which is by name if its name is in the file; one by ordinal has none
-abbrev pub import_for_c : NumberedImport → ImportModel
-import_for_c x =
-    let name : List ℕ = if x.import.is_borrowed then x.import.name else [] in
+abbrev pub import_for_c : Option ℕ → NumberedImport → ImportModel
+import_for_c longest x =
+    let whole : List ℕ = if x.import.is_borrowed then x.import.name else [] in
+    let name = cut_name longest whole in
+    let library = cut_name longest x.import.dll in
     record {
-      name = name;
-      dll = x.import.dll;
+      name = name.0;
+      dll = library.0;
       iat_rva = x.import.offset;
       hint_name_rva = x.import.rva;
       library_index = x.library;
       thunk_index = x.import.slot;
       hint_or_ordinal = x.import.ordinal;
       is_by_name = x.import.is_borrowed;
-      has_name = not (length name == 0);
-      reserved = 0;
+      has_name = not (length whole == 0);
+      is_name_cut = name.1;
+      is_library_cut = library.1;
+      reserved = 0 ∷ 0 ∷ [];
     }
 
 abbrev pub import_model : PeImport → ImportModel
@@ -51,6 +58,8 @@ import_model x = record {
   hint_or_ordinal = x.hint_or_ordinal;
   is_by_name = x.is_by_name;
   has_name = x.has_name;
+  is_name_cut = x.is_name_cut;
+  is_library_cut = x.is_library_cut;
   reserved = x.reserved;
 }
 

@@ -21,6 +21,7 @@ use Rattle.goblin_pe_c_tables.specs.Batches.{batch_count, import_cursor, import_
 use Rattle.goblin_pe_c_tables.specs.Batches.{position_passes}
 use Rattle.goblin_pe_c_headers.specs.Onward.{FillsNext, IsNextFault, Table, values_before}
 use Rattle.goblin_pe_c_headers.specs.{Faults.status_of, declared.fault.PeFault.PeFault}
+use Rattle.goblin_pe_c_headers.specs.Names.{cut_name}
 
 -- a record of a library, its slice as a list
 pub record LibraryModel : Type 0 where
@@ -31,20 +32,24 @@ pub record LibraryModel : Type 0 where
   pub imports : PeImportCursor
   pub entry : ImportDirectoryEntry
   pub is_skipped : Bool
+  pub is_name_cut : Bool
   pub reserved : List ℕ
 
 -- the record of a library, by a map of addresses; its name is empty where it can't be read
 abbrev pub library_for_c : MapOfAddresses → LibraryValue → LibraryModel
-library_for_c m x = record {
-  name = unwrap_or (result_ok x.name) [];
-  name_fault = status_of x.name;
-  index = x.index;
-  offset = x.offset;
-  imports = cursor_for_c (inside_library (reads_strictly m) m.addressing x);
-  entry = x.entry;
-  is_skipped = x.is_left_out;
-  reserved = 0 ∷ 0 ∷ 0 ∷ [];
-}
+library_for_c m x =
+    let name = cut_name m.addressing.longest (unwrap_or (result_ok x.name) []) in
+    record {
+      name = name.0;
+      name_fault = status_of x.name;
+      index = x.index;
+      offset = x.offset;
+      imports = cursor_for_c (inside_library (reads_strictly m) m.addressing x);
+      entry = x.entry;
+      is_skipped = x.is_left_out;
+      is_name_cut = name.1;
+      reserved = 0 ∷ 0 ∷ [];
+    }
 
 abbrev pub library_model : PeLibrary → LibraryModel
 library_model x = record {
@@ -55,6 +60,7 @@ library_model x = record {
   imports = x.imports;
   entry = x.«record»;
   is_skipped = x.is_skipped;
+  is_name_cut = x.is_name_cut;
   reserved = x.reserved;
 }
 

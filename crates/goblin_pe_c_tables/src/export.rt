@@ -7,6 +7,7 @@ ghost use Rattle.goblin_pe_c_tables.specs.Exports.{forwarder_model};
 
 use crate::forwarder::{PeForwarder, forwarder_record, no_forwarder};
 use goblin_pe::added::WalkedExport;
+use goblin_pe_c_headers::name::cut_name;
 
 /// An export that has a name pointer.
 #[repr(C)]
@@ -28,10 +29,12 @@ pub struct PeExport<'a> {
     pub offset: usize,
     /// Whether the name can be read.
     pub has_name: bool,
+    /// Whether the name is cut.
+    pub is_name_cut: bool,
     /// Whether `rva` has a file offset.
     pub has_offset: bool,
     /// Zeros.
-    pub reserved: [u8; 6],
+    pub reserved: [u8; 5],
 }
 
 // The record of an export with this forwarder, which may be none.
@@ -40,16 +43,19 @@ pub(crate) fn export_record<'a>(
     bytes: &'a [u8],
     walked: &WalkedExport<'a>,
     forwarder: PeForwarder<'a>,
+    longest: Option<u32>,
 ) -> PeExport<'a>
     ensures { export_model result
-        ≡ export_with (walked_export walked.now) (forwarder_model forwarder.entry) }
+        ≡ export_with longest (walked_export walked.now) (forwarder_model forwarder.entry) }
 {
     let export = &walked.export;
+    let name = match export.name {
+        Some(name) => name.as_bytes(),
+        None => &bytes[..0],
+    };
+    let (name, is_name_cut) = cut_name(name, longest);
     PeExport {
-        name: match export.name {
-            Some(name) => name.as_bytes(),
-            None => &bytes[..0],
-        },
+        name,
         forwarder,
         ordinal: walked.ordinal,
         hint: walked.hint,
@@ -57,21 +63,28 @@ pub(crate) fn export_record<'a>(
         name_rva: walked.name_rva as usize,
         offset: export.offset.unwrap_or(0),
         has_name: export.name.is_some(),
+        is_name_cut,
         has_offset: export.offset.is_some(),
-        reserved: [0; 6],
+        reserved: [0; 5],
     }
 }
 
 /// Puts the record of an export of these bytes into its place. (A record that is made for both
 /// kinds at once would be cleared first for every export.)
 #[inline(always)]
-pub fn put_export<'a>(place: &mut PeExport<'a>, bytes: &'a [u8], walked: &WalkedExport<'a>)
-    ensures { export_model place.new ≡ export_for_c (walked_export walked.now) }
+pub fn put_export<'a>(
+    place: &mut PeExport<'a>,
+    bytes: &'a [u8],
+    walked: &WalkedExport<'a>,
+    longest: Option<u32>,
+)
+    ensures { export_model place.new ≡ export_for_c longest (walked_export walked.now) }
 {
     match &walked.export.reexport {
-        None => *place = export_record(bytes, walked, no_forwarder(bytes)),
+        None => *place = export_record(bytes, walked, no_forwarder(bytes), longest),
         Some(reexport) => {
-            *place = export_record(bytes, walked, forwarder_record(bytes, reexport));
+            let forwarder = forwarder_record(bytes, reexport, longest);
+            *place = export_record(bytes, walked, forwarder, longest);
         }
     }
 }

@@ -13,12 +13,14 @@ ghost use Rattle.goblin_pe_c_tables.specs.ExportDirectories.{directory_for_c, di
 ghost use Rattle.goblin_pe_c_tables.specs.ExportDirectories.{no_export_directory};
 
 use crate::batch::{Batched, at_room, skip_table};
+use crate::next::longest_in;
 use crate::places::layout_of;
 use goblin_pe::added::{Exports, Layout};
 use goblin_pe::export::{ExportAddressTableEntry as Entry, ExportDirectoryTable};
 use goblin_pe::{Part, Result, ResultOf};
 use goblin_pe_c_headers::batch::PeBatch;
 use goblin_pe_c_headers::image::PeImage;
+use goblin_pe_c_headers::name::cut_name;
 use goblin_pe_c_headers::onward::fill_onward;
 use goblin_pe_sect::address_map::{AddressMap, Finder};
 use std::alloc::Global;
@@ -52,10 +54,12 @@ pub struct PeExportDirectory<'a> {
     pub record: ExportDirectoryTable,
     /// Whether the name can be read.
     pub has_name: bool,
+    /// Whether the name is cut.
+    pub is_name_cut: bool,
     /// Whether the image has an export directory that is read. If not, all else is zeros.
     pub is_present: bool,
     /// Zeros.
-    pub reserved: [u8; 6],
+    pub reserved: [u8; 5],
 }
 
 // The record of an entry with an ordinal.
@@ -78,29 +82,37 @@ fn address_record(entry: Entry, ordinal: usize, address_map: &AddressMap) -> PeE
 }
 
 // The record of an export directory; zeros if none is read.
-fn directory_record<'a>(bytes: &'a [u8], exports: &Part<Exports<'a, '_>>) -> PeExportDirectory<'a>
+fn directory_record<'a>(
+    bytes: &'a [u8],
+    exports: &Part<Exports<'a, '_>>,
+    longest: Option<u32>,
+) -> PeExportDirectory<'a>
     ensures { directory_model result
-        ≡ read_or no_export_directory directory_for_c (part_map walked_tables exports.now) }
+        ≡ read_or no_export_directory (directory_for_c longest)
+        (part_map walked_tables exports.now) }
 {
     let Part::Read(exports) = exports else {
         return PeExportDirectory {
             name: &bytes[..0],
             record: ExportDirectoryTable::default(),
             has_name: false,
+            is_name_cut: false,
             is_present: false,
-            reserved: [0; 6],
+            reserved: [0; 5],
         };
     };
-    let name = exports.name();
+    let whole = match exports.name() {
+        Some(name) => name.as_bytes(),
+        None => &bytes[..0],
+    };
+    let (name, is_name_cut) = cut_name(whole, longest);
     PeExportDirectory {
-        name: match name {
-            Some(name) => name.as_bytes(),
-            None => &bytes[..0],
-        },
+        name,
         record: *exports.directory_table(),
-        has_name: name.is_some(),
+        has_name: exports.name().is_some(),
+        is_name_cut,
         is_present: true,
-        reserved: [0; 6],
+        reserved: [0; 5],
     }
 }
 
@@ -120,7 +132,8 @@ pub fn give_directory<'a>(
         (directory.new ≡ directory.old) result }
 {
     let layout = layout_of(alloc, image)?;
-    *directory = directory_record(image.bytes, &layout.export_addresses()?);
+    let exports = layout.export_addresses()?;
+    *directory = directory_record(image.bytes, &exports, longest_in(&layout));
     Ok(())
 }
 

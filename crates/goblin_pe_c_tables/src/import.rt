@@ -6,6 +6,7 @@ ghost use Rattle.goblin_pe_c_tables.specs.Imports.{import_for_c, import_model};
 
 use goblin_pe::added::WalkedImport;
 use goblin_pe::import::SyntheticImportLookupTableEntry as Entry;
+use goblin_pe_c_headers::name::cut_name;
 
 /// An import.
 #[repr(C)]
@@ -31,29 +32,41 @@ pub struct PeImport<'a> {
     pub is_by_name: bool,
     /// Whether it has a name: it is imported by name, and the name can be read and is not empty.
     pub has_name: bool,
-    /// Zero.
-    pub reserved: u32,
+    /// Whether the name is cut.
+    pub is_name_cut: bool,
+    /// Whether the name of the DLL is cut.
+    pub is_library_cut: bool,
+    /// Zeros.
+    pub reserved: [u8; 2],
 }
 
 /// The record of an import of these bytes.
 #[inline(always)]
-pub fn import_record<'a>(bytes: &'a [u8], import: &WalkedImport<'a>) -> PeImport<'a>
-    ensures { import_model result ≡ import_for_c (walked_value import.now) }
+pub fn import_record<'a>(
+    bytes: &'a [u8],
+    import: &WalkedImport<'a>,
+    longest: Option<u32>,
+) -> PeImport<'a>
+    ensures { import_model result ≡ import_for_c longest (walked_value import.now) }
 {
-    let (name, rva, hint_or_ordinal, is_by_name) = match &import.entry {
+    let (whole, rva, hint_or_ordinal, is_by_name) = match &import.entry {
         Entry::OrdinalNumber(ordinal) => (&bytes[..0], 0, *ordinal, false),
         Entry::HintNameTableRVA((rva, named)) => (named.name.as_bytes(), *rva, named.hint, true),
     };
+    let (name, is_name_cut) = cut_name(whole, longest);
+    let (dll, is_library_cut) = cut_name(import.dll.as_bytes(), longest);
     PeImport {
         name,
-        dll: import.dll.as_bytes(),
+        dll,
         iat_rva: import.slot_rva,
         hint_name_rva: rva as usize,
         library_index: import.library,
         thunk_index: import.slot,
         hint_or_ordinal,
         is_by_name,
-        has_name: !name.is_empty(),
-        reserved: 0,
+        has_name: !whole.is_empty(),
+        is_name_cut,
+        is_library_cut,
+        reserved: [0; 2],
     }
 }

@@ -21,6 +21,7 @@ use goblin_pe::import::ImportDirectoryEntry;
 use goblin_pe::{Result, ResultOf};
 use goblin_pe_c_headers::batch::PeBatch;
 use goblin_pe_c_headers::fault::{PeFault, fault_of, no_fault};
+use goblin_pe_c_headers::name::cut_name;
 use goblin_pe_sect::address_map::Finder;
 
 /// A DLL that the image imports from: an entry of the import directory. A DLL may have several.
@@ -43,8 +44,10 @@ pub struct PeLibrary<'a> {
     /// Whether permissive mode skips it, as it has no address table. Strict mode refuses the
     /// imports.
     pub is_skipped: bool,
+    /// Whether the name is cut.
+    pub is_name_cut: bool,
     /// Zeros.
-    pub reserved: [u8; 3],
+    pub reserved: [u8; 2],
 }
 
 // The record of a library of these bytes.
@@ -61,6 +64,7 @@ fn library_record<'a>(
         Ok(name) => (name.as_bytes(), no_fault()),
         Err(error) => (&bytes[..0], fault_of(error)),
     };
+    let (name, is_name_cut) = cut_name(name, finder.longest_name());
     PeLibrary {
         name,
         name_fault,
@@ -69,7 +73,8 @@ fn library_record<'a>(
         imports: cursor_for_c(library.inside(finder)),
         record: library.import_directory_entry,
         is_skipped: library.is_left_out,
-        reserved: [0; 3],
+        is_name_cut,
+        reserved: [0; 2],
     }
 }
 

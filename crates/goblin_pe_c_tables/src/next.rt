@@ -142,10 +142,11 @@ fn fill_here<'a, 'm, 'e, T: Bitfield<'a>>(
     records: &mut [PeImport<'a>],
     first: usize,
     end: usize,
+    longest: Option<u32>,
 ) -> usize
     requires { end ≤ length records.old }
     ensures filled { GivesHere T.format imports.old imports.new
-        (Fills records.old records.new first result) }
+        (Fills longest records.old records.new first result) }
     ensures further { first ≤ result }
     ensures within { first ≤ end → result ≤ end }
 {
@@ -157,7 +158,7 @@ fn fill_here<'a, 'm, 'e, T: Bitfield<'a>>(
         let Some(import) = ascii.next_import() else {
             break 'ascii;
         };
-        records[count] = import_record(bytes, &import);
+        records[count] = import_record(bytes, &import, longest);
         count += 1;
     }
     imports.go_on(&ascii);
@@ -173,9 +174,10 @@ fn fill_library<'a, 'm, 'e>(
     records: &mut [PeImport<'a>],
     first: usize,
     left: &mut usize,
+    longest: Option<u32>,
 ) -> usize
     ensures filled { GivesInFile imports.old imports.new
-        (Fills records.old records.new first result) }
+        (Fills longest records.old records.new first result) }
     ensures further { first ≤ result }
     ensures counted { file_ahead imports.old + left.new ≡ file_ahead imports.new + left.old }
 {
@@ -184,11 +186,18 @@ fn fill_library<'a, 'm, 'e>(
     }
     let end = end_within(records.len(), first, *left);
     let count = match imports {
-        FileImports::Narrow(imports) => fill_here(bytes, imports, records, first, end),
-        FileImports::Wide(imports) => fill_here(bytes, imports, records, first, end),
+        FileImports::Narrow(imports) => fill_here(bytes, imports, records, first, end, longest),
+        FileImports::Wide(imports) => fill_here(bytes, imports, records, first, end, longest),
     };
     *left -= count - first;
     count
+}
+
+// How many bytes of a name are read, if there is a limit.
+pub(crate) fn longest_in(layout: &Layout) -> Option<u32>
+    ensures { result ≡ (layout_map layout.now).addressing.longest }
+{
+    layout.finder().longest_name()
 }
 
 // The batch of a walk that has passed over so much.
@@ -221,6 +230,8 @@ fn fill_imports<'a, 'm, 'e>(
         × IsFileImportsCause imports.entry e × (0 < length old.records) × (new ≡ old)) }
     ensures refused { IfErr result (λ e. ¬ IsMemory e) }
 {
+    let bytes = layout.bytes();
+    let longest = longest_in(layout);
     let mut left = steps;
     let mut passed = imports.passed();
     let mut count = 0;
@@ -228,10 +239,10 @@ fn fill_imports<'a, 'm, 'e>(
         let mut limit = Some(left);
         match imports.next_within(&mut limit) {
             Some(Ok(import)) => {
-                records[count] = import_record(layout.bytes(), &import);
+                records[count] = import_record(bytes, &import, longest);
                 left = limit.unwrap_or(0);
                 passed = imports.passed();
-                count = fill_library(layout.bytes(), &mut imports, records, count + 1, &mut left);
+                count = fill_library(bytes, &mut imports, records, count + 1, &mut left, longest);
                 *position = cursor_for_c(imports.cursor());
             }
             Some(Err(error)) if count == 0 => return Err(error),
@@ -277,10 +288,11 @@ fn fill_exports<'a, 'm>(
     exports: &mut Exports<'a, 'm>,
     end: usize,
     records: &mut [PeExport<'a>],
+    longest: Option<u32>,
 ) -> usize
     ensures filled { let old = batch_at exports.old records.old in
         let new = batch_at exports.new records.new in
-        FillsFrom (exports_table exports_left)
+        FillsFrom (exports_table longest exports_left)
         ((end < pointer_count exports.old) × (end ≤ exports_position exports.new))
         (unrefused (exports_left exports.old)) old new result }
     ensures over { KeepsOver exports.old exports.new }
@@ -294,7 +306,7 @@ fn fill_exports<'a, 'm>(
         let Some(export) = exports.next_before(end) else {
             return count;
         };
-        put_export(&mut records[count], bytes, &export);
+        put_export(&mut records[count], bytes, &export, longest);
         count += 1;
         // (By the type's name, since iterators have a `position`, too.)
         let left = end.saturating_sub(Exports::position(exports));
@@ -303,7 +315,7 @@ fn fill_exports<'a, 'm>(
             let Some(export) = exports.next_ascii() else {
                 break;
             };
-            records[count] = export_record(bytes, &export, no_forwarder(bytes));
+            records[count] = export_record(bytes, &export, no_forwarder(bytes), longest);
             count += 1;
         }
     }
@@ -330,7 +342,8 @@ impl<'a> Batched<'a> for PeExport<'a> {
                 let pointers = exports.pointer_count();
                 let allowed = *steps;
                 let end = end_within(pointers, *position, allowed);
-                let count = fill_exports(layout.bytes(), &mut exports, end, records);
+                let longest = longest_in(layout);
+                let count = fill_exports(layout.bytes(), &mut exports, end, records, longest);
                 let next = exports.position();
                 let looked = next.saturating_sub(*position);
                 let left = allowed.saturating_sub(looked);

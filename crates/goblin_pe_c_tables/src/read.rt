@@ -59,7 +59,6 @@ fn fill_image<'a>(
     image.directories = directories;
     image.dos_stub_size = header.dos_stub.bytes.len();
     image.rich_header = rich_record(&header.rich_header);
-    image.reserved = 0;
 }
 
 /// Reads the header of an image: the DOS header and stub, the Rich header, the COFF and the

@@ -4,6 +4,7 @@
 ghost use Rattle.std.specs.Prelude.{◌≡◌, ◌≢◌, ◌-◌, Some, length};
 ghost use Rattle.goblin_pe_c_headers.specs.Calls.{ReadsWithout, ReportedAfter};
 ghost use Rattle.goblin_pe_c_headers.specs.{Faults.options_fault, Onward.batch_at};
+ghost use Rattle.goblin_pe_c_headers.specs.Options.{longest_of};
 ghost use Rattle.goblin_pe_c_tables.specs.Batches.{GivesAddresses, GivesBatch, GivesExports};
 ghost use Rattle.goblin_pe_c_tables.specs.Batches.{IsAddressesFault, IsExportBatchFault};
 ghost use Rattle.goblin_pe_c_tables.specs.Batches.{SaysDirectory, WalksOver};
@@ -117,7 +118,8 @@ pub extern "C" fn goblin_pe_raw_forwarder_at<'a>(
     ensures { ReportedAfter (options_fault image.now.options) result
         (forwarder.new ≡ forwarder.old)
         (ReadsWithout (forwarder_at_address image.now rva) image.now.bytes.now
-        (λ f. forwarder_model forwarder.new ≡ forwarder_for_c (Some f))
+        (λ f. forwarder_model forwarder.new
+        ≡ forwarder_for_c (longest_of image.now.options) (Some f))
         (forwarder.new ≡ forwarder.old)) }
 {
     let refusal = refused_call(&image.options);

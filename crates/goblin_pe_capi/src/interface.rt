@@ -6,15 +6,15 @@ ghost use Rattle.std.specs.Prelude.{◌≡◌};
 /// The number of this interface. A caller that declares another one has another number.
 #[unsafe(no_mangle)]
 pub extern "C" fn goblin_pe_interface() -> u32
-    ensures { result ≡ 2562394465 }
+    ensures { result ≡ 3707243749 }
 {
-    2_562_394_465
+    3_707_243_749
 }
 
 /// The same, by a name that no other interface has, with which programs in C are linked.
 #[unsafe(no_mangle)]
-pub extern "C" fn goblin_pe_interface_98bb0961() -> u32
-    ensures { result ≡ 2562394465 }
+pub extern "C" fn goblin_pe_interface_dcf80ce5() -> u32
+    ensures { result ≡ 3707243749 }
 {
-    2_562_394_465
+    3_707_243_749
 }

@@ -8,7 +8,7 @@ ghost use Rattle.goblin_pe_c_headers.specs.{Sections.ReadsSections, Words.GivesW
 ghost use Rattle.goblin_pe_c_headers.specs.Onward.{GivesOnward, no_batch, batch_at};
 ghost use Rattle.goblin_pe_c_headers.specs.RichHeaders.{GivesEntries, HeaderIsWalked, RichIsWalked};
 ghost use Rattle.goblin_pe_c_headers.specs.Symbols.{FindsTables, GivesSymbols, NamesOfText};
-ghost use Rattle.goblin_pe_c_headers.specs.Symbols.{found_tables, name_in_piece};
+ghost use Rattle.goblin_pe_c_headers.specs.Symbols.{found_tables};
 
 use goblin_pe::header::RichMetadata;
 use goblin_pe::relocation::Relocation;
@@ -76,7 +76,7 @@ pub extern "C" fn goblin_pe_raw_next_symbols<'a>(
         let new = batch_at cursor.new.index symbols.new in
         Reported result
         (ReadsWithout (found_tables image.now.coff_header) image.now.bytes.now
-        (λ t. GivesSymbols t.0 (name_in_piece (longest_of image.now.options) t.1) old new batch.new)
+        (λ t. GivesSymbols (longest_of image.now.options) t.0 t.1 old new batch.new)
         ((new ≡ old) × (batch.new ≡ no_batch))) }
     ensures same { FindsTables }
     ensures names { NamesOfText }

@@ -4,14 +4,16 @@ ghost use Rattle.std.specs.Prelude.{◌≡◌};
 ghost use Rattle.goblin_pe_c_headers.specs.Auxiliary.{AuxiliaryModel, auxiliary_kind};
 ghost use Rattle.goblin_pe_c_headers.specs.Auxiliary.{auxiliary_number};
 ghost use Rattle.goblin_pe_c_headers.specs.{Found.Puts, Images.slice_model, Symbols.string_at};
+ghost use Rattle.goblin_pe_c_headers.specs.Options.{longest_of};
 
 use goblin_pe_c_headers::auxiliary::{PeAuxiliary, read_auxiliary};
 use goblin_pe_c_headers::found::put_found;
 use goblin_pe_c_headers::image::{PeImage, PeSlice, slice_record};
 use goblin_pe_c_headers::symbol::{PeSymbol, string_at};
 
-/// Sets `text` to the text at an offset of the string table, up to a NUL or `options.longest_name`.
-/// The offset counts from the table's length field, as stored offsets do.
+/// Sets `text` to the text at an offset of the string table, up to a NUL. A text that is longer than
+/// `options.longest_name` ends with the character that passes the limit. The offset counts from the
+/// table's length field, as stored offsets do.
 ///
 /// Returns whether there is one, and it is UTF-8.
 #[unsafe(no_mangle)]
@@ -32,13 +34,15 @@ pub extern "C" fn goblin_pe_raw_string_at<'a>(
 /// `symbol.auxiliary`.
 #[unsafe(no_mangle)]
 pub extern "C" fn goblin_pe_raw_read_auxiliary<'a>(
+    image: &PeImage<'a>,
     symbol: &PeSymbol<'a>,
     auxiliary: &mut PeAuxiliary<'a>,
 ) -> u32
     ensures kind { let s = symbol.now in
         result ≡ auxiliary_number (auxiliary_kind s.record s.auxiliary.now) }
     ensures value { let s = symbol.now in
-        AuxiliaryModel (auxiliary_kind s.record s.auxiliary.now) s.auxiliary.now auxiliary.new }
+        AuxiliaryModel (longest_of image.now.options) (auxiliary_kind s.record s.auxiliary.now)
+        s.auxiliary.now auxiliary.new }
 {
-    read_auxiliary(symbol, auxiliary) as u32
+    read_auxiliary(&image.options, symbol, auxiliary) as u32
 }

@@ -1,7 +1,6 @@
 -- The symbols so far fill the records.
-use Rattle.goblin_pe_c_headers.specs.Symbols.{name_in_piece}
 use Rattle.goblin_pe_c_headers.proofs.Symbols.{IsGiving}
 use Rattle.goblin_pe_c_headers.proofs.symbol.fill_symbols_at.Given as goal
 
 abbrev pub invariant-symbols : goal.invariant-symbols
-invariant-symbols l = IsGiving l.tables.records.now (name_in_piece l.tables.longest l.tables.strings.now) l.initial.position l.initial.records l.index l.records l.count
+invariant-symbols l = IsGiving l.tables.longest l.tables.records.now l.tables.strings.now l.initial.position l.initial.records l.index l.records l.count

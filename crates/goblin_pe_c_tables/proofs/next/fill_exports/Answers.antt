@@ -24,7 +24,7 @@ ascii-preserved c =
     let long = length-set c.ascii.records c.ascii.count r in
     let room = before.2 c.ascii-test.true in (
       exports-more before.0 c.in-Some-next_ascii.export c.next_ascii.new.self r given.steps.0 given.steps.1 (omega (arith, given.further)) (omega (arith, given.further, room, c.ascii-test.true))
-          (omega (arith, c.ascii-test.true, before.3)) (c.export_record.ensures ∙ ap (export_with (walked_export c.in-Some-next_ascii.export)) (c.no_forwarder.ensures ∙ ap forwarder_for_c (sym given.unforwarded))),
+          (omega (arith, c.ascii-test.true, before.3)) (c.export_record.ensures ∙ ap (export_with c.args.longest (walked_export c.in-Some-next_ascii.export)) (c.no_forwarder.ensures ∙ ap (forwarder_for_c c.args.longest) (sym given.unforwarded))),
       omega (arith, before.1),
       λ below. omega (arith, below, room, given.further),
       omega (arith, before.3, long),

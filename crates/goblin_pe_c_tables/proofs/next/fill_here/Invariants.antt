@@ -6,7 +6,7 @@ use Rattle.goblin_pe_c_tables.proofs.next.fill_here.Given as goal
 
 abbrev pub invariant-ascii : goal.invariant-ascii
 invariant-ascii g l =
-    GivesHere g.T.Bitfield.format l.initial.imports (ascii_at l.ascii) (Fills l.initial.records l.records l.first l.count)
+    GivesHere g.T.Bitfield.format l.initial.imports (ascii_at l.ascii) (Fills l.longest l.initial.records l.records l.first l.count)
     × (l.first ≤ l.count)
     × (l.ascii.imports ≡ l.initial.imports)
     × (length l.records ≡ length l.initial.records)

@@ -23,7 +23,7 @@ imports-preserved c =
     let goes = goes-at m places bytes c.cursor_for_c.result c.cursor.result last there (c.cursor.ensures.left m places.magic bytes there) (sym c.cursor.ensures.is) c.cursor_for_c.ensures in
     rw c.passed-passed-in-Some-Ok.ensures
     (library-more c.imports.invariant x next last c.cursor_for_c.result c.next_within.new.steps c.unwrap_or-left.result c.fill_library-count.new.left c.import_record.result c.fill_library-count.new.records c.fill_library-count.result
-    is c.unwrap_or-left.ensures c.imports-test.true c.import_record.ensures filled.filled filled.counted goes)
+    c.longest_in-longest.result c.longest_in-longest.ensures is c.unwrap_or-left.ensures c.imports-test.true c.import_record.ensures filled.filled filled.counted goes)
 
 pub returns-in-Some-Err-2-clause-filled : goal.returns-in-Some-Err-2-clause-filled
 returns-in-Some-Err-2-clause-filled c =

@@ -16,7 +16,7 @@ returns-in-Read-clause-filled c =
     rw (c.at_room.ensures, c.position-next.ensures)
     (exports-given (layout_map l) (layout_places l) l.bytes.now c.in_ok-exports.field-0 c.in_ok-exports.ensures.value c.args.position.now c.args.records.now
     c.in-Read.exports c.in-Read.is walk c.args.steps.now c.saturating_sub-left.result c.from_position-exports.result c.fill_exports-count.new.exports c.end_within-end.result c.fill_exports-count.result
-    c.saturating_sub-unmapped.result _ c.fill_exports-count.new.records
+    c.saturating_sub-unmapped.result _ c.fill_exports-count.new.records c.longest_in-longest.result c.longest_in-longest.ensures
     from.left from.over from.at end.limit (omega (arith, end.within, pointers))
     (subst (λ (n : ℕ). (c.end_within-end.result ≡ n) ⊎ (c.end_within-end.result ≡ c.args.position.now + c.args.steps.now)) pointers end.whole)
     filled.filled filled.over filled.further filled.within filled.through (omega arith) (omega arith) (ap (λ (n : ℕ). nat_le n (exports_position c.fill_exports-count.new.exports)) pointers))
