@@ -3,7 +3,7 @@ import ctypes as c
 from typing import Any, Dict, List, Tuple
 
 # The number of this interface.
-INTERFACE = 0x0ebf9a3e
+INTERFACE = 0xed0a80f8
 
 
 class Slice(c.Structure):

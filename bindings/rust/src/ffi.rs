@@ -10,11 +10,11 @@ use crate::headers::{
 };
 
 /// The number of this interface.
-pub const INTERFACE: u32 = 0x0ebf_9a3e;
+pub const INTERFACE: u32 = 0xed0a_80f8;
 
 // Programs link only with a library of this interface, as no other one has this call.
 #[used]
-static NEEDS_INTERFACE: extern "C" fn() -> u32 = goblin_pe_interface_0ebf9a3e;
+static NEEDS_INTERFACE: extern "C" fn() -> u32 = goblin_pe_interface_ed0a80f8;
 
 /// Bytes of the file.
 #[repr(C)]
@@ -716,7 +716,7 @@ const _: () = {
 #[rustfmt::skip]
 unsafe extern "C" {
     pub safe fn goblin_pe_interface() -> u32;
-    safe fn goblin_pe_interface_0ebf9a3e() -> u32;
+    safe fn goblin_pe_interface_ed0a80f8() -> u32;
     pub safe fn goblin_pe_fault_string(fault: &Fault, text: &mut [u8; 256]) -> *const u8;
     pub safe fn goblin_pe_checksum<'a>(image: &Image<'a>, sum: &mut u32) -> bool;
     pub fn goblin_pe_next_exports<'a>(image: &Image<'a>, cursor: &mut ExportCursor, exports: *mut Export<'a>, room: usize, steps: &mut usize, batch: &mut Batch) -> Fault;

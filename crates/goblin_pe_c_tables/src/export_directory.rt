@@ -21,7 +21,6 @@ use goblin_pe_c_headers::batch::PeBatch;
 use goblin_pe_c_headers::image::PeImage;
 use goblin_pe_c_headers::onward::fill_onward;
 use goblin_pe_sect::address_map::{AddressMap, Finder};
-use std::alloc::Global;
 
 /// An entry of the export address table.
 #[repr(C)]
@@ -109,17 +108,13 @@ fn directory_record<'a>(bytes: &'a [u8], exports: &Part<Exports<'a, '_>>) -> PeE
 ///
 /// # Errors
 /// As [`layout_of`]; in strict mode the export directory. Nothing is then changed.
-pub fn give_directory<'a>(
-    alloc: Global,
-    image: &PeImage<'a>,
-    directory: &mut PeExportDirectory<'a>,
-) -> Result<()>
+pub fn give_directory<'a>(image: &PeImage<'a>, directory: &mut PeExportDirectory<'a>) -> Result<()>
     ensures { GivesBatch image.now
         (λ m places. SaysDirectory m places image.now.bytes.now (directory_model directory.new))
         (λ m places. IsAddressesFault m places image.now.bytes.now)
         (directory.new ≡ directory.old) result }
 {
-    let layout = layout_of(alloc, image)?;
+    let layout = layout_of(image)?;
     *directory = directory_record(image.bytes, &layout.export_addresses()?);
     Ok(())
 }

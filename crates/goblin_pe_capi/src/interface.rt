@@ -6,15 +6,15 @@ ghost use Rattle.std.specs.Prelude.{◌≡◌};
 /// The number of this interface. A caller that declares another one has another number.
 #[unsafe(no_mangle)]
 pub extern "C" fn goblin_pe_interface() -> u32
-    ensures { result ≡ 247437886 }
+    ensures { result ≡ 3976888568 }
 {
-    247_437_886
+    3_976_888_568
 }
 
 /// The same, by a name that no other interface has, with which programs in C are linked.
 #[unsafe(no_mangle)]
-pub extern "C" fn goblin_pe_interface_0ebf9a3e() -> u32
-    ensures { result ≡ 247437886 }
+pub extern "C" fn goblin_pe_interface_ed0a80f8() -> u32
+    ensures { result ≡ 3976888568 }
 {
-    247_437_886
+    3_976_888_568
 }

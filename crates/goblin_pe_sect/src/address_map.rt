@@ -29,8 +29,7 @@ use walk::find_in_records;
 #[derive(Drop)]
 pub(crate) enum Windows<'s> {
     // The section headers, with the file's front if it is mapped, the view of their windows, and
-    // the file alignment. The view is a loader's, or there are few sections, or the options or the
-    // alignment leave no window to find.
+    // the file alignment.
     Walked(MappedRecords<'s>, View, u32),
     // The index of the sections' windows in goblin's view.
     Indexed(WindowIndex),
@@ -42,10 +41,10 @@ pub(crate) enum Windows<'s> {
 /// Windows are found in one of two ways:
 ///
 /// - By an index, in goblin's view. The sections may then be dropped.
-/// - By a walk over section headers in the file. A map of section headers does this in the views of
-///   a loader, and in goblin's view if there are at most 96 of them. It also keeps the headers if
-///   there is no window to find, because the options say that addresses are offsets or the file
-///   alignment is not a power of two.
+/// - By a walk over section headers in the file. [`of_records`](AddressMap::of_records) makes such a
+///   map in the views of a loader, and in goblin's view if there are at most 96 of them, or no
+///   window to find, because the options say that addresses are offsets or the file alignment is
+///   not a power of two. [`walking`](AddressMap::walking) always makes such a map.
 #[derive(Drop)]
 pub struct AddressMap<'s> {
     pub(crate) opts: ParseOptions,

@@ -106,13 +106,31 @@ impl<'s> Windows<'s> {
 }
 
 impl<'s> AddressMap<'s> {
-    /// Prepares a map of these section headers and, if it is mapped, of the file's front after
-    /// them, with windows as long as in `view`. With the front, address 0 has no offset, because
-    /// address 0 in a table means that there is nothing.
-    ///
-    /// The map walks over the windows for each address, and takes no memory. But in goblin's view,
-    /// with more than 96 sections, it lists them and makes an index, except if `opts` says that
-    /// addresses are offsets or `file_alignment` is not a power of two.
+    /// A map of these section headers and, if it is mapped, of the file's front after them, with
+    /// windows as long as in `view`. With the front, address 0 has no offset, because address 0 in
+    /// a table means that there is nothing. The map walks over the windows for each address, and
+    /// takes no memory.
+    #[inline(always)]
+    pub fn walking(
+        records: MappedRecords<'s>,
+        view: View,
+        file_alignment: u32,
+        opts: &ParseOptions,
+    ) -> AddressMap<'s>
+        ensures made { map_of result
+            ≡ map_in opts.now (mapped_of view records.entry) file_alignment }
+        ensures walked { result.windows ≡ Walked records.entry view file_alignment }
+    {
+        AddressMap {
+            opts: *opts,
+            windows: Windows::Walked(records, view, file_alignment),
+            longest: None,
+        }
+    }
+
+    /// As [`walking`](AddressMap::walking). But in goblin's view, with more than 96 sections, the
+    /// map lists them and makes an index, except if `opts` says that addresses are offsets or
+    /// `file_alignment` is not a power of two.
     ///
     /// # Errors
     /// Only [`Error::Memory`](goblin_base::Error::Memory).
@@ -134,11 +152,10 @@ impl<'s> AddressMap<'s> {
             IfErr result (λ e. AreMany count) }
         ensures pieces { IfErr result (λ e. HasPieces opts.now.resolve_rva file_alignment) }
     {
-        let windows = if MOST_WITHOUT_INDEX < records.records.len() {
-            Windows::of_many(alloc, records, view, file_alignment, opts)?
-        } else {
-            Windows::Walked(records, view, file_alignment)
-        };
+        if records.records.len() <= MOST_WITHOUT_INDEX {
+            return Ok(AddressMap::walking(records, view, file_alignment, opts));
+        }
+        let windows = Windows::of_many(alloc, records, view, file_alignment, opts)?;
         Ok(AddressMap {
             opts: *opts,
             windows,
