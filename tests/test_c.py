@@ -153,18 +153,12 @@ int main(int argc, char **argv)
             self.need_flags("-fsanitize=thread")
             succeed([self.built(source, "-std=c11", "-pthread", "-fsanitize=thread"), "256", "1", BY_NAME, *OTHERS])
 
-    def test_each_refused_growth_of_memory_is_reported(self):
-        """A walk takes memory only above 96 sections."""
-        program = self.built(BINDINGS / "c/tests/memory.c", "-std=c11")
-        walks = ("directory", "imports", "libraries", "exports", "export_addresses", "relocation_blocks")
-        # (an import and an export directory of zeros, and a block of two zeros)
-        tables = ((0, 0x1800, 40), (1, 0x1800, 40), (5, 0x1900, 12))
-        files = {count: self.written(f"{count}.dll", images.with_parts(images.image_headers(0x2000, count, 0x2000, tables), (0x1904, b"\x0c")))
-                 for count in (96, 97)}
-        for (count, file), call in itertools.product(files.items(), (*walks, "sections", "symbols")):
-            with self.subTest(call=call, sections=count):
-                refused = int(succeed([program, call, file]))
-                self.assertEqual(refused > 0, call in walks and count > 96)
+    def test_the_library_takes_no_memory(self):
+        """Neither the archive nor the shared library names a function that would give some."""
+        for words in (["nm", "-u", library() / "libgoblin_pe.a"], ["nm", "-D", "-u", library() / "libgoblin_pe.so"]):
+            named = {it.split()[-1].split("@")[0] for it in succeed(words).splitlines() if it.startswith(" ")}
+            self.assertIn("memcpy", named)
+            self.assertFalse(named & {"malloc", "calloc", "realloc", "free", "rattle_alloc", "rattle_realloc"})
 
     def test_the_program_of_the_page(self):
         """It prints what the page says that it prints."""

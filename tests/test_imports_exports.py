@@ -659,7 +659,7 @@ class InTheHeaders(Read):
 
     def test_a_library_without_a_lookup_table(self):
         """Its descriptor has 0 as the RVA of the table: no table is there, though the headers are mapped there. The result is the
-        same with an index, which more than 96 sections have."""
+        same for more than 96 sections."""
         data, _, loader = self.views((0x200, b"\0\0"))
         self.assert_imports(loader, [GO, SEVEN])
         self.assert_imports(image(data, mapping="AS_LOADED"), [GO, SEVEN])

@@ -47,6 +47,11 @@ def opened(data):
             yield permissive, image
 
 
+def price(image):
+    """How many steps a look takes."""
+    return max(1, -(-image.section_count // 96))
+
+
 def objects():
     return [image_of(it.read_bytes(), None, "read_object")[0] for it in OBJECTS]
 
@@ -70,14 +75,13 @@ class Walks(unittest.TestCase):
                             self.assertEqual(self.walked(image, word, room), wanted)
 
     def walked(self, image, word, room):
-        """A walk without a limit: its rows, what it counts, why it ends, and how many steps it took. Those for sections above 96 are not counted,
-        because each call takes them."""
+        """A walk without a limit: its rows, what it counts, why it ends, and how many steps it took."""
         walk, steps, taken = Walk(image, word), c.c_size_t(1 << 40), 0
         for _ in range(1 << 20):
             before = steps.value
             fault = walk.call(room, steps)
             if word in COUNTED and not fault.status:
-                taken += before - steps.value - max(image.section_count - 96, 0)
+                taken += before - steps.value
             if walk.batch.is_done:
                 return walk.rows, walk.counts, (fault.status, fault.cause), taken
         raise AssertionError(f"{word} have no end")
@@ -101,14 +105,14 @@ class Walks(unittest.TestCase):
                         self.assertEqual(self.cut(image, word, each), self.cut(image, word, 1 << 40))
 
     def cut(self, image, word, each):
-        """A walk by calls with a limit of steps: its rows, what it counts, why it ends, and how many steps it took."""
+        """A walk by calls with a limit of looks: its rows, what it counts, why it ends, and how many steps it took."""
         walk, steps, taken = Walk(image, word), c.c_size_t(0), 0
         for _ in range(1 << 20):
             before = bytes(walk.cursor), len(walk.rows)
-            steps.value = given = each + max(image.section_count - 96, 0)
+            steps.value = given = each * price(image)
             fault = walk.call(5, steps)
             self.assertLessEqual(steps.value, given)
-            taken += each - steps.value
+            taken += given - steps.value
             if fault.status == STEPS:
                 self.assertEqual((bytes(walk.cursor), len(walk.rows)), before)
             elif walk.batch.is_done:
@@ -116,7 +120,7 @@ class Walks(unittest.TestCase):
         raise AssertionError(f"{word} have no end")
 
     def test_a_limit_is_not_passed(self):
-        """A call without a limit that gives the same rows takes no more steps than that."""
+        """A call without a limit that gives the same rows takes no more steps than that, or one look."""
         for index, data in enumerate(files()):
             for permissive, image in opened(data):
                 for word, limit in itertools.product(COUNTED, (1, 2, 5, 20, 100)):
@@ -126,7 +130,7 @@ class Walks(unittest.TestCase):
                     again.call(len(walk.rows), more)
                     with self.subTest(file=index, permissive=permissive, word=word, steps=limit):
                         self.assertEqual(again.rows, walk.rows)
-                        self.assertLessEqual((1 << 40) - more.value, limit)
+                        self.assertLessEqual((1 << 40) - more.value, max(limit, price(image)))
 
     def test_64_entries_of_an_address_table_are_a_step(self):
         """A table of 32,768 imports: its last piece, in which it ends, is the step of its library. In strict mode the imports come
@@ -138,6 +142,22 @@ class Walks(unittest.TestCase):
                 walk, steps = Walk(image, word), c.c_size_t(1000)
                 self.assertEqual((walk.call(2000, steps).status, len(walk.rows), steps.value, walk.batch.is_done), (0, rows, 0, False))
                 self.assertEqual(walk.call(2000, steps).status, STEPS)
+
+    def test_a_look_takes_a_step_for_each_96_sections(self):
+        """Or for part of 96. A call with steps makes one look at least, and its last look takes the steps that are left."""
+        for file in IMAGES:
+            image, _ = image_of(file.read_bytes() + bytes(1 << 14))
+            own = image.section_count
+            for word, (sections, each) in itertools.product(COUNTED, ((96, 1), (97, 2), (192, 2), (193, 3))):
+                for given in (1, 2, 3, 4, 5, 7, 100, 1 << 40):
+                    image.section_count, plain, looks = own, Walk(image, word), c.c_size_t(max(1, given // each))
+                    made = looks.value
+                    plain.call(64, looks)
+                    image.section_count, walk, steps = sections, Walk(image, word), c.c_size_t(given)
+                    walk.call(64, steps)
+                    with self.subTest(file=file.name, word=word, sections=sections, steps=given):
+                        self.assertEqual((walk.rows, bytes(walk.cursor)), (plain.rows, bytes(plain.cursor)))
+                        self.assertEqual(steps.value, max(0, given - each * (made - looks.value)))
 
     def test_without_steps_a_call_is_a_fault_and_changes_nothing(self):
         image, _ = image_of(BY_NAME.read_bytes())

@@ -114,7 +114,7 @@
    - Before the end, a call may give fewer rows than there is room for. One that counts steps may
      even give none. Only is_done says that the walk is over.
    - After a fault, is_done is true, and the numbers of the batch are 0. The cursor, the rows and the
-     steps are unchanged, so you can call again, with more steps or more memory.
+     steps are unchanged, so you can call again with more steps.
    - If a row is damaged, a call first gives the rows before it. The next call returns the fault.
    - A call with room 0 gives no row, needs no steps and does not move the cursor. It returns a
      fault if strict mode refuses the table as a whole.
@@ -131,8 +131,9 @@
    call with room returns GOBLIN_PE_STATUS_STEPS. To see the end of a table may need a step, too.
    Pass a null pointer to have no limit.
 
-   If the image has more than 96 sections, each call also uses a step for each section above 96,
-   because it has to look at all of them first.
+   If the image has more than 96 sections, each look takes one step for each 96 sections, or part of
+   96. A call with room and steps makes at least one look: its last look may take more steps than are
+   left, and leaves none. So no call passes its steps by more than one look.
 
    An address table gives no rows. It is looked at to its end before the row of its library, and
    before its imports, or in strict mode after them. So a call may use all its steps, and give no
@@ -155,50 +156,41 @@
      null and are then no limit; bytes, rows and output may be null where their length or room is
      0.
    - The processor supports x86-64-v2, and each thread has 16 KiB of stack.
-   - malloc, realloc and free belong to one allocator. No call is made from a signal handler, nor
-     in the forked child of a threaded process before exec.
 
-   Calls may run in any thread, several at once, if they share no cursor, steps or output.
+   Calls may run in any thread, several at once, if they share no cursor, steps or output. No call
+   allocates memory, keeps a state or takes a lock, so a signal handler may make calls, too.
 
    A call that returns a fault, or false, changes none of its outputs, with three exceptions: the
    batch, the memory of section_data and memory_at, and what read_partial_image fills.
 
-   Memory
-   ------
-   Calls need memory only for an image with more than 96 sections. Then read_export_directory, and
-   next_imports, _libraries, _exports, _export_addresses and _relocation_blocks make an index of the
-   sections, and free it before they return. Only these return GOBLIN_PE_STATUS_MEMORY. The index
-   has 300 bytes for each section. With 65,535 sections it costs 25 milliseconds a call, so walk
-   such an image in batches of thousands of rows.
-
    Time
    ----
-   n is the file's length. "sections" is one look at each section header. "name" is the length of
-   one name: at most n, and at most longest_name + 16. ASCII costs 0.15 nanoseconds a byte, other
-   text up to 3.
+   n is the file's length, s the number of its section headers. A look at a section header costs 2
+   nanoseconds. "name" is the length of one name: at most n, and at most longest_name + 16. ASCII
+   costs 0.15 nanoseconds a byte, other text up to 3.
 
    call                       time at most
    kind_of                    constant
    read_image                 n, and a name for each section
    read_partial_image         n, and a name for each section
    read_object                a name for each section
-   read_te                    sections
+   read_te                    s
    next_sections              a name for each row
    next_rich_entries          the rows
    next_symbols               a name for each row
    next_coff_relocations      the rows
    next_base_relocations      the rows
-   next_relocation_blocks     sections, and the rows
-   next_export_addresses      sections, and the rows
-   next_exports               sections, the image's name, two names for each step
-   next_imports               sections, the DLL's name, a name for each step
-   next_libraries             sections, a name for each step
-   read_export_directory      sections, and a name
+   next_relocation_blocks     s, and the rows
+   next_export_addresses      5 s, and s for each row
+   next_exports               for each step 4 s, at most 400, and two names; 8 s, the image's name
+   next_imports               for each step 4 s, at most 400, and a name; 8 s, the DLL's name
+   next_libraries             for each step 4 s, at most 400, and a name; 8 s
+   read_export_directory      5 s, and a name
    read_auxiliary, string_at  a name
-   find_offset                sections
-   find_rva                   sections, twice
-   memory_at, section_data    sections
-   forwarder_at               sections, and a name
+   find_offset                s
+   find_rva                   2 s
+   memory_at, section_data    s
+   forwarder_at               s, and a name
    checksum                   n
    write_*                    the bytes written
 
@@ -211,8 +203,8 @@
      is cut.
    - Dead entries cost time and give no row: without a limit 1 MiB may cost a minute. Set steps:
      100,000 need 10 to 200 milliseconds, depending on the length of the names.
-   - Each call costs up to 25 milliseconds more if the image has many sections: a million imports
-     cost 7 minutes in batches of 64, but 6 seconds in batches of 4,096. */
+   - Of next_export_addresses each row may cost a look at each section header: with 65,535 of them
+     0.1 milliseconds. Stop it when you have enough. */
 #ifndef GOBLIN_PE_H
 #define GOBLIN_PE_H
 
@@ -236,17 +228,17 @@ extern "C" {
    have different numbers. A program linked in C gets the matching library, or does not link.
    One that loads the library at run time defines GOBLIN_PE_LOADED_AT_RUN_TIME before it includes
    this header, and compares the two numbers first. */
-#define GOBLIN_PE_INTERFACE 0xdcf80ce5u
+#define GOBLIN_PE_INTERFACE 0xf16cb43eu
 uint32_t goblin_pe_interface(void);
 
 /* What follows .so. in the name of the shared library. */
-#define GOBLIN_PE_SONAME "5.dcf80ce5"
+#define GOBLIN_PE_SONAME "5.f16cb43e"
 
 /* Only a library of this interface has this call. */
-uint32_t goblin_pe_interface_dcf80ce5(void);
+uint32_t goblin_pe_interface_f16cb43e(void);
 #if defined(__GNUC__) && !defined(GOBLIN_PE_LOADED_AT_RUN_TIME)
 __attribute__((used)) static uint32_t (*const goblin_pe_needs_interface)(void) =
-    goblin_pe_interface_dcf80ce5;
+    goblin_pe_interface_f16cb43e;
 #endif
 
 /* Calls that return a fault are marked, so that a compiler warns if you drop it. */
@@ -346,8 +338,6 @@ enum goblin_pe_status {
     GOBLIN_PE_STATUS_BUFFER_TOO_SHORT = 3,
     /* A read at an offset was refused: the cause is a `goblin_pe_read_fault`. */
     GOBLIN_PE_STATUS_READ = 4,
-    /* Memory was asked for and refused. */
-    GOBLIN_PE_STATUS_MEMORY = 5,
     /* The options have an unknown mapping, `first`, or reserved bytes that are not zero. */
     GOBLIN_PE_STATUS_OPTIONS = 6,
     /* There are no steps left, and the table may have more rows. */
@@ -1153,7 +1143,7 @@ struct goblin_pe_import {
    they are read on in the file.
 
    Faults: STEPS; in strict mode damage, after the imports that come before it; READ if the file has
-   no room for the section headers; OPTIONS; MEMORY if there are more than 96 sections. */
+   no room for the section headers; OPTIONS. */
 GOBLIN_PE_MUST_USE struct goblin_pe_fault goblin_pe_next_imports(
     const struct goblin_pe_image *image, struct goblin_pe_import_cursor *cursor,
     struct goblin_pe_import *imports, size_t room, size_t *steps, struct goblin_pe_batch *batch);

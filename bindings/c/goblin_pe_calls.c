@@ -676,6 +676,14 @@ struct goblin_pe_fault goblin_pe_write_section(
         sound_section(section, &its_section), room ? out : (void *)&nowhere, room, written);
 }
 
+/* Frees a block of memory, where a proved call drops an index of sections. None makes such an index, but the compiler does
+   not see that. */
+void rattle_dealloc(void *block);
+void rattle_dealloc(void *block)
+{
+    (void)block;
+}
+
 size_t goblin_pe_raw_fault_text(const struct goblin_pe_fault *fault, uint8_t *text, size_t room);
 
 const char *goblin_pe_fault_string(const struct goblin_pe_fault *fault, char text[GOBLIN_PE_FAULT_ROOM])

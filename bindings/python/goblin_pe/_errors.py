@@ -59,7 +59,7 @@ class Table(enum.Enum):
 class PeError(ValueError):
     """A file, a table or a part of one can't be read. `str(error)` is the table, a colon, and what
     is wrong; `error.args[0]` is what is wrong alone. Errors of the same kind, cause and numbers are
-    equal. If memory is refused, MemoryError is raised in place of a PeError.
+    equal.
 
     kind: what kind of error it is.
     cause: how the file is malformed; None for other kinds.
@@ -100,7 +100,6 @@ class OutOfSteps(PeError):
 # The kind for each status of the library, and for each cause of a failed read.
 _KINDS = {1: ErrorKind.MALFORMED, 2: ErrorKind.BAD_MAGIC, 3: ErrorKind.TOO_SHORT, 7: ErrorKind.STEPS, 8: ErrorKind.KIND}
 _READS = {1: ErrorKind.BAD_OFFSET, 2: ErrorKind.TOO_BIG, 3: ErrorKind.NOT_UTF8}
-_MEMORY = 5
 
 
 def text_of(fault: Fault) -> str:
@@ -111,11 +110,9 @@ def text_of(fault: Fault) -> str:
 
 
 def error_of(fault: Fault, table: Table | None) -> PeError | None:
-    """The error that a fault says; None if it is none. MemoryError is raised for a refusal of memory."""
+    """The error that a fault says; None if it is none."""
     if not fault.status:
         return None
-    if fault.status == _MEMORY:
-        raise MemoryError
     kind = _READS.get(fault.cause) if fault.status == 4 else _KINDS.get(fault.status)
     cause = Cause(fault.cause) if kind is ErrorKind.MALFORMED and fault.cause in list(Cause) else None
     raised = OutOfSteps if kind is ErrorKind.STEPS else PeError
@@ -125,7 +122,7 @@ def error_of(fault: Fault, table: Table | None) -> PeError | None:
 def test(fault: Fault, table: Table | None) -> None:
     """Raises the error of a call, if it has failed."""
     if fault.status:
-        raise error_of(fault, table) or MemoryError  # (no name holds the error: it would keep its frames, and so the file)
+        raise error_of(fault, table) or ValueError  # (no name holds the error: it would keep its frames, and so the file)
 
 
 def steps_error(table: Table) -> OutOfSteps:

@@ -3,7 +3,7 @@ import ctypes as c
 from typing import Any, Dict, List, Tuple
 
 # The number of this interface.
-INTERFACE = 0xdcf80ce5
+INTERFACE = 0xf16cb43e
 
 
 class Slice(c.Structure):

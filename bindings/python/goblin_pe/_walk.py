@@ -88,7 +88,7 @@ class Walk(Generic[_Row]):
             records, batch = (kind.record * room)(), _records.Batch()
             fault = kind.call(image, c.byref(cursor), records, room, *([steps] if kind.counts_steps else []), c.byref(batch))
             if fault.status:
-                self._is_over = fault.status not in (5, 7)  # (with more memory or steps it goes on)
+                self._is_over = fault.status != 7  # (with more steps it goes on)
                 test(fault, kind.table)
             row, text = kind.row, Texts(self._image)
             rows = [row(it, text) for it in records[: batch.count]]

@@ -7,13 +7,13 @@ use std::{fmt, io};
 use crate::ffi;
 use crate::image::Table;
 
-// The statuses of the library, and one of the crate's own.
+// The statuses of the library, and two of the crate's own. (The library has a text for the first.)
 const MALFORMED: u32 = 1;
 const BAD_MAGIC: u32 = 2;
 const TOO_SHORT: u32 = 3;
 const READ: u32 = 4;
-const MEMORY: u32 = 5;
 const STEPS: u32 = 7;
+const MEMORY: u32 = 5;
 const PLACE: u32 = 0xFFFF_FFFF;
 
 /// Why a file, a table or a part of one can't be read.
@@ -81,7 +81,7 @@ impl Error {
     /// # let bytes = [];
     /// match Image::parse(&bytes).map_err(|error| error.kind()) {
     ///     Err(ErrorKind::Malformed(Cause::DosMagic)) => println!("no image"),
-    ///     Err(ErrorKind::Memory) => println!("try again later"),
+    ///     Err(ErrorKind::BadMagic) => println!("for another machine"),
     ///     other => println!("{other:?}"),
     /// }
     /// ```
@@ -186,7 +186,7 @@ pub enum ErrorKind {
     TooBig,
     /// The bytes at an offset are not UTF-8.
     NotUtf8,
-    /// Memory was refused.
+    /// A `Vec` or a `String` of the crate was refused memory. The library takes none.
     Memory,
     /// The budget is used up, and the walk is not over.
     Steps,

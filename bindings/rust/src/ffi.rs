@@ -10,11 +10,11 @@ use crate::headers::{
 };
 
 /// The number of this interface.
-pub const INTERFACE: u32 = 0xdcf8_0ce5;
+pub const INTERFACE: u32 = 0xf16c_b43e;
 
 // Programs link only with a library of this interface, as no other one has this call.
 #[used]
-static NEEDS_INTERFACE: extern "C" fn() -> u32 = goblin_pe_interface_dcf80ce5;
+static NEEDS_INTERFACE: extern "C" fn() -> u32 = goblin_pe_interface_f16cb43e;
 
 /// Bytes of the file.
 #[repr(C)]
@@ -734,7 +734,7 @@ const _: () = {
 #[rustfmt::skip]
 unsafe extern "C" {
     pub safe fn goblin_pe_interface() -> u32;
-    safe fn goblin_pe_interface_dcf80ce5() -> u32;
+    safe fn goblin_pe_interface_f16cb43e() -> u32;
     pub safe fn goblin_pe_fault_string(fault: &Fault, text: &mut [u8; 256]) -> *const u8;
     pub safe fn goblin_pe_checksum<'a>(image: &Image<'a>, sum: &mut u32) -> bool;
     pub fn goblin_pe_next_exports<'a>(image: &Image<'a>, cursor: &mut ExportCursor, exports: *mut Export<'a>, room: usize, steps: &mut usize, batch: &mut Batch) -> Fault;

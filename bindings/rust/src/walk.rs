@@ -107,10 +107,6 @@ impl<'a, 'b, T: Row<'a>> Walk<'a, 'b, T> {
             let read = self.read();
             self.has_run_out = read.is_err_and(|it| it.kind() == ErrorKind::Steps);
             self.is_over = !self.has_run_out && read.unwrap_or(true);
-            if self.has_run_out {
-                // (some may be left, but too few for an image with many sections)
-                self.budget.count_down(0);
-            }
             read?;
         }
         Ok(true)

@@ -320,24 +320,33 @@ fn walks_inside_a_walk_share_its_steps() -> Result<(), Error> {
     Ok(())
 }
 
-// Each call of the library needs a step for each section above 96, too.
+// A look takes a step for each 96 sections, or part of 96. One that has fewer steps takes these.
 #[test]
-fn too_few_steps_for_many_sections_are_used_up() -> Result<(), Error> {
+fn looks_in_many_sections_take_more_steps() -> Result<(), Error> {
     let mut bytes = sample("imports_by_name_x64.dll");
+    let walked = |image: &Image| -> Result<(usize, usize), Error> {
+        let budget = Budget::default();
+        let count = image.imports(&budget).map(|it| it.map(|_| 1)).sum::<Result<usize, Error>>()?;
+        Ok((count, Budget::default().left() - budget.left()))
+    };
+    let (count, looks) = walked(&Image::read(&bytes, Options::permissive())?)?;
     let signature = Image::parse(&bytes)?.dos_header().pe_pointer as usize;
     bytes[signature + 7] = 0xFF;
     bytes.resize(1 << 16, 0);
     let (image, _) = Image::read_partial(&bytes, Options::permissive());
-    let budget = Budget::default();
-    let mut walk = image.imports(&budget);
-    for _ in 0..3 {
-        budget.set(100);
-        let kind = walk.next().and_then(Result::err).map(|it| it.kind());
-        assert_eq!((kind, budget.left()), (Some(ErrorKind::Steps), 0));
-        assert!(walk.next().is_none());
+    let price = image.sections().len().div_ceil(96);
+    assert!(price > 10);
+    assert_eq!(walked(&image)?, (count, looks * price));
+    let (budget, mut stops) = (Budget::steps(1), 0);
+    let (mut walk, mut found) = (image.imports(&budget), 0);
+    while let Some(it) = walk.next() {
+        if it.map_err(|error| error.kind()).map(|_| found += 1) == Err(ErrorKind::Steps) {
+            assert_eq!(budget.left(), 0);
+            budget.set(1);
+            stops += 1;
+        }
     }
-    budget.set(10_000);
-    assert!(walk.next().is_some_and(|it| it.is_ok()));
+    assert!(found == count && stops + 1 >= looks);
     Ok(())
 }
 

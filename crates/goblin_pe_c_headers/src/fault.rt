@@ -18,6 +18,9 @@ use goblin_base::{Cause, Error, ReadFault, Result};
 use std::alloc::AllocError;
 use std::fmt::InlineText;
 
+// The number of a refusal of memory. It is no status, because no call takes memory.
+const REFUSED_MEMORY: u32 = 5;
+
 fn item_at<T: Copy>(table: &[T], index: u32) -> Option<T>
     ensures { result ≡ slice_get table.now index }
 {
@@ -38,8 +41,6 @@ pub enum Status {
     BufferTooShort = 3,
     /// A read at an offset was refused: the cause is a [`ReadFault`](ReadRefusal).
     Read = 4,
-    /// Memory was asked for and refused.
-    Memory = 5,
     /// The options have an unknown mapping, `first`, or reserved bytes that are not zero.
     Options = 6,
     /// There are no steps left, and the table may have more rows.
@@ -311,7 +312,7 @@ pub fn fault_of(error: &Error) -> PeFault
             fault(status, word_number(what), *count as u64, 0)
         }
         Error::Read(refused) => fault(Status::Read as u32, read_number(refused), 0, 0),
-        Error::Memory(_) => fault(Status::Memory as u32, 0, 0, 0),
+        Error::Memory(_) => fault(REFUSED_MEMORY, 0, 0, 0),
     }
 }
 

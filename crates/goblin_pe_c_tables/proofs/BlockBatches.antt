@@ -1,17 +1,13 @@
 -- A loop that fills records with the blocks of a directory from an offset on.
-use Rattle.std.proofs.Common.{◌≡◌, ◌≢◌, ◌⊎◌, ℕ, ◌+◌, ◌-◌, ◌<◌, Bool, true, false, cond, nat_lt, IfErr, ◌≤◌, List, [], ◌∷◌, ◌++◌, length, set, take, ap, refl, subst, sym, arith, ◌∙◌, inl, inr, zero, suc, MatchResult, sum_by, unwrap_or, Option, None, Some, Result, Ok, Err, length-take, option_map}
+use Rattle.std.proofs.Common.{◌≡◌, ◌≢◌, ◌⊎◌, ℕ, ◌+◌, ◌-◌, ◌<◌, Bool, true, false, cond, nat_lt, ◌≤◌, List, [], ◌∷◌, ◌++◌, length, set, take, ap, refl, subst, sym, arith, ◌∙◌, inl, inr, zero, suc, MatchResult, sum_by, unwrap_or, Option, None, Some, Result, Ok, Err, length-take, option_map}
 use Rattle.std.proofs.{lemmas.Bool.cases_lt, lemmas.List.Sums.sum_by_push}
 use Rattle.goblin_base.specs.{declared.error.ErrorOf.ErrorOf, Reading.Reads}
-use Rattle.goblin_base.specs.declared.endian.Endian.TheVariants.{Little}
-use Rattle.goblin_base.specs.declared.error.CauseOf.TheVariants.{BlockSize}
-use Rattle.goblin_base.specs.{declared.error.ErrorOf.TheVariants.Malformed, Answers.IsMemory}
-use Rattle.goblin_base.specs.Bytes.{number, slice_at}
 use Rattle.goblin_pe_sect.specs.declared.relocation.base.RelocationBlock.{RelocationBlock}
 use Rattle.goblin_pe_sect.specs.declared.relocation.base.RelocationData.{RelocationData}
 use Rattle.goblin_pe_sect.specs.{Addresses.MapOfAddresses, Options.is_strict}
 use Rattle.goblin_pe_sect.specs.AddressReadings.{relocation_data}
 use Rattle.goblin_pe_sect.specs.declared.data_directories.DataDirectory.{DataDirectory}
-use Rattle.goblin_pe_sect.specs.BaseRelocations.{Block, FindsItem, block_at, block_items, block_value, first_items, relocation_bytes, then_items, with_head, with_words}
+use Rattle.goblin_pe_sect.specs.BaseRelocations.{Block, FindsItem, block_at, block_items, block_value, first_items, relocation_bytes, then_items}
 use Rattle.goblin_pe.specs.Whole.{TablePlaces, directory_at, offset_in, part_at, part_map, part_of, relocation_part}
 use Rattle.goblin_base.proofs.{Numbers.slice_at-some, RecordRoundTrip.length-slice}
 use Rattle.goblin_base.proofs.InMemory.{no_zeros, part_inside, part_past}
@@ -24,24 +20,6 @@ use Rattle.goblin_pe_c_tables.specs.declared.block.PeRelocationBlock.{PeRelocati
 use Rattle.goblin_pe_c_headers.specs.Onward.{CountsRows, IsRefusedNext, values_before, Batch, batch_at, rows_given}
 use Rattle.goblin_pe_c_tables.specs.Batches.{GivesBlocksIn, GivesBlocks, IsBlockCause, IsBlocksFault, SkipsTable, at_room, block_for_c, block_table, blocks_from, placed, blocks_begin}
 use Rattle.goblin_pe_c_headers.proofs.Batches.{AtItems, items-end, items-fault, items-full, items-more, items-refused, items-start, items-stay, items-taken, items-then, done-end, done-full, done-refused, none-given}
-
--- ---- a refusal is never Memory
-
-abbrev IsOther : Result Block ErrorOf → Type 0
-IsOther r = IfErr r (λ e. ¬ IsMemory e)
-
-head-other : (directory : List ℕ) (p : ℕ) (head : Option (List ℕ)) → IsOther (with_head directory p head)
-head-other directory p None = λ h. h
-head-other directory p (Some head) = by (nat_lt (number Little 4 head 4) 8) (slice_at directory p (number Little 4 head 4 - 8))
-  where
-    by : (few : Bool) (words : Option (List ℕ)) → IsOther (cond few (Err (Malformed (BlockSize (number Little 4 head 4)))) (with_words head p words))
-    by true words = λ h. h
-    by false None = λ h. h
-    by false (Some words) = tt
-
-block-other : (directory : List ℕ) (p : ℕ) → IsOther (block_at directory p)
-unfolding block_at
-block-other directory p = head-other directory (p + 8) (slice_at directory p 8)
 
 -- why no block comes
 tested-cause : (t : Bool) (items : ℕ → List (Result Block ErrorOf)) (p : ℕ) (r : Result Block ErrorOf) (e : ErrorOf)
@@ -58,9 +36,6 @@ first-cause (suc n) directory p e is =
 
 block-cause : (directory : List ℕ) (p : ℕ) (e : ErrorOf) → FindsItem directory p (Some (Err e)) → block_at directory p ≡ Err e
 block-cause directory p e is = first-cause (length directory - p) directory p e is
-
-pub item-other : (directory : List ℕ) (p : ℕ) (e : ErrorOf) → FindsItem directory p (Some (Err e)) → ¬ IsMemory e
-item-other directory p e is = subst IsOther (block-cause directory p e is) (block-other directory p)
 
 -- ---- the loop
 

@@ -4,7 +4,7 @@ use Rattle.std.specs.Prelude.{not, ◌+◌, ◌-◌, ◌++◌, take, length, max
 use Rattle.std.specs.Prelude.{option_map, Result, Ok, Err, IsSomeAnd, sum_by, unwrap_or, ◌^◌}
 use Rattle.std.specs.Prelude.{if◌then◌else◌}
 use Rattle.std.specs.{Bool.then_some, Int.from_bool}
-use Rattle.goblin_base.specs.{declared.error.ErrorOf.ErrorOf, Answers.FirstFault, Answers.IsMemory}
+use Rattle.goblin_base.specs.{declared.error.ErrorOf.ErrorOf, Answers.FirstFault}
 use Rattle.goblin_base.specs.Reading.{IsRefused, Reading}
 use Rattle.goblin_pe_sect.specs.BaseRelocations.{Block, block_at, block_items}
 use Rattle.goblin_pe_import.specs.ImportLookup.{entries_32, entries_64}
@@ -35,7 +35,7 @@ pub use Rattle.goblin_pe_c_tables.specs.declared.next.PeImportCursor.{PeImportCu
 use Rattle.goblin_pe_c_tables.specs.ExportDirectories.{DirectoryModel, addresses_for_c}
 use Rattle.goblin_pe_c_tables.specs.ExportDirectories.{directory_for_c, no_export_directory}
 use Rattle.goblin_pe_c_tables.specs.Imports.{GivesHere, ImportModel, import_for_c, import_model}
-use Rattle.goblin_pe_c_tables.specs.Places.{TakesIndexAt, map_at, places_from_c}
+use Rattle.goblin_pe_c_tables.specs.Places.{map_at, places_from_c}
 use Rattle.goblin_pe_c_headers.specs.Places.{placed_sections, image_places}
 use Rattle.goblin_pe_c_headers.specs.{Items.without_causes, declared.batch.PeBatch.PeBatch}
 use Rattle.goblin_pe_c_headers.specs.declared.fault.PeFault.{PeFault}
@@ -324,7 +324,7 @@ IsBlocksFault m places bytes old e =
 -- ---- a call
 
 -- A call has given what comes next of an image; or its section headers are not there, or what comes
--- next is refused, or memory for an index of many sections, and everything is unchanged.
+-- next is refused, and everything is unchanged.
 abbrev pub GivesBatch : PeImage
     → (MapOfAddresses → TablePlaces → Type 0)
     → (MapOfAddresses → TablePlaces → ErrorOf → Type 0) → Type 0 → Result Unit ErrorOf → Type 0
@@ -335,10 +335,8 @@ GivesBatch image Gives IsFault Left (Ok x) =
 GivesBatch image Gives IsFault Left (Err e) =
     let p = image_places image in
     let sections = placed_sections p in
-    (¬ IsMemory e
-    → FirstFault (sections.value image.bytes.now) (sections.IsCause image.bytes.now)
-    (λ sections. IsFault (map_at image.options p sections) (places_from_c p)) e)
-    × (IsMemory e → TakesIndexAt p image.bytes.now)
+    FirstFault (sections.value image.bytes.now) (sections.IsCause image.bytes.now)
+    (λ sections. IsFault (map_at image.options p sections) (places_from_c p)) e
     × Left
 
 -- A call has given the records of a table that come next, and how many they are; or it is refused,

@@ -1,6 +1,6 @@
 -- Where the sections and the tables of a file lie, as the record that a caller keeps.
-use Rattle.std.specs.Prelude.{◌≡◌, ℕ, Bool, List, length, Some, IsSomeAnd}
-use Rattle.goblin_pe_sect.specs.Addresses.{AreMany, MapOfAddresses, map_in, with_longest}
+use Rattle.std.specs.Prelude.{◌≡◌, ℕ, Bool, List, Some, IsSomeAnd}
+use Rattle.goblin_pe_sect.specs.Addresses.{MapOfAddresses, map_in, with_longest}
 use Rattle.goblin_pe_sect.specs.{Options.front_of, SectionTable.Section}
 use Rattle.goblin_pe_head.specs.PeHeader.{PeHeader}
 use Rattle.goblin_pe.specs.Whole.{TablePlaces, mapped_in, places_in}
@@ -42,11 +42,6 @@ map_at o p sections =
     (map_in (options_at o p.file_alignment)
     (record { sections = sections; view = view; front = front_of view p.size_of_headers })
     p.file_alignment)
-
--- memory is taken for an index: there are more than 96 sections
-abbrev pub TakesIndexAt : PePlaces → List ℕ → Type 0
-TakesIndexAt p bytes =
-    IsSomeAnd ((placed_sections p).value bytes) (λ sections. AreMany (length sections))
 
 -- how addresses of a file with this header and these sections are mapped, in the view of the
 -- options, by its own file alignment

@@ -1,28 +1,26 @@
 //! A table in batches: as many of its records as there is room for, from where a caller left off.
 
-ghost use Rattle.std.specs.Prelude.{◌≡◌, ◌≢◌, ◌-◌, IfErr, MatchResult, OnErr, ℕ, length};
-ghost use Rattle.goblin_base.specs.Answers.{IsMemory};
+ghost use Rattle.std.specs.Prelude.{◌≡◌, ◌≢◌, MatchResult, OnErr, ℕ};
 ghost use Rattle.goblin_pe.specs.added.Layouts.{layout_bytes, layout_map, layout_places};
 ghost use Rattle.goblin_pe_c_tables.specs.Batches.{SaysBatch, SaysRefused, WalksOver, after_skip};
 ghost use Rattle.goblin_pe_c_tables.specs.Batches.{at_room, skip_batch};
 ghost use Rattle.goblin_pe_c_headers.specs.Onward.{batch_at};
-ghost use Rattle.goblin_pe_c_tables.specs.Steps.{section_steps};
+ghost use Rattle.goblin_pe_c_tables.specs.Steps.{SpendsSteps};
 
 use crate::places::layout_of;
-use crate::steps::section_steps;
+use crate::steps::{looks_for, steps_after};
 use goblin_pe::ResultOf;
 use goblin_pe::added::Layout;
 use goblin_pe_c_headers::batch::{PeBatch, batch_of, ended};
 use goblin_pe_c_headers::fault::{PeFault, fault_of, no_fault};
 use goblin_pe_c_headers::image::PeImage;
-use std::alloc::Global;
 
 /// A record of a table that comes in batches.
 pub trait Batched<'a>: Sized {
     /// Where the next batch begins.
     type Position;
 
-    /// How many steps there were and are left, what a batch holds, as its caller passes it and as
+    /// How many looks there may be and are left, what a batch holds, as its caller passes it and as
     /// it is filled, where the next one begins, and what is said of it.
     ghost gives: { ℕ → ℕ → SaysBatch Self.Position Self };
 
@@ -31,7 +29,7 @@ pub trait Batched<'a>: Sized {
 
     /// Fills records with those of a file that come next, as far as there is room, leaves in
     /// `position` where the others come, and answers what it did. A table whose entries may give no
-    /// record takes steps. If it is refused, all stays.
+    /// record takes a step for each look. If it is refused, all stays.
     fn next<'e>(
         layout: &Layout<'a>,
         position: &mut Self::Position,
@@ -45,8 +43,7 @@ pub trait Batched<'a>: Sized {
             let new = batch_at position.new records.new in
             MatchResult result (gives steps.old steps.new m places bytes old new)
             (λ e. is_fault m places bytes old e × (new ≡ old)) }
-        ensures kept { OnErr result (steps.new ≡ steps.old) }
-        ensures refused { IfErr result (λ e. ¬ IsMemory e) };
+        ensures kept { OnErr result (steps.new ≡ steps.old) };
 }
 
 // What a call says that gave `count` records: without room it does not say that it is done.
@@ -72,12 +69,10 @@ pub(crate) fn skip_table(position: &mut usize, room: usize) -> PeBatch
 
 /// Fills `records` with those of an image that come next, as many as there is room for, says in
 /// `batch` what it did, and leaves in `position` where the next call goes on. A table that takes
-/// steps takes no more looks than there are steps. With a fault for `refusal` the call is refused
-/// by that.
+/// steps makes as many looks as they allow. With a fault for `refusal` the call is refused by that.
 ///
 /// After a fault only `batch` is changed.
 pub fn walk<'a, T: Batched<'a>>(
-    alloc: Global,
     image: &PeImage<'a>,
     refusal: PeFault,
     position: &mut T::Position,
@@ -87,24 +82,23 @@ pub fn walk<'a, T: Batched<'a>>(
 ) -> PeFault
     ensures given { let old = batch_at position.old records.old in
         let new = batch_at position.new records.new in
-        let allowed = steps.old - section_steps image.now (length records.old) in
-        WalksOver refusal result image.now (T.gives allowed steps.new) T.is_fault old new
-        batch.new }
+        SpendsSteps image.now steps.old steps.new (λ looks left.
+        WalksOver refusal result image.now (T.gives looks left) T.is_fault old new batch.new) }
     ensures kept { result.status ≢ 0 → steps.new ≡ steps.old }
 {
     *batch = ended(0);
     if refusal.status != 0 {
         return refusal;
     }
-    let layout = match layout_of(alloc, image) {
+    let layout = match layout_of(image) {
         Ok(layout) => layout,
         Err(error) => return fault_of(&error),
     };
-    let mut left = steps.saturating_sub(section_steps(image, records.len()));
+    let mut left = looks_for(image, *steps);
     match T::next(&layout, position, &mut left, records) {
         Ok(given) => {
             *batch = given;
-            *steps = left;
+            *steps = steps_after(image, *steps, left);
             no_fault()
         }
         Err(error) => fault_of(&error),

@@ -1,7 +1,6 @@
 //! The base relocation blocks of an image, in batches.
 
-ghost use Rattle.std.specs.Prelude.{◌≡◌, ◌+◌, ◌<◌, ◌≤◌, ◌^◌, IfErr, MatchResult, length};
-ghost use Rattle.goblin_base.specs.Answers.{IsMemory};
+ghost use Rattle.std.specs.Prelude.{◌≡◌, ◌+◌, ◌<◌, ◌≤◌, ◌^◌, MatchResult, length};
 ghost use Rattle.goblin_pe_sect.specs.BaseRelocations.{block_value, relocation_bytes};
 ghost use Rattle.goblin_pe.specs.declared.whole.Part.TheVariants.{Read};
 ghost use Rattle.goblin_pe_c_tables.specs.Batches.{GivesBlocks, GivesBlocksIn, IsBlockCause};
@@ -58,13 +57,12 @@ fn fill_blocks<'a, 'e>(
     records: &mut [PeRelocationBlock],
 ) -> ResultOf<'e, PeBatch>
     requires { begin + length (relocation_bytes relocations.now) ≤ length bytes.now }
-    ensures filled { let p = Read (relocation_bytes relocations.now) in
+    ensures { let p = Read (relocation_bytes relocations.now) in
         let old = batch_at position.old records.old in
         let new = batch_at position.new records.new in
         MatchResult result (GivesBlocksIn begin p old new)
         (λ e. IsRefusedNext (blocks_from begin p position.old) × IsBlockCause position.old p e
         × (0 < length old.records) × (new ≡ old)) }
-    ensures refused { IfErr result (λ e. ¬ IsMemory e) }
 {
     let mut count = 0;
     let mut offset = *position; // (a place behind a pointer is stored for each block)

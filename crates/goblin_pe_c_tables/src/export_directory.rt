@@ -23,7 +23,6 @@ use goblin_pe_c_headers::image::PeImage;
 use goblin_pe_c_headers::name::cut_name;
 use goblin_pe_c_headers::onward::fill_onward;
 use goblin_pe_sect::address_map::{AddressMap, Finder};
-use std::alloc::Global;
 
 /// An entry of the export address table.
 #[repr(C)]
@@ -121,17 +120,13 @@ fn directory_record<'a>(
 ///
 /// # Errors
 /// As [`layout_of`]; in strict mode the export directory. Nothing is then changed.
-pub fn give_directory<'a>(
-    alloc: Global,
-    image: &PeImage<'a>,
-    directory: &mut PeExportDirectory<'a>,
-) -> Result<()>
+pub fn give_directory<'a>(image: &PeImage<'a>, directory: &mut PeExportDirectory<'a>) -> Result<()>
     ensures { GivesBatch image.now
         (λ m places. SaysDirectory m places image.now.bytes.now (directory_model directory.new))
         (λ m places. IsAddressesFault m places image.now.bytes.now)
         (directory.new ≡ directory.old) result }
 {
-    let layout = layout_of(alloc, image)?;
+    let layout = layout_of(image)?;
     let exports = layout.export_addresses()?;
     *directory = directory_record(image.bytes, &exports, longest_in(&layout));
     Ok(())

@@ -1,7 +1,6 @@
 //! The records of libraries, in batches.
 
-ghost use Rattle.std.specs.Prelude.{◌≡◌, ◌<◌, IfErr, MatchResult, Some, length};
-ghost use Rattle.goblin_base.specs.Answers.{IsMemory};
+ghost use Rattle.std.specs.Prelude.{◌≡◌, ◌<◌, MatchResult, Some, length};
 ghost use Rattle.goblin_pe_sect.specs.Addresses.{map_of};
 ghost use Rattle.goblin_pe.specs.added.Layouts.{layout_bytes, layout_map, layout_places};
 ghost use Rattle.goblin_pe_import.specs.added.Libraries.{AreLibrariesOver, IsLibrariesCause};
@@ -94,7 +93,7 @@ fn fill_libraries<'a>(
         (import_cursor m (layout_places layout.now) position.old).value (layout_bytes layout.now)
         ≡ Some (libraries_cursor libraries) }
     requires fresh { libraries_passed libraries ≡ nothing_passed }
-    ensures filled { let m = layout_map layout.now in
+    ensures { let m = layout_map layout.now in
         let old = batch_at position.old records.old in
         let new = batch_at position.new records.new in
         let places = layout_places layout.now in
@@ -102,7 +101,6 @@ fn fill_libraries<'a>(
         MatchResult result (λ r. GivesLibraries steps r.1 m places bytes old new r.0)
         (λ e. IsRefusedNext (libraries_left libraries.entry) × IsLibrariesCause libraries.entry e
         × (0 < length old.records) × (new ≡ old)) }
-    ensures refused { IfErr result (λ e. ¬ IsMemory e) }
 {
     let mut finder = layout.finder();
     let mut left = steps;

@@ -1,7 +1,7 @@
 //! Imports and exports in batches.
 
-ghost use Rattle.std.specs.Prelude.{◌≡◌, ◌⊎◌, ◌+◌, ◌<◌, ◌≤◌, IfErr, MatchResult, length, max, min};
-ghost use Rattle.goblin_base.specs.{Answers.IsMemory, Reading.Reads};
+ghost use Rattle.std.specs.Prelude.{◌≡◌, ◌⊎◌, ◌+◌, ◌<◌, ◌≤◌, MatchResult, length, max, min};
+ghost use Rattle.goblin_base.specs.Reading.{Reads};
 ghost use Rattle.goblin_pe.specs.added.Layouts.{file_ahead, IsFileImportsCause, file_imports_left};
 ghost use Rattle.goblin_pe.specs.added.Layouts.{layout_map, layout_bytes, layout_places};
 ghost use Rattle.goblin_pe.specs.added.Layouts.{file_passed};
@@ -220,7 +220,7 @@ fn fill_imports<'a, 'm, 'e>(
     requires goes { let m = layout_map layout.now in
         GoesOn m (layout_places layout.now) (layout_bytes layout.now) position.old imports }
     requires fresh { file_passed imports ≡ nothing_passed }
-    ensures filled { let m = layout_map layout.now in
+    ensures { let m = layout_map layout.now in
         let places = layout_places layout.now in
         let bytes = layout_bytes layout.now in
         let old = batch_at position.old records.old in
@@ -228,7 +228,6 @@ fn fill_imports<'a, 'm, 'e>(
         MatchResult result (λ r. GivesImports steps r.1 m places bytes old new r.0)
         (λ e. IsRefusedNext (file_imports_left imports.entry)
         × IsFileImportsCause imports.entry e × (0 < length old.records) × (new ≡ old)) }
-    ensures refused { IfErr result (λ e. ¬ IsMemory e) }
 {
     let bytes = layout.bytes();
     let longest = longest_in(layout);

@@ -1,11 +1,11 @@
 //! What all tables of an image are read by.
 
-ghost use Rattle.std.specs.Prelude.{◌≡◌, ◌<◌, IfErr, IfOk};
-ghost use Rattle.goblin_base.specs.{Answers.IsMemory, Reading.ReadsOrMemory};
+ghost use Rattle.std.specs.Prelude.{◌≡◌, ◌<◌, IfOk};
+ghost use Rattle.goblin_base.specs.Reading.{Reads};
 ghost use Rattle.goblin_pe.specs.added.Layouts.{layout_bytes, layout_map, layout_places};
 ghost use Rattle.goblin_pe.specs.added.Layouts.{layout_sections};
 ghost use Rattle.goblin_pe.specs.Whole.{table_places};
-ghost use Rattle.goblin_pe_c_tables.specs.Places.{TakesIndexAt, map_at, places_from_c};
+ghost use Rattle.goblin_pe_c_tables.specs.Places.{map_at, places_from_c};
 ghost use Rattle.goblin_pe_c_headers.specs.Places.{image_places, placed_sections};
 
 use goblin_pe::added::Layout;
@@ -14,7 +14,6 @@ use goblin_pe::{Places, ResultOf};
 use goblin_pe_c_headers::image::{PeImage, places_of};
 use goblin_pe_c_headers::options::{longest_of, options_at, view_of};
 use goblin_pe_c_headers::places::{PePlaces, section_records};
-use std::alloc::Global;
 
 // Where the tables lie by a record.
 #[inline(always)]
@@ -34,18 +33,16 @@ fn places_from_c(places: &PePlaces) -> Places
 ///
 /// # Errors
 /// [`Error::Read`](goblin_pe::Error::Read) where there are sections and the file is too short for
-/// their records; [`Error::Memory`](goblin_pe::Error::Memory) only of more than 96 sections.
+/// their records.
 #[inline(always)]
-pub fn layout_of<'a, 'e>(alloc: Global, image: &PeImage<'a>) -> ResultOf<'e, Layout<'a>>
+pub fn layout_of<'a, 'e>(image: &PeImage<'a>) -> ResultOf<'e, Layout<'a>>
     ensures value { let places = image_places image.now in
-        ReadsOrMemory layout_sections result (placed_sections places) image.now.bytes.now }
+        Reads layout_sections result (placed_sections places) image.now.bytes.now }
     ensures over { IfOk result (λ l. layout_bytes l ≡ image.now.bytes.now) }
     ensures placed { let places = image_places image.now in
         IfOk result (λ l. layout_places l ≡ places_from_c places) }
     ensures mapped { let places = image_places image.now in
         IfOk result (λ l. layout_map l ≡ map_at image.now.options places (layout_sections l)) }
-    ensures grown { let places = image_places image.now in
-        IfErr result (λ e. IsMemory e → TakesIndexAt places image.now.bytes.now) }
 {
     let places = places_of(image);
     let records = section_records(image.bytes, &places)?;
@@ -54,7 +51,7 @@ pub fn layout_of<'a, 'e>(alloc: Global, image: &PeImage<'a>) -> ResultOf<'e, Lay
     let mapped = MappedRecords { records, front };
     let alignment = places.file_alignment;
     let opts = options_at(&image.options, alignment);
-    let mut address_map = AddressMap::of_records(alloc, mapped, view, alignment, &opts)?;
+    let mut address_map = AddressMap::walking(mapped, view, alignment, &opts);
     address_map.set_longest_name(longest_of(&image.options));
     let places = places_from_c(&places_of(image));
     Ok(Layout::by(image.bytes, places, records, address_map))

@@ -1,13 +1,14 @@
 //! The steps of a call.
 
 ghost use Rattle.std.specs.Prelude.{◌≡◌};
-ghost use Rattle.goblin_pe_c_tables.specs.Steps.{or_fault, section_steps, steps_fault, walk_fault};
+ghost use Rattle.goblin_pe_c_tables.specs.Steps.{look_price, looks_for, or_fault, steps_after};
+ghost use Rattle.goblin_pe_c_tables.specs.Steps.{steps_fault, walk_fault};
 
 use goblin_pe_c_headers::fault::{PeFault, no_fault, out_of_steps, refused_call};
 use goblin_pe_c_headers::image::PeImage;
 
-// So many sections are looked at without a step.
-const FREE_SECTIONS: usize = 96;
+// A look takes one step for each of these.
+const SECTIONS_FOR_A_STEP: usize = 96;
 
 /// The first of two faults, if there is one.
 pub(crate) fn or_fault(first: PeFault, second: PeFault) -> PeFault
@@ -16,24 +17,36 @@ pub(crate) fn or_fault(first: PeFault, second: PeFault) -> PeFault
     if first.status == 0 { second } else { first }
 }
 
-/// How many steps a call takes to look at the sections: one for each above 96. Without room it
-/// takes none.
+// How many steps a look takes.
 #[inline(always)]
-pub(crate) fn section_steps(image: &PeImage, room: usize) -> usize
-    ensures { result ≡ section_steps image.now room }
+fn look_price(image: &PeImage) -> usize
+    ensures { result ≡ look_price image.now }
 {
-    if room == 0 {
-        0
-    } else {
-        image.section_count.saturating_sub(FREE_SECTIONS)
-    }
+    image.section_count.saturating_sub(1) / SECTIONS_FOR_A_STEP + 1
 }
 
-/// That no steps are left after these, if there is room.
-pub(crate) fn steps_fault(image: &PeImage, room: usize, steps: usize) -> PeFault
-    ensures { result ≡ steps_fault image.now room steps }
+/// How many looks a call with these steps may make: at least one.
+#[inline(always)]
+pub(crate) fn looks_for(image: &PeImage, steps: usize) -> usize
+    ensures { result ≡ looks_for image.now steps }
 {
-    if room != 0 && steps <= section_steps(image, room) {
+    (steps / look_price(image)).max(1)
+}
+
+/// The steps that are left when `left` of these looks are.
+#[inline(always)]
+pub(crate) fn steps_after(image: &PeImage, steps: usize, left: usize) -> usize
+    ensures { result ≡ steps_after image.now steps left }
+{
+    let looked = looks_for(image, steps).saturating_sub(left);
+    steps.saturating_sub(look_price(image).saturating_mul(looked))
+}
+
+/// That no steps are left, if there is room.
+pub(crate) fn steps_fault(room: usize, steps: usize) -> PeFault
+    ensures { result ≡ steps_fault room steps }
+{
+    if room != 0 && steps == 0 {
         out_of_steps()
     } else {
         no_fault()
@@ -44,8 +57,5 @@ pub(crate) fn steps_fault(image: &PeImage, room: usize, steps: usize) -> PeFault
 pub fn refused_walk(image: &PeImage, room: usize, steps: usize) -> PeFault
     ensures { result ≡ walk_fault image.now room steps }
 {
-    or_fault(
-        refused_call(&image.options),
-        steps_fault(image, room, steps),
-    )
+    or_fault(refused_call(&image.options), steps_fault(room, steps))
 }

@@ -1,7 +1,7 @@
 //! The calls that walk over exports and the export address table, and read the export directory and
 //! forwarders.
 
-ghost use Rattle.std.specs.Prelude.{◌≡◌, ◌≢◌, ◌-◌, Some, length};
+ghost use Rattle.std.specs.Prelude.{◌≡◌, ◌≢◌, Some, length};
 ghost use Rattle.goblin_pe_c_headers.specs.Calls.{ReadsWithout, ReportedAfter};
 ghost use Rattle.goblin_pe_c_headers.specs.{Faults.options_fault, Onward.batch_at};
 ghost use Rattle.goblin_pe_c_headers.specs.Options.{longest_of};
@@ -11,7 +11,7 @@ ghost use Rattle.goblin_pe_c_tables.specs.Batches.{SaysDirectory, WalksOver};
 ghost use Rattle.goblin_pe_c_tables.specs.ExportDirectories.{directory_model};
 ghost use Rattle.goblin_pe_c_tables.specs.Exports.{forwarder_at_address, forwarder_for_c};
 ghost use Rattle.goblin_pe_c_tables.specs.Exports.{forwarder_model};
-ghost use Rattle.goblin_pe_c_tables.specs.Steps.{section_steps, walk_fault};
+ghost use Rattle.goblin_pe_c_tables.specs.Steps.{SpendsSteps, walk_fault};
 
 use goblin_pe_c_headers::batch::PeBatch;
 use goblin_pe_c_headers::cursor::{PeExportAddressCursor, PeExportCursor};
@@ -22,7 +22,6 @@ use goblin_pe_c_tables::export::PeExport;
 use goblin_pe_c_tables::export_directory::{PeExportAddress, PeExportDirectory, give_directory};
 use goblin_pe_c_tables::forwarder::{PeForwarder, read_forwarder};
 use goblin_pe_c_tables::steps::refused_walk;
-use std::alloc::Global;
 
 /// Gives the next exports that have a name pointer, in the order of these. Counts steps: one for
 /// each name pointer.
@@ -33,7 +32,6 @@ use std::alloc::Global;
 /// Faults: STEPS; in strict mode a damaged export directory; else as `goblin_pe_next_imports`.
 #[unsafe(no_mangle)]
 pub extern "C" fn goblin_pe_raw_next_exports<'a>(
-    alloc: Global,
     image: &PeImage<'a>,
     cursor: &mut PeExportCursor,
     exports: &mut [PeExport<'a>],
@@ -42,22 +40,14 @@ pub extern "C" fn goblin_pe_raw_next_exports<'a>(
 ) -> PeFault
     ensures given { let old = batch_at cursor.old.index exports.old in
         let new = batch_at cursor.new.index exports.new in
-        let room = length exports.old in
-        let allowed = steps.old - section_steps image.now room in
-        WalksOver (walk_fault image.now room steps.old) result image.now
-        (GivesExports allowed steps.new) IsExportBatchFault old new batch.new }
+        let refusal = walk_fault image.now (length exports.old) steps.old in
+        SpendsSteps image.now steps.old steps.new (λ looks left.
+        WalksOver refusal result image.now (GivesExports looks left) IsExportBatchFault old new
+        batch.new) }
     ensures kept { result.status ≢ 0 → steps.new ≡ steps.old }
 {
     let refusal = refused_walk(image, exports.len(), *steps);
-    walk::<PeExport>(
-        alloc,
-        image,
-        refusal,
-        &mut cursor.index,
-        exports,
-        steps,
-        batch,
-    )
+    walk::<PeExport>(image, refusal, &mut cursor.index, exports, steps, batch)
 }
 
 /// Reads the export directory table. It is not present if the image has none, or if permissive mode
@@ -67,7 +57,6 @@ pub extern "C" fn goblin_pe_raw_next_exports<'a>(
 /// else as `goblin_pe_next_imports`, but no STEPS.
 #[unsafe(no_mangle)]
 pub extern "C" fn goblin_pe_raw_read_export_directory<'a>(
-    alloc: Global,
     image: &PeImage<'a>,
     directory: &mut PeExportDirectory<'a>,
 ) -> PeFault
@@ -82,7 +71,7 @@ pub extern "C" fn goblin_pe_raw_read_export_directory<'a>(
     if refusal.status != 0 {
         return refusal;
     }
-    status_of(give_directory(alloc, image, directory))
+    status_of(give_directory(image, directory))
 }
 
 /// Gives the next entries of the export address table: all ordinals, also those without a name.
@@ -90,7 +79,6 @@ pub extern "C" fn goblin_pe_raw_read_export_directory<'a>(
 /// Faults: as `goblin_pe_read_export_directory`.
 #[unsafe(no_mangle)]
 pub extern "C" fn goblin_pe_raw_next_export_addresses<'a>(
-    alloc: Global,
     image: &PeImage<'a>,
     cursor: &mut PeExportAddressCursor,
     addresses: &mut [PeExportAddress],
@@ -103,7 +91,7 @@ pub extern "C" fn goblin_pe_raw_next_export_addresses<'a>(
 {
     let refusal = refused_call(&image.options);
     let position = &mut cursor.index;
-    walk::<PeExportAddress>(alloc, image, refusal, position, addresses, &mut 0, batch)
+    walk::<PeExportAddress>(image, refusal, position, addresses, &mut 0, batch)
 }
 
 /// Reads the forwarder whose text is at an RVA.

@@ -1,11 +1,11 @@
 //! The calls that walk over imports and libraries.
 
-ghost use Rattle.std.specs.Prelude.{◌≡◌, ◌≢◌, ◌-◌, length};
+ghost use Rattle.std.specs.Prelude.{◌≡◌, ◌≢◌, length};
 ghost use Rattle.goblin_pe_c_headers.specs.{Onward.batch_at};
 ghost use Rattle.goblin_pe_c_tables.specs.Batches.{GivesImports, IsImportsFault, WalksOver};
 ghost use Rattle.goblin_pe_c_tables.specs.Libraries.{GivesLibraries, IsLibrariesFault};
 ghost use Rattle.goblin_pe_c_tables.specs.Libraries.{LibrariesEnd, LibrariesSum};
-ghost use Rattle.goblin_pe_c_tables.specs.Steps.{section_steps, walk_fault};
+ghost use Rattle.goblin_pe_c_tables.specs.Steps.{SpendsSteps, walk_fault};
 
 use goblin_pe_c_headers::batch::PeBatch;
 use goblin_pe_c_headers::fault::PeFault;
@@ -15,7 +15,6 @@ use goblin_pe_c_tables::import::PeImport;
 use goblin_pe_c_tables::library::PeLibrary;
 use goblin_pe_c_tables::next::PeImportCursor;
 use goblin_pe_c_tables::steps::refused_walk;
-use std::alloc::Global;
 
 /// Gives the next imports, in the order of the import directory. Counts steps.
 ///
@@ -27,10 +26,9 @@ use std::alloc::Global;
 /// they are read on in the file.
 ///
 /// Faults: STEPS; in strict mode damage, after the imports that come before it; READ if the file
-/// has no room for the section headers; OPTIONS; MEMORY if there are more than 96 sections.
+/// has no room for the section headers; OPTIONS.
 #[unsafe(no_mangle)]
 pub extern "C" fn goblin_pe_raw_next_imports<'a>(
-    alloc: Global,
     image: &PeImage<'a>,
     cursor: &mut PeImportCursor,
     imports: &mut [PeImport<'a>],
@@ -39,14 +37,14 @@ pub extern "C" fn goblin_pe_raw_next_imports<'a>(
 ) -> PeFault
     ensures given { let old = batch_at cursor.old imports.old in
         let new = batch_at cursor.new imports.new in
-        let room = length imports.old in
-        let allowed = steps.old - section_steps image.now room in
-        WalksOver (walk_fault image.now room steps.old) result image.now
-        (GivesImports allowed steps.new) IsImportsFault old new batch.new }
+        let refusal = walk_fault image.now (length imports.old) steps.old in
+        SpendsSteps image.now steps.old steps.new (λ looks left.
+        WalksOver refusal result image.now (GivesImports looks left) IsImportsFault old new
+        batch.new) }
     ensures kept { result.status ≢ 0 → steps.new ≡ steps.old }
 {
     let refusal = refused_walk(image, imports.len(), *steps);
-    walk::<PeImport>(alloc, image, refusal, cursor, imports, steps, batch)
+    walk::<PeImport>(image, refusal, cursor, imports, steps, batch)
 }
 
 /// Gives the next libraries: one for each entry of the import directory, also the skipped ones,
@@ -60,7 +58,6 @@ pub extern "C" fn goblin_pe_raw_next_imports<'a>(
 #[unsafe(no_mangle)]
 #[tactic(auto, using(goblin_pe_c_tables::proofs::LibraryEnds::libraries_end, goblin_pe_c_tables::proofs::LibraryEnds::libraries_sum))]
 pub extern "C" fn goblin_pe_raw_next_libraries<'a>(
-    alloc: Global,
     image: &PeImage<'a>,
     cursor: &mut PeImportCursor,
     libraries: &mut [PeLibrary<'a>],
@@ -69,14 +66,14 @@ pub extern "C" fn goblin_pe_raw_next_libraries<'a>(
 ) -> PeFault
     ensures given { let old = batch_at cursor.old libraries.old in
         let new = batch_at cursor.new libraries.new in
-        let room = length libraries.old in
-        let allowed = steps.old - section_steps image.now room in
-        WalksOver (walk_fault image.now room steps.old) result image.now
-        (GivesLibraries allowed steps.new) IsLibrariesFault old new batch.new }
+        let refusal = walk_fault image.now (length libraries.old) steps.old in
+        SpendsSteps image.now steps.old steps.new (λ looks left.
+        WalksOver refusal result image.now (GivesLibraries looks left) IsLibrariesFault old new
+        batch.new) }
     ensures kept { result.status ≢ 0 → steps.new ≡ steps.old }
     ensures ends { LibrariesEnd }
     ensures sums { LibrariesSum }
 {
     let refusal = refused_walk(image, libraries.len(), *steps);
-    walk::<PeLibrary>(alloc, image, refusal, cursor, libraries, steps, batch)
+    walk::<PeLibrary>(image, refusal, cursor, libraries, steps, batch)
 }

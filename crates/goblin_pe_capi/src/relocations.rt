@@ -9,7 +9,6 @@ use goblin_pe_c_headers::fault::{PeFault, refused_call};
 use goblin_pe_c_headers::image::PeImage;
 use goblin_pe_c_tables::batch::walk;
 use goblin_pe_c_tables::block::PeRelocationBlock;
-use std::alloc::Global;
 
 /// Gives the next blocks of base relocations.
 ///
@@ -17,7 +16,6 @@ use std::alloc::Global;
 /// blocks before them; else as `goblin_pe_read_export_directory`.
 #[unsafe(no_mangle)]
 pub extern "C" fn goblin_pe_raw_next_relocation_blocks<'a>(
-    alloc: Global,
     image: &PeImage<'a>,
     cursor: &mut PeRelocationBlockCursor,
     blocks: &mut [PeRelocationBlock],
@@ -31,5 +29,5 @@ pub extern "C" fn goblin_pe_raw_next_relocation_blocks<'a>(
 {
     let refusal = refused_call(&image.options);
     let position = &mut cursor.offset;
-    walk::<PeRelocationBlock>(alloc, image, refusal, position, blocks, &mut 0, batch)
+    walk::<PeRelocationBlock>(image, refusal, position, blocks, &mut 0, batch)
 }

@@ -2,7 +2,7 @@ use Rattle.std.proofs.Common.{arith, refl, subst, Result, Some}
 use Rattle.goblin_base.specs.declared.error.ErrorOf.{ErrorOf}
 use Rattle.goblin_pe_sect.specs.declared.relocation.base.RelocationBlock.{RelocationBlock}
 use Rattle.goblin_pe_sect.specs.BaseRelocations.{FindsItem, relocation_bytes}
-use Rattle.goblin_pe_c_tables.proofs.BlockBatches.{blocks-end, blocks-fault, blocks-full, blocks-more, blocks-refused, blocks-start, item-other}
+use Rattle.goblin_pe_c_tables.proofs.BlockBatches.{blocks-end, blocks-fault, blocks-full, blocks-more, blocks-refused, blocks-start}
 use Rattle.goblin_pe_c_tables.proofs.block.fill_blocks.Goals as goal
 
 pub items-init : goal.items-init
@@ -14,27 +14,22 @@ items-preserved c =
     let found = subst (λ (r : Result RelocationBlock ErrorOf). FindsItem directory c.items.offset (Some r)) c.in-Some-Ok.field-0-is c.in-Some-Ok.ensures.found in
     (blocks-more c.items.invariant.0 c.in-Some-Ok.block c.block_record.result _ _ found refl c.block_record.ensures c.items-test.true (omega arith), c.items.invariant.1)
 
-pub returns-in-Some-Err-clause-filled : goal.returns-in-Some-Err-clause-filled
-returns-in-Some-Err-clause-filled c =
+pub returns-in-Some-Err : goal.returns-in-Some-Err
+returns-in-Some-Err c =
     let directory = relocation_bytes c.args.relocations.now in
     let found = subst (λ (r : Result RelocationBlock ErrorOf). FindsItem directory c.items.offset (Some r)) c.in-Some-Err.field-0-is c.in-Some-Err.ensures.found in
     blocks-fault c.items.invariant.0 c.in-Some-Err.error found c.if-count-eq0.true c.items-test.true _ c.items.invariant.1
 
-pub returns-in-Some-Err-2-clause-filled : goal.returns-in-Some-Err-2-clause-filled
-returns-in-Some-Err-2-clause-filled c =
+pub returns-in-Some-Err-2 : goal.returns-in-Some-Err-2
+returns-in-Some-Err-2 c =
     let directory = relocation_bytes c.args.relocations.now in
     let found = subst (λ (r : Result RelocationBlock ErrorOf). FindsItem directory c.items.offset (Some r)) c.in-Some-Err.field-0-is c.in-Some-Err.ensures.found in
     rw c.goes_on.ensures (blocks-refused c.items.invariant.0 c.in-Some-Err.error found c.if-count-eq0.false)
 
-pub returns-in-None-clause-filled : goal.returns-in-None-clause-filled
-returns-in-None-clause-filled c =
+pub returns-in-None : goal.returns-in-None
+returns-in-None c =
     rw c.ended.ensures (blocks-end c.items.invariant.0 c.in-None.ensures.found c.items-test.true)
 
-pub returns-clause-filled : goal.returns-clause-filled
-returns-clause-filled c =
+pub returns : goal.returns
+returns c =
     rw c.goes_on-2.ensures (blocks-full c.items.invariant.0 (omega (arith, c.items-test.false)))
-
-pub returns-in-Some-Err-clause-refused : goal.returns-in-Some-Err-clause-refused
-returns-in-Some-Err-clause-refused c =
-    let directory = relocation_bytes c.args.relocations.now in
-    item-other directory c.items.offset c.in-Some-Err.error (subst (λ (r : Result RelocationBlock ErrorOf). FindsItem directory c.items.offset (Some r)) c.in-Some-Err.field-0-is c.in-Some-Err.ensures.found)

@@ -23,23 +23,23 @@ libraries-preserved c =
       ap map_of c.library_record.ensures.same ∙ map_is,
     )
 
-pub returns-in-Some-Err-2-clause-filled : goal.returns-in-Some-Err-2-clause-filled
-returns-in-Some-Err-2-clause-filled c =
+pub returns-in-Some-Err-2 : goal.returns-in-Some-Err-2
+returns-in-Some-Err-2 c =
     let is = subst (λ (r : Result WalkedLibrary ErrorOf). GivesLibraryWithin c.libraries.libraries (Some c.libraries.left) (Some r) c.next_within.new.self c.next_within.new.steps) c.in-Some-Err.field-0-is c.in-Some-Err.ensures in
     rw c.passed_batch.ensures (libraries-refused c.libraries.invariant.0 c.in-Some-Err.error c.next_within.new.self c.next_within.new.steps is c.if-count-eq0.false)
 
-pub returns-then-is_none-clause-filled : goal.returns-then-is_none-clause-filled
-returns-then-is_none-clause-filled c =
+pub returns-then-is_none : goal.returns-then-is_none
+returns-then-is_none c =
     let ends = ap (λ (at : ImportCursor). is_some at.next_record) (sym c.cursor-at.ensures.is) ∙ c.is_none.ensures ∙ ap not c.if-is_none.true in
     rw (c.passed_batch-then-is_none.ensures, c.passed.ensures) (libraries-end c.libraries.invariant.0 c.next_within.new.self c.next_within.new.steps c.in-None.ensures c.libraries-test.true c.unwrap_or-left-in-None.result c.unwrap_or-left-in-None.ensures
     c.cursor_for_c-then-is_none.result ends (c.cursor_for_c-then-is_none.ensures ∙ ap cursor_for_c c.end.ensures))
 
-pub returns-in-None-clause-filled : goal.returns-in-None-clause-filled
-returns-in-None-clause-filled c =
+pub returns-in-None : goal.returns-in-None
+returns-in-None c =
     let goes = ap (λ (at : ImportCursor). is_some at.next_record) (sym c.cursor-at.ensures.is) ∙ c.is_none.ensures ∙ ap not c.if-is_none.false in
     rw (c.passed_batch-in-None.ensures, c.passed-in-None.ensures) (libraries-cut c.libraries.invariant.0 c.next_within.new.self c.next_within.new.steps c.in-None.ensures c.libraries-test.true c.unwrap_or-left-in-None.result c.unwrap_or-left-in-None.ensures
     c.cursor_for_c-in-None.result goes (c.cursor_for_c-in-None.ensures ∙ ap cursor_for_c c.cursor-at.ensures.is))
 
-pub returns-clause-filled : goal.returns-clause-filled
-returns-clause-filled c =
+pub returns : goal.returns
+returns c =
     rw c.passed_batch-2.ensures (libraries-full c.libraries.invariant.0 c.libraries-test.false)

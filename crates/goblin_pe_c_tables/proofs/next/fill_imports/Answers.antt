@@ -25,15 +25,15 @@ imports-preserved c =
     (library-more c.imports.invariant x next last c.cursor_for_c.result c.next_within.new.steps c.unwrap_or-left.result c.fill_library-count.new.left c.import_record.result c.fill_library-count.new.records c.fill_library-count.result
     c.longest_in-longest.result c.longest_in-longest.ensures is c.unwrap_or-left.ensures c.imports-test.true c.import_record.ensures filled.filled filled.counted goes)
 
-pub returns-in-Some-Err-2-clause-filled : goal.returns-in-Some-Err-2-clause-filled
-returns-in-Some-Err-2-clause-filled c =
+pub returns-in-Some-Err-2 : goal.returns-in-Some-Err-2
+returns-in-Some-Err-2 c =
     let now = c.imports.imports in
     let next = c.next_within.new.self in
     let is = subst (λ (r : Result WalkedImport ErrorOf). GivesFileWithin now (Some c.imports.left) (Some r) next c.next_within.new.steps) c.in-Some-Err.field-0-is c.in-Some-Err.ensures in
     rw c.passed_batch.ensures (imports-refused c.imports.invariant c.in-Some-Err.error next c.next_within.new.steps is c.if-count-eq0.false)
 
-pub returns-in-None-clause-filled : goal.returns-in-None-clause-filled
-returns-in-None-clause-filled c =
+pub returns-in-None : goal.returns-in-None
+returns-in-None c =
     let l = c.args.layout.now in
     let m = layout_map l in
     let places = layout_places l in
@@ -48,6 +48,6 @@ returns-in-None-clause-filled c =
     (imports-end c.imports.invariant next c.next_within.new.steps given numbers.result goes c.imports-test.true c.unwrap_or.result c.unwrap_or.ensures
     c.is_over.result (c.is_over.ensures ∙ ap is_over cursor.ensures.is))
 
-pub returns-clause-filled : goal.returns-clause-filled
-returns-clause-filled c =
+pub returns : goal.returns
+returns c =
     rw c.passed_batch-2.ensures (imports-full c.imports.invariant c.imports-test.false)

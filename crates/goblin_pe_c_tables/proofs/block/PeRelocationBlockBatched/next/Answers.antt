@@ -20,14 +20,14 @@ pub returns-in-Absent : goal.returns-in-Absent
 returns-in-Absent c =
     let l = c.args.layout.now in
     let read = directory-read (layout_map l) (layout_places l) l.bytes.now _ _ c.in_ok-relocations.was c.placed_relocations-offset.ensures.value in
-    record { filled = rw c.at_room.ensures (blocks-absent (layout_map l) (layout_places l) l.bytes.now c.args.position.now c.args.records.now c.in_ok-relocations.field-0 read c.in-Absent.is); kept = tt; refused = tt }
+    record { filled = rw c.at_room.ensures (blocks-absent (layout_map l) (layout_places l) l.bytes.now c.args.position.now c.args.records.now c.in_ok-relocations.field-0 read c.in-Absent.is); kept = tt }
 
 pub returns-in-Refused : goal.returns-in-Refused
 returns-in-Refused c =
     let l = c.args.layout.now in
     let read = directory-read (layout_map l) (layout_places l) l.bytes.now _ _ c.in_ok-relocations.was c.placed_relocations-offset.ensures.value in
     let moved = ap (λ (p : ℕ). batch_at p c.args.records.now) c.skip_table.ensures.moved in
-    record { filled = blocks-skipped (layout_map l) (layout_places l) l.bytes.now c.args.position.now c.args.records.now c.in_ok-relocations.field-0 read c.in-Refused.is (batch_at c.skip_table.new.position c.args.records.now) c.skip_table.result (c.skip_table.ensures.batch, moved); kept = tt; refused = tt }
+    record { filled = blocks-skipped (layout_map l) (layout_places l) l.bytes.now c.args.position.now c.args.records.now c.in_ok-relocations.field-0 read c.in-Refused.is (batch_at c.skip_table.new.position c.args.records.now) c.skip_table.result (c.skip_table.ensures.batch, moved); kept = tt }
 
 pub returns-in-Read-clause-filled : goal.returns-in-Read-clause-filled
 returns-in-Read-clause-filled c =
@@ -36,4 +36,4 @@ returns-in-Read-clause-filled c =
     let begin = c.unwrap_or-begin.ensures ∙ ap (λ (o : Option ℕ). unwrap_or o 0) c.placed_relocations-offset.ensures.offset in
     let read = directory-read (layout_map l) (layout_places l) l.bytes.now _ _ c.in_ok-relocations.was c.placed_relocations-offset.ensures.value in
     let new = batch_at c.fill_blocks.new.position c.fill_blocks.new.records in
-    blocks-answered (layout_map l) (layout_places l) l.bytes.now c.in_ok-relocations.field-0 read old new c.in-Read.relocations c.in-Read.is c.unwrap_or-begin.result begin c.fill_blocks.result c.fill_blocks.ensures.filled
+    blocks-answered (layout_map l) (layout_places l) l.bytes.now c.in_ok-relocations.field-0 read old new c.in-Read.relocations c.in-Read.is c.unwrap_or-begin.result begin c.fill_blocks.result c.fill_blocks.ensures
