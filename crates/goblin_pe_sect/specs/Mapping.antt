@@ -6,7 +6,7 @@ use Rattle.std.specs.Int.{is_power_of_two}
 use Rattle.goblin_base.specs.declared.error.CauseOf.TheVariants.{Message}
 use Rattle.goblin_base.specs.declared.error.ErrorOf.{ErrorOf}
 use Rattle.goblin_base.specs.declared.error.ErrorOf.TheVariants.{Malformed}
-use Rattle.goblin_base.specs.{declared.mapped.MappedEnd.MappedEnd, Parts.end_or_none}
+use Rattle.goblin_base.specs.{declared.mapped.MappedEnd.MappedEnd, Parts.end_or_none, Parts.no_end}
 use Rattle.goblin_pe_sect.specs.declared.address_map.run.Place.{Place}
 use Rattle.goblin_pe_sect.specs.declared.options.Mapping.{Mapping}
 use Rattle.goblin_pe_sect.specs.declared.options.RawPointerRule.{RawPointerRule}
@@ -120,13 +120,17 @@ abbrev pub pages_size : Section → ℕ
 pages_size s =
     least_multiple 4096 (if s.virtual_size == 0 then s.size_of_raw_data else s.virtual_size)
 
--- where the bytes that a section's window maps end in the file, and the zeros that follow them in
--- memory, up to the end of the section's last page
+-- Where the bytes that a section's window maps end in the file, and the zeros that follow them in
+-- memory, up to the end of the section's last page. With an alignment below 512 there is no end:
+-- Windows maps such an image as one flat file, in which the file's next bytes follow a section.
 abbrev pub mapped_end : Mapping → ℕ → Section → MappedEnd
-mapped_end mapping alignment s = record {
-  last = raw_begin mapping s + read_size mapping.view s alignment - 1;
-  zeros = pages_size s - read_size mapping.view s alignment;
-}
+mapped_end mapping alignment s =
+    if nat_lt alignment 512
+    then no_end
+    else record {
+      last = raw_begin mapping s + read_size mapping.view s alignment - 1;
+      zeros = pages_size s - read_size mapping.view s alignment;
+    }
 
 -- that of the first section whose window holds the address; there is none if addresses are not
 -- mapped

@@ -211,7 +211,7 @@ pub fn raw_begin(section: &SectionTable, mapping: Mapping) -> u32
 }
 
 // Where the bytes that the section's window maps end in the file, and the zeros that follow them in
-// memory. `size` is the size of the window.
+// memory; nowhere if the alignment is below 512. `size` is the size of the window.
 #[inline(always)]
 #[tactic(auto, using(crate::proofs::Mapped::within_pages, crate::proofs::Multiples::pages_fit))]
 pub(crate) fn mapped_end(
@@ -224,6 +224,9 @@ pub(crate) fn mapped_end(
     requires is { size ≡ read_size mapping.view section.now file_alignment }
     ensures { result ≡ mapped_end mapping file_alignment section.now }
 {
+    if file_alignment < 512 {
+        return MappedEnd::NONE;
+    }
     let in_memory = match section.virtual_size {
         0 => section.size_of_raw_data,
         virtual_size => virtual_size,
