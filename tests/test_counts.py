@@ -69,7 +69,7 @@ class Plain:
             if begin <= rva < begin + size:
                 first = down if self.is_loaded and block >= 512 else pointer
                 zeros = min(self.up(virtual or raw, 4096) - size, 4 * len(self.data))
-                is_cut = self.is_loaded and first + size <= len(self.data)
+                is_cut = self.is_loaded and block >= 512 and first + size <= len(self.data)
                 return rva - begin + first, self.data[:first + size] + bytes(zeros) if is_cut else self.data
         return None, b""
 

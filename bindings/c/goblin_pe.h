@@ -279,7 +279,12 @@ struct goblin_pe_batch {
 /* ---- Options ------------------------------------------------------------------------------- */
 
 /* How RVAs are mapped to file offsets, and where the raw data of a section begins. The first three
-   agree on sections whose raw pointer is a multiple of 512, as the specification asks for. */
+   agree on sections whose raw pointer is a multiple of 512, as the specification asks for.
+
+   With the first two, what is read at an RVA ends where its section does in memory: zeros follow
+   the raw data, up to the end of the section's last page. Import tables alone are read on in the
+   file; so is all if the file alignment is below 512, because Windows then maps the file as it
+   is. */
 enum goblin_pe_mapping {
     /* As the Windows loader maps: the raw pointer is rounded down to 512 when the file alignment is
        at least 512, and the headers are mapped at RVA 0. The default: packers hide imports from
@@ -1139,8 +1144,8 @@ struct goblin_pe_import {
    that the file cuts short, and a directory that is skipped as a whole, each once. `unmapped`
    counts imports whose name has no offset.
 
-   As a loader maps, a name ends where its section does in memory. The tables of imports do not:
-   they are read on in the file.
+   As a loader maps, a hint or a name ends where its section does in memory. The tables of imports
+   do not: they are read on in the file.
 
    Faults: STEPS; in strict mode damage, after the imports that come before it; READ if the file has
    no room for the section headers; OPTIONS. */

@@ -252,7 +252,7 @@ pub enum Cause {
     Forwarder = 28,
     /// A forwarder has no decimal number below 2^32 after its `#`.
     ForwarderOrdinal = 29,
-    /// The base relocation directory passes the end of the file.
+    /// The base relocation directory passes the end of the file, or of what its section maps.
     RelocRange = 30,
     /// A base relocation block says a size that is less than that of its header.
     BlockSize = 31,

@@ -8,6 +8,10 @@ use goblin_pe_sect::options::{ParseMode, ParseOptions, RawPointerRule, View};
 
 /// How RVAs are mapped to file offsets, and where the raw data of a section begins. The first three
 /// agree on sections whose raw pointer is a multiple of 512, as the specification asks for.
+///
+/// With the first two, what is read at an RVA ends where its section does in memory: zeros follow
+/// the raw data, up to the end of the section's last page. Import tables alone are read on in the
+/// file; so is all if the file alignment is below 512, because Windows then maps the file as it is.
 pub enum PeMapping {
     /// As the Windows loader maps: the raw pointer is rounded down to 512 when the file alignment
     /// is at least 512, and the headers are mapped at RVA 0. The default: packers hide imports from

@@ -22,8 +22,8 @@ use goblin_pe_c_tables::steps::refused_walk;
 /// that the file cuts short, and a directory that is skipped as a whole, each once. `unmapped`
 /// counts imports whose name has no offset.
 ///
-/// As a loader maps, a name ends where its section does in memory. The tables of imports do not:
-/// they are read on in the file.
+/// As a loader maps, a hint or a name ends where its section does in memory. The tables of imports
+/// do not: they are read on in the file.
 ///
 /// Faults: STEPS; in strict mode damage, after the imports that come before it; READ if the file
 /// has no room for the section headers; OPTIONS.
