@@ -2,6 +2,7 @@ pub mod Batches
 pub mod GivenEntries
 pub mod GivenOnward
 pub mod GivenWords
+pub mod Holders
 pub mod SeenBytes
 pub mod Named
 pub mod NamedObject
