@@ -3,12 +3,12 @@ use Rattle.std.proofs.Common.{◌≡◌, ℕ, ◌+◌, ◌<◌, ◌≤◌, Bool,
 use Rattle.std.specs.{Int.is_power_of_two, List.position_from, Option.option_or}
 use Rattle.std.proofs.lemmas.Bool.Decides.{nat_tests}
 use Rattle.std.proofs.lemmas.Iterator.Adapters.{position_from-zero}
-use Rattle.goblin_pe_sect.specs.Mapping.{is_loaders, pages_size, read_size}
+use Rattle.goblin_pe_sect.specs.Mapping.{pages_size, read_size}
 use Rattle.goblin_pe_sect.specs.{declared.address_map.records.MappedRecords.MappedRecords, SectionTable.Section}
 use Rattle.goblin_pe_sect.specs.SectionTable.{front_section, mapped_sections, recorded_sections, with_front}
 use Rattle.goblin_pe_sect.proofs.Mapped.{within_pages}
 use Rattle.goblin_pe_c_headers.specs.Addresses.{MappedImage}
-use Rattle.goblin_pe_c_headers.specs.Memory.{holder, holder_index, is_among, memory_length, memory_size, window_size}
+use Rattle.goblin_pe_c_headers.specs.Memory.{holder, holder_index, is_among, maps_pages, memory_length, memory_size, window_size}
 
 -- the first section that passes, with its index, where the list starts at index k
 abbrev found : (Section → Bool) → ℕ → List Section → Option (ℕ × Section)
@@ -49,9 +49,9 @@ says size n rva s b told is = ap (λ k. is_among k rva s) (sym is) ∙ sym told
 
 -- a section's window lies in its memory
 pub window_within : (m : MappedImage) (s : Section) → window_size m s ≤ memory_length m s
-window_within m s = by (is_power_of_two m.alignment) (is_loaders m.mapping.view)
+window_within m s = by (is_power_of_two m.alignment) (maps_pages m)
   where
-    by : (even loaders : Bool) → cond even (read_size m.mapping.view s m.alignment) 0 ≤ cond loaders (pages_size s) (max (memory_size s) (cond even (read_size m.mapping.view s m.alignment) 0))
+    by : (even pages : Bool) → cond even (read_size m.mapping.view s m.alignment) 0 ≤ cond pages (pages_size s) (max (memory_size s) (cond even (read_size m.mapping.view s m.alignment) 0))
     by even false = omega arith
     by true true = within_pages m.mapping.view s m.alignment
     by false true = omega arith

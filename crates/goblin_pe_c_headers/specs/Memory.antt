@@ -115,11 +115,15 @@ window_size m s =
 abbrev pub is_among : ℕ → ℕ → Section → Bool
 is_among size rva s = nat_le s.virtual_address rva && nat_lt rva (s.virtual_address + size)
 
--- how many bytes the section's memory has, in which its window lies: in a loader's view, whole
--- pages; in goblin's view, those of its size or of its window
+-- a loader maps sections in whole pages; with an alignment below 512 it maps one flat file
+abbrev pub maps_pages : MappedImage → Bool
+maps_pages m = is_loaders m.mapping.view && nat_le 512 m.alignment
+
+-- how many bytes the section's memory has, in which its window lies: whole pages, or those of its
+-- size or of its window
 abbrev pub memory_length : MappedImage → Section → ℕ
 memory_length m s =
-    if is_loaders m.mapping.view then pages_size s else max (memory_size s) (window_size m s)
+    if maps_pages m then pages_size s else max (memory_size s) (window_size m s)
 
 -- How many bytes of a section's memory are the file's: those of its raw data, and of the file
 -- blocks in its window as far as the file, whose end is given, has them. None are, if it has no

@@ -6,8 +6,8 @@ ghost use Rattle.goblin_pe_c_headers.specs.{Addresses.mapped_model, Sections.sec
 ghost use Rattle.goblin_pe_c_headers.specs.Memory.{SeesFile, addressed, available, front_at};
 ghost use Rattle.goblin_pe_c_headers.specs.Memory.{holder, holder_index, is_among, is_unstored};
 ghost use Rattle.goblin_pe_c_headers.specs.Memory.{known, memory_at, memory_by, memory_in_file};
-ghost use Rattle.goblin_pe_c_headers.specs.Memory.{memory_length, memory_model, memory_of};
-ghost use Rattle.goblin_pe_c_headers.specs.Memory.{memory_size, region_in, section_data};
+ghost use Rattle.goblin_pe_c_headers.specs.Memory.{maps_pages, memory_length, memory_model};
+ghost use Rattle.goblin_pe_c_headers.specs.Memory.{memory_of, memory_size, region_in, section_data};
 ghost use Rattle.goblin_pe_c_headers.specs.Memory.{stored_in_memory, stored_size, unknown};
 ghost use Rattle.goblin_pe_c_headers.specs.Memory.{window_size};
 
@@ -174,17 +174,26 @@ fn window_size(mapped: &Mapped, section: &SectionTable) -> usize
     }
 }
 
-// How many bytes a section has in memory: whole pages in a loader's view. In goblin's view, those
-// of its size or of its window.
+// Whether sections are mapped in whole pages.
+fn maps_pages(mapped: &Mapped) -> bool
+    ensures { result ≡ maps_pages (mapped_model mapped.now) }
+{
+    match mapped.mapping.view {
+        View::Sections => false,
+        View::LoadedSections | View::Loader => 512 <= mapped.file_alignment,
+    }
+}
+
+// How many bytes a section has in memory: whole pages, or those of its size or of its window.
 fn memory_length(mapped: &Mapped, section: &SectionTable) -> usize
     ensures value { result ≡ memory_length (mapped_model mapped.now) section.now }
     ensures small { result < 2 ^ 33 }
 {
     let size = memory_size(section);
-    match mapped.mapping.view {
-        View::Sections => size.max(window_size(mapped, section)),
-        View::LoadedSections | View::Loader => (size + 4095) / 4096 * 4096,
+    if maps_pages(mapped) {
+        return (size + 4095) / 4096 * 4096;
     }
+    size.max(window_size(mapped, section))
 }
 
 // Whether an RVA is one of `size` from the section's address on.
