@@ -178,7 +178,7 @@ AVAILABLE = [
 # The regions and sections of addresses in such sections and in 0x200 bytes of headers. Windows that the file lacks count as zeros.
 # No region is after a section's memory.
 REGIONS = [
-    (0, "HEADERS", None), (0x1FF, "HEADERS", None), (0x200, "UNMAPPED", None), (0xFFF, "UNMAPPED", None), (0x1000, "RAW_DATA", 0),
+    (0, "HEADERS", None), (0x1FF, "HEADERS", None), (0x200, "HEADERS", None), (0xFFF, "HEADERS", None), (0x1000, "RAW_DATA", 0),
     (0x1005, "RAW_DATA", 0), (0x1006, "ZEROS", 0), (0x100F, "ZEROS", 0), (0x11FF, "ZEROS", 0), (0x1200, "UNMAPPED", None),
     (0x3005, "RAW_DATA", 2), (0x3006, "ZEROS", 2), (0x4000, "ZEROS", 3), (0x5007, "RAW_DATA", 4), (2 ** 64 - 1, "UNMAPPED", None),
 ]

@@ -1034,8 +1034,9 @@ bool goblin_pe_find_rva(const struct goblin_pe_image *image, size_t offset, size
            use(memory.bytes.bytes);
 
    A section whose raw data holds the RVA comes first, then the mapped headers, then a section whose
-   virtual size reaches it. So if `goblin_pe_find_offset` finds an offset inside the file, the first
-   byte is the byte there, except in uninitialized data without a raw pointer, which is zeros.
+   memory reaches it. As a loader maps, memory goes on with zeros up to the end of a page; as goblin
+   maps, up to the virtual size. So if `goblin_pe_find_offset` finds an offset inside the file, the
+   first byte is the byte there, except in uninitialized data without a raw pointer, which is zeros.
 
    Returns whether nothing is missing; with `size` 0 so always true. */
 bool goblin_pe_memory_at(

@@ -3,8 +3,8 @@
 //! The footprint of a read is the set of positions of the file that it depends on, whether or not
 //! the read has a value. The definition of each reader includes it, as a list of ranges: each
 //! record whose offset the layout gives, each slot of a table up to and including the one that ends
-//! it, and each text through its NUL or to the end of the file. Positions outside the file add
-//! nothing.
+//! it, and each text through its NUL, or to the end of what is mapped or of the file. Positions
+//! outside the file add nothing.
 //!
 //! Two files agree on a footprint if they have the same length and the same byte at every position
 //! in it. Each call here with two files, `a` and `b`, returns what the reader returns for each of

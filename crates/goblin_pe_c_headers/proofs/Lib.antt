@@ -3,6 +3,7 @@ pub mod CutNames
 pub mod GivenEntries
 pub mod GivenOnward
 pub mod GivenWords
+pub mod Holders
 pub mod SeenBytes
 pub mod Named
 pub mod NamedObject

@@ -7,6 +7,7 @@ use Rattle.goblin_pe_sect.specs.Mapping.{InWindow, file_offset, is_in_window, of
 use Rattle.goblin_pe_sect.specs.SectionTable.{Section}
 use Rattle.goblin_pe_sect.proofs.Mapped.{found_in_window}
 use Rattle.goblin_pe_c_headers.specs.{Images.PeImage, Addresses.MappedImage, Addresses.mapped_image}
+use Rattle.goblin_pe_c_headers.proofs.Holders.{window_within}
 use Rattle.goblin_pe_c_headers.specs.Memory.{Memory, SeesFile, addressed, front_at, holder, holder_index, is_unstored, memory_at, memory_by, memory_in_file, memory_length, memory_mapped, stored_in_memory, stored_size, window_size}
 
 module _ (file : List ℕ) (p : ℕ) (inside : p < length file) where
@@ -45,7 +46,7 @@ module _ (file : List ℕ) (p : ℕ) (inside : p < length file) where
     most-one : (s : Section) → Holds s → min 1 (memory_length m s - (rva - s.virtual_address)) ≡ 1
     most-one s h =
         let window : window_size m s ≡ read_size m.mapping.view s m.alignment = rw even refl in
-        omega (arith, window, h.within.0, h.within.1)
+        omega (arith, window, window_within m s, h.within.0, h.within.1)
 
     in_section : (index : ℕ) (s : Section) → Holds s → Sees (memory_by m file outside rva 1 index (Some s))
     in_section index s h =

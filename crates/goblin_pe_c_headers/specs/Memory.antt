@@ -4,7 +4,8 @@ use Rattle.std.specs.Prelude.{min, not, nat_le, nat_lt, if◌then◌else◌, Lis
 use Rattle.std.specs.Prelude.{Option, Some, None, IsSomeAnd, length, option_and_then, slice_range}
 use Rattle.std.specs.{Int.is_power_of_two, Option.option_or, Option.unwrap_or}
 use Rattle.goblin_pe_sect.specs.{declared.options.Mapping.Mapping, Mapping.raw_begin}
-use Rattle.goblin_pe_sect.specs.{Mapping.read_size, Options.mapping_in, SectionTable.Section}
+use Rattle.goblin_pe_sect.specs.Mapping.{is_loaders, pages_size, read_size}
+use Rattle.goblin_pe_sect.specs.{Options.mapping_in, SectionTable.Section}
 use Rattle.goblin_pe_c_headers.specs.declared.memory.PeMemory.{PeMemory}
 use Rattle.goblin_pe_c_headers.specs.{declared.memory.Region.Region, Images.PeImage}
 use Rattle.goblin_pe_c_headers.specs.declared.memory.Region.TheVariants as region
@@ -114,9 +115,15 @@ window_size m s =
 abbrev pub is_among : ℕ → ℕ → Section → Bool
 is_among size rva s = nat_le s.virtual_address rva && nat_lt rva (s.virtual_address + size)
 
--- how many bytes the section's memory has, in which its window lies
+-- a loader maps sections in whole pages; with an alignment below 512 it maps one flat file
+abbrev pub maps_pages : MappedImage → Bool
+maps_pages m = is_loaders m.mapping.view && nat_le 512 m.alignment
+
+-- how many bytes the section's memory has, in which its window lies: whole pages, or those of its
+-- size or of its window
 abbrev pub memory_length : MappedImage → Section → ℕ
-memory_length m s = max (memory_size s) (window_size m s)
+memory_length m s =
+    if maps_pages m then pages_size s else max (memory_size s) (window_size m s)
 
 -- How many bytes of a section's memory are the file's: those of its raw data, and of the file
 -- blocks in its window as far as the file, whose end is given, has them. None are, if it has no

@@ -6,8 +6,8 @@ ghost use Rattle.goblin_pe_c_headers.specs.{Addresses.mapped_model, Sections.sec
 ghost use Rattle.goblin_pe_c_headers.specs.Memory.{SeesFile, addressed, available, front_at};
 ghost use Rattle.goblin_pe_c_headers.specs.Memory.{holder, holder_index, is_among, is_unstored};
 ghost use Rattle.goblin_pe_c_headers.specs.Memory.{known, memory_at, memory_by, memory_in_file};
-ghost use Rattle.goblin_pe_c_headers.specs.Memory.{memory_length, memory_model, memory_of};
-ghost use Rattle.goblin_pe_c_headers.specs.Memory.{memory_size, region_in, section_data};
+ghost use Rattle.goblin_pe_c_headers.specs.Memory.{maps_pages, memory_length, memory_model};
+ghost use Rattle.goblin_pe_c_headers.specs.Memory.{memory_of, memory_size, region_in, section_data};
 ghost use Rattle.goblin_pe_c_headers.specs.Memory.{stored_in_memory, stored_size, unknown};
 ghost use Rattle.goblin_pe_c_headers.specs.Memory.{window_size};
 
@@ -16,7 +16,7 @@ use crate::image::PeImage;
 use crate::options::{PeOptions, are_known, options_at, view_of};
 use crate::section::{PeSection, section_of};
 use goblin_pe_sect::SectionTable;
-use goblin_pe_sect::options::Mapping;
+use goblin_pe_sect::options::{Mapping, View};
 use goblin_pe_sect::section_table::IMAGE_SCN_CNT_UNINITIALIZED_DATA;
 use goblin_pe_sect::utils::{raw_begin, window_by};
 
@@ -174,11 +174,26 @@ fn window_size(mapped: &Mapped, section: &SectionTable) -> usize
     }
 }
 
+// Whether sections are mapped in whole pages.
+fn maps_pages(mapped: &Mapped) -> bool
+    ensures { result ≡ maps_pages (mapped_model mapped.now) }
+{
+    match mapped.mapping.view {
+        View::Sections => false,
+        View::LoadedSections | View::Loader => 512 <= mapped.file_alignment,
+    }
+}
+
+// How many bytes a section has in memory: whole pages, or those of its size or of its window.
 fn memory_length(mapped: &Mapped, section: &SectionTable) -> usize
     ensures value { result ≡ memory_length (mapped_model mapped.now) section.now }
     ensures small { result < 2 ^ 33 }
 {
-    memory_size(section).max(window_size(mapped, section))
+    let size = memory_size(section);
+    if maps_pages(mapped) {
+        return (size + 4095) / 4096 * 4096;
+    }
+    size.max(window_size(mapped, section))
 }
 
 // Whether an RVA is one of `size` from the section's address on.
@@ -210,12 +225,21 @@ fn holder(mapped: &Mapped, rva: usize) -> Option<(usize, SectionTable)>
         ≡ holder_index (mapped_model mapped.now) rva }
     ensures section { option_map (λ both. both.1) result ≡ holder (mapped_model mapped.now) rva }
 {
-    let records = mapped.records;
-    let found = records.find(|it| is_among(rva, it, window_size(mapped, it)));
-    if found.is_some() {
-        return found;
+    let mut first = None;
+    let mut rest = mapped.records;
+    'sections: for index in 0..mapped.records.records.len() + 1 {
+        let Some((section, later)) = rest.split_first() else {
+            return first;
+        };
+        if is_among(rva, &section, memory_length(mapped, &section)) {
+            if is_among(rva, &section, window_size(mapped, &section)) {
+                return Some((index, section));
+            }
+            first = first.or(Some((index, section)));
+        }
+        rest = later;
     }
-    records.find(|it| is_among(rva, it, memory_length(mapped, it)))
+    first
 }
 
 // How many of `size` bytes from an RVA on have an RVA below 2^32.

@@ -46,7 +46,7 @@ impl<'a> MappedRecords<'a> {
     /// The first section, and what comes after it, as [`SectionRecords::split_first`]. The front
     /// comes last.
     #[inline(always)]
-    pub(crate) fn split_first(&self) -> Option<(SectionTable, MappedRecords<'a>)>
+    pub fn split_first(&self) -> Option<(SectionTable, MappedRecords<'a>)>
         ensures { MatchOption result (mapped_sections self.now ≡ [])
             (λ both. mapped_sections self.now ≡ both.0 ∷ mapped_sections both.1) }
     {
