@@ -8,13 +8,14 @@ import time
 import unittest
 
 from tests import images
-from tests.bindings import COUNTED, WALKS, calls, image_of, library, options, records
+from tests.bindings import COUNTED, WALKS, Walk, calls, image_of, library, options, records
 from tests.programs import TOP, need, run, with_memory
 
 # The address space in KiB. Python and the file need most of it.
 ROOM = 400 << 10
 MIB = 1 << 20
 STEPS = 100000
+NO_LIMIT = (1 << 64) - 1
 IMPORTS, EXPORTS = (0, 0, 0x1000, 40), (0x1000, 40, 0, 0)
 
 
@@ -147,12 +148,14 @@ OUT = 7
 # of rows.
 ROWS = {
     "sections of an object, all of one long name": (
-        walked("sections", read="read_object"), lambda: object_of_one_name(MIB), 4500, 0, 13107),
+        walked("sections", read="read_object"), lambda: object_of_one_name(MIB), 500, 0, 13107),
+    "sections of an object, all of one long name, without a limit": (
+        walked("sections", read="read_object", longest=NO_LIMIT), lambda: object_of_one_name(MIB), 4500, 0, 13107),
     "sections of an object, of names that are cut": (
         walked("sections", read="read_object", longest=200), lambda: object_of_one_name(MIB), 100, 0, 13107),
     "sections of a Terse Executable, all of one long name": (
-        walked("sections", read="read_te"), lambda: te_of_one_name(16 * MIB), 5000, 0, 255),
-    "sections of an image, all of one long name": (walked("sections"), lambda: image_of_one_name(MIB), 4500, 0, 13107),
+        walked("sections", read="read_te", longest=NO_LIMIT), lambda: te_of_one_name(16 * MIB), 5000, 0, 255),
+    "sections of an image, all of one long name": (walked("sections"), lambda: image_of_one_name(MIB), 500, 0, 13107),
     "sections of an image, of names that are cut": (walked("sections", longest=200), lambda: image_of_one_name(MIB), 100, 0, 13107),
     "symbols of one long name that is cut": (
         walked("symbols", read="read_object", longest=200), lambda: symbols_of_one_name(MIB), 100, 0, 29127),
@@ -192,6 +195,57 @@ class Limits(unittest.TestCase):
                 milliseconds, *found = map(int, out.split())
                 self.assertEqual(found, wanted)
                 self.assertLessEqual(milliseconds, most)
+
+
+def named(word, name):
+    """A file for a walk, in which a text of a row is this name; the call that reads it."""
+    if word == "sections":
+        return struct.pack("<HHIIIHH", 0x8664, 1, 0, 60, 0, 0, 0) + sections(1) + struct.pack("<I", len(name) + 5) + name + b"\0", "read_object"
+    if word == "symbols":
+        symbol = struct.pack("<IIIhHBB", 0, 4, 0, 1, 0, 2, 0)
+        return struct.pack("<HHIIIHH", 0x8664, 0, 0, 20, 1, 0, 0) + symbol + struct.pack("<I", len(name) + 5) + name + b"\0", "read_object"
+    if word == "exports":
+        return images.library(name, [(name, b"a." + name[2:])]), "read_image"
+    return images.importer([(name, [name])]), "read_image"
+
+
+class Names(unittest.TestCase):
+    def rows(self, word, name, longest):
+        """The first row of a walk, by the names of its fields."""
+        file, read = named(word, name)
+        found, fault = image_of(file, options(longest=longest, mapping=2), read)
+        rows, why = Walk(found, word).walk(3)
+        self.assertEqual((fault.status, why), (0, (0, 0)))
+        self.directory = records().ExportDirectory()
+        test = calls().goblin_pe_read_export_directory(c.byref(found), c.byref(self.directory))
+        self.assertEqual(test.status, 0)
+        return dict(zip((field for field, _ in getattr(records(), WALKS[word][0])._fields_), rows[0]))
+
+    def test_names_of_at_most_the_limit_are_whole(self):
+        """Also by the default, which is 4,096 bytes. Without a limit, all are."""
+        limits = (0, 4096), (4095, 4095), (1, 1), ((1 << 32) - 1, 1 << 32), (1 << 32, 1 << 32), (NO_LIMIT, 1 << 32)
+        for word in "sections", "symbols", "imports", "libraries", "exports":
+            for longest, most in limits:
+                for size in 4095, 4096, 4097, 9000:
+                    with self.subTest(word, longest=longest, size=size):
+                        name = b"n" * size
+                        row, wanted = self.rows(word, name, longest), (name[:most], size > most)
+                        self.assertEqual((row["name"], row["is_name_cut"]), wanted)
+                        if word == "imports":
+                            self.assertEqual((row["dll"], row["is_library_cut"]), wanted)
+                        if word == "exports":
+                            dll, other, _, kind, is_cut, _ = row["forwarder"]
+                            self.assertEqual((dll, other, kind, is_cut), (b"a", name[2:max(most, 2)], 1, size > most))
+                            self.assertEqual((self.directory.name.length, self.directory.is_name_cut), (min(size, most), size > most))
+
+    def test_a_character_at_the_limit_is_left_out(self):
+        for character in "\u00E9", "\u20AC", "\U0001D11E":
+            for before in range(4096 - len(character.encode()) - 1, 4098):
+                with self.subTest(character, before=before):
+                    name = b"n" * before + character.encode() + b"n"
+                    row = self.rows("symbols", name, 0)
+                    whole = before + len(character.encode())
+                    self.assertEqual((row["name"], row["is_name_cut"]), (name[:4096 if whole <= 4096 else min(before, 4096)], whole >= 4096))
 
 
 if __name__ == "__main__":

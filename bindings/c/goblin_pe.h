@@ -320,7 +320,7 @@ struct goblin_pe_options {
     /* Zeros, because later versions may have options here. Other bytes count as an unknown
        mapping. */
     uint8_t reserved[3];
-    /* How many bytes of a name are read at most; 0 means 4,096. `GOBLIN_PE_NO_LIMIT`, and any other
+    /* How many bytes of a name are read at most; 0 means 4,096. GOBLIN_PE_NO_LIMIT, and any other
        number above 2^32 - 1, means no limit. A longer name is cut between two characters, and the
        row says so. Different names can be cut to the same bytes, so don't compare or hash a name
        that is cut. What follows the cut, except for the next character, is not tested: it may not

@@ -31,6 +31,8 @@ def follow(folder: str, dll: str, wanted: Wanted) -> None:
                 print(f"{dll} {wanted!r} is at {rva:#x}, offset {image.find_offset(rva)}")
                 return
         print(f"{dll} {wanted!r} is forwarded to {forwarder}")
+        if forwarder.is_cut:
+            raise SystemExit("the forwarder is too long")
         dll = os.path.basename(os.fsdecode(forwarder.dll)) + ".dll"
         wanted = forwarder.name if forwarder.name is not None else forwarder.ordinal or 0
     raise SystemExit("forwarded too often")

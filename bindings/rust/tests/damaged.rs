@@ -1,6 +1,6 @@
 //! What is read of damaged files: walks, partial images and forwarders.
 use goblin_pe::{
-    Budget, Cause, DirectoryType, Error, ErrorKind, Forwarder, Image, Import, Imported, Mapping,
+    Budget, Cause, DirectoryType, Error, ErrorKind, Forwarder, Image, Import, Mapping,
     Options, Pe, Region, Row, Table, Text, Walk,
 };
 use std::fmt::Debug;
@@ -171,7 +171,7 @@ fn forwarders_are_those_at_their_addresses() -> Result<(), Error> {
     let (ws2, ntdll) = (Text(b"WS2_32"), Text(b"NTDLL"));
     let (ordinal, name) = (3, Text(b"RtlZeroMemory"));
     assert_eq!(forwarders[0], Forwarder::Ordinal { dll: ws2, ordinal });
-    assert_eq!(forwarders[1], Forwarder::Name { dll: ntdll, name });
+    assert_eq!(forwarders[1], Forwarder::Name { dll: ntdll, name, is_cut: false });
     for export in &pe.exports {
         let address = pe.image.find_export_by_ordinal(export.ordinal)?.expect("an address");
         assert_eq!((address.rva, address.is_forwarder), (export.rva, export.forwarder.is_some()));

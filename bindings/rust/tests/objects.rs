@@ -53,8 +53,8 @@ fn relocations_and_symbols_are_those_of_the_file() -> Result<(), Error> {
 fn auxiliary_records_have_a_kind() -> Result<(), Error> {
     let bytes = sample("object_x64.obj");
     let with_one = |it: &Symbol| it.number_of_aux_symbols == 1;
-    let budget = Budget::default();
-    let mut symbols = object(&bytes).symbols(&budget).map_while(Result::ok);
+    let (object, budget) = (object(&bytes), Budget::default());
+    let mut symbols = object.symbols(&budget).map_while(Result::ok);
     let first = symbols.find(with_one).expect("a symbol with one");
     for (storage_class, typ, section_number, kind) in [
         (2, 0x20, 1, "FunctionDefinition"),

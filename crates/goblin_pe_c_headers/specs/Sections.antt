@@ -72,9 +72,10 @@ abbrev pub row_of : PeImage → ℕ → List ℕ → SectionRow
 row_of image i header =
     let s = section_moved (displacement_of image) (section_record Little header) in
     let long = long_name image s.name in
-    let name = cut_name (longest_of image.options) (unwrap_or long (before_nul (take 8 header))) in
+    let longest = longest_of image.options in
+    let name = cut_name longest (unwrap_or long (before_nul (take 8 header))) in
     record {
-      section = record s { real_name = option_map (λ t. (cut_name (longest_of image.options) t).0) long };
+      section = record s { real_name = option_map (λ t. (cut_name longest t).0) long };
       name = name;
       index = i;
       relocations = relocations_begin s;

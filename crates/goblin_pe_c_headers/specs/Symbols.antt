@@ -1,6 +1,7 @@
 -- The symbols of a table from one of its records on, and what a call gives of them.
 use Rattle.std.specs.Prelude.{◌≡◌, ℕ, zero, suc, ◌+◌, ◌-◌, ◌*◌, ◌/◌, ◌==◌, if◌then◌else◌, List, []}
-use Rattle.std.specs.Prelude.{◌∷◌, Bool, is_some, length, nat_lt, take, drop, slice_index, true, Option, Some, None}
+use Rattle.std.specs.Prelude.{◌∷◌, Bool, is_some, length, nat_lt, take, drop, slice_index, true}
+use Rattle.std.specs.Prelude.{Option, Some, None}
 use Rattle.std.specs.{Option.unwrap_or, Str.is_utf8}
 use Rattle.goblin_base.specs.{declared.endian.Endian.TheVariants.Little, Answers.◌>>=◌}
 use Rattle.goblin_base.specs.{Bytes.text_within, Reading.Reading}

@@ -1,6 +1,6 @@
 -- The records of imports, as definitions.
 use Rattle.std.specs.Prelude.{◌≡◌, ℕ, Bool, List, [], ◌∷◌, ◌++◌, Option, Some, if◌then◌else◌}
-use Rattle.std.specs.Prelude.{◌+◌, ◌==◌, length, map, not}
+use Rattle.std.specs.Prelude.{◌+◌, ◌==◌, false, length, map, not}
 use Rattle.goblin_base.specs.{declared.error.ErrorOf.ErrorOf, Tables.Format}
 use Rattle.goblin_pe_import.specs.{ImportEntries.EntryValue, added.StepsAhead.imports_ahead}
 use Rattle.goblin_pe_import.specs.{declared.added.imports.Imports.Imports, Imports.NumberedImport}
@@ -26,26 +26,40 @@ pub record ImportModel : Type 0 where
   pub is_library_cut : Bool
   pub reserved : List ℕ
 
--- the record of an import, which is by name if its name is in the file; one by ordinal has none
-abbrev pub import_for_c : Option ℕ → NumberedImport → ImportModel
-import_for_c longest x =
-    let whole : List ℕ = if x.import.is_borrowed then x.import.name else [] in
-    let name = cut_name longest whole in
-    let library = cut_name longest x.import.dll in
+-- an import with whole names, which is by name if its name is in the file; one by ordinal has none
+abbrev pub whole_import : NumberedImport → ImportModel
+whole_import x =
+    let name : List ℕ = if x.import.is_borrowed then x.import.name else [] in
     record {
-      name = name.0;
-      dll = library.0;
+      name = name;
+      dll = x.import.dll;
       iat_rva = x.import.offset;
       hint_name_rva = x.import.rva;
       library_index = x.library;
       thunk_index = x.import.slot;
       hint_or_ordinal = x.import.ordinal;
       is_by_name = x.import.is_borrowed;
-      has_name = not (length whole == 0);
-      is_name_cut = name.1;
-      is_library_cut = library.1;
+      has_name = not (length name == 0);
+      is_name_cut = false;
+      is_library_cut = false;
       reserved = 0 ∷ 0 ∷ [];
     }
+
+-- the names of a record, cut at a limit
+abbrev pub cut_import : Option ℕ → ImportModel → ImportModel
+cut_import longest m =
+    let name = cut_name longest m.name in
+    let library = cut_name longest m.dll in
+    record m {
+      name = name.0;
+      dll = library.0;
+      is_name_cut = name.1;
+      is_library_cut = library.1;
+    }
+
+-- the record of an import
+abbrev pub import_for_c : Option ℕ → NumberedImport → ImportModel
+import_for_c longest x = cut_import longest (whole_import x)
 
 abbrev pub import_model : PeImport → ImportModel
 import_model x = record {

@@ -18,7 +18,7 @@ ghost use Rattle.goblin_pe_c_tables.specs.Imports.{GivesHere};
 use crate::batch::{Batched, at_room, skip_table};
 use crate::export::{PeExport, export_record, put_export};
 use crate::forwarder::no_forwarder;
-use crate::import::{PeImport, import_record};
+use crate::import::{PeImport, put_import};
 use goblin_pe::added::{Exports, FileImports, ImportCursor, Imports, Layout, Passed};
 use goblin_pe::import::Bitfield;
 use goblin_pe::{Part, ResultOf};
@@ -158,7 +158,7 @@ fn fill_here<'a, 'm, 'e, T: Bitfield<'a>>(
         let Some(import) = ascii.next_import() else {
             break 'ascii;
         };
-        records[count] = import_record(bytes, &import, longest);
+        put_import(&mut records[count], bytes, &import, longest);
         count += 1;
     }
     imports.go_on(&ascii);
@@ -238,7 +238,7 @@ fn fill_imports<'a, 'm, 'e>(
         let mut limit = Some(left);
         match imports.next_within(&mut limit) {
             Some(Ok(import)) => {
-                records[count] = import_record(bytes, &import, longest);
+                put_import(&mut records[count], bytes, &import, longest);
                 left = limit.unwrap_or(0);
                 passed = imports.passed();
                 count = fill_library(bytes, &mut imports, records, count + 1, &mut left, longest);

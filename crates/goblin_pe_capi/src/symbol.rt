@@ -11,9 +11,9 @@ use goblin_pe_c_headers::found::put_found;
 use goblin_pe_c_headers::image::{PeImage, PeSlice, slice_record};
 use goblin_pe_c_headers::symbol::{PeSymbol, string_at};
 
-/// Sets `text` to the text at an offset of the string table, up to a NUL. A text that is longer than
-/// `options.longest_name` ends with the character that passes the limit. The offset counts from the
-/// table's length field, as stored offsets do.
+/// Sets `text` to the text at an offset of the string table, up to a NUL. A text that is longer
+/// than `options.longest_name` ends with the character that passes the limit. The offset counts
+/// from the table's length field, as stored offsets do.
 ///
 /// Returns whether there is one, and it is UTF-8.
 #[unsafe(no_mangle)]

@@ -23,9 +23,9 @@ pub ascii-preserved : goal.ascii-preserved
 ascii-preserved g c =
     let further = c.ascii.invariant.1 in
     let gives = c.in-Some-next_import.ensures in (
-      here-more g.T.Bitfield.format c.args.imports.now _ _ _ (Fills c.args.longest c.args.records.now (set c.ascii.records c.ascii.count c.import_record.result) c.args.first (c.ascii.count + 1)) c.ascii.invariant.0 c.in-Some-next_import.import gives.gives.0 gives.counted gives.passes (ap (λ (i : Imports g.row.T.Denot). passed_of i) gives.gives.1) (filled-more c.args.longest c.args.records.now c.ascii.records c.args.first c.ascii.count c.in-Some-next_import.import c.import_record.result (omega (arith, c.ascii-test.true, c.ascii.invariant.3, c.requires)) c.import_record.ensures),
+      here-more g.T.Bitfield.format c.args.imports.now _ _ _ (Fills c.args.longest c.args.records.now (set c.ascii.records c.ascii.count c.put_import.new.place) c.args.first (c.ascii.count + 1)) c.ascii.invariant.0 c.in-Some-next_import.import gives.gives.0 gives.counted gives.passes (ap (λ (i : Imports g.row.T.Denot). passed_of i) gives.gives.1) (filled-more c.args.longest c.args.records.now c.ascii.records c.args.first c.ascii.count c.in-Some-next_import.import c.put_import.new.place (omega (arith, c.ascii-test.true, c.ascii.invariant.3, c.requires)) c.put_import.ensures),
       omega (arith, further),
       gives.gives.1 ∙ c.ascii.invariant.2,
-      length-set c.ascii.records c.ascii.count c.import_record.result ∙ c.ascii.invariant.3,
+      length-set c.ascii.records c.ascii.count c.put_import.new.place ∙ c.ascii.invariant.3,
       λ _. omega (arith, c.ascii-test.true),
     )

@@ -22,8 +22,8 @@ imports-preserved c =
     let there = (library-given next last _ filled.filled).kept m places.magic bytes kept in
     let goes = goes-at m places bytes c.cursor_for_c.result c.cursor.result last there (c.cursor.ensures.left m places.magic bytes there) (sym c.cursor.ensures.is) c.cursor_for_c.ensures in
     rw c.passed-passed-in-Some-Ok.ensures
-    (library-more c.imports.invariant x next last c.cursor_for_c.result c.next_within.new.steps c.unwrap_or-left.result c.fill_library-count.new.left c.import_record.result c.fill_library-count.new.records c.fill_library-count.result
-    c.longest_in-longest.result c.longest_in-longest.ensures is c.unwrap_or-left.ensures c.imports-test.true c.import_record.ensures filled.filled filled.counted goes)
+    (library-more c.imports.invariant x next last c.cursor_for_c.result c.next_within.new.steps c.unwrap_or-left.result c.fill_library-count.new.left c.put_import.new.place c.fill_library-count.new.records c.fill_library-count.result
+    c.longest_in-longest.result c.longest_in-longest.ensures is c.unwrap_or-left.ensures c.imports-test.true c.put_import.ensures filled.filled filled.counted goes)
 
 pub returns-in-Some-Err-2 : goal.returns-in-Some-Err-2
 returns-in-Some-Err-2 c =
