@@ -160,7 +160,7 @@ def call_of(doc: str, text: str) -> Declared:
     name, taken, answer = read(r'pub extern "C" fn (\w+)(?:<\'a>)?\((.*?),?\s*\) -> (\w+)\n', text)
     pairs = [it.split(": ") for it in re.split(r",\s+", taken.strip()) if it]
     return Declared(name.replace("goblin_pe_raw_", "goblin_pe_"), doc,
-                    [Item(it, type_of(kind), "") for it, kind in pairs if kind != "Global"], type_of(answer))
+                    [Item(it, type_of(kind), "") for it, kind in pairs], type_of(answer))
 
 
 def about(source: str) -> str:
