@@ -215,6 +215,11 @@ class Interface:
         self.enums = {named(name): self.enums[named(name)] for name in ENUMS}
         self.about = {it.stem: about(it.read_text("utf-8")) for it in (CRATES / LIBRARY / "src").glob("*.rt")}
 
+        # a call of the header may be two of the library's: one for a null pointer in place of `faults`
+        for name in [it for it in self.calls if it.endswith("_with_faults")]:
+            plain = name[: -len("_with_faults")]
+            self.calls[plain] = self.calls[plain]._replace(items=self.calls.pop(name).items)
+
     def _take(self, doc: str, marks: str, text: str) -> None:
         # takes a declaration up, if it is one of the interface
         enum = re.match(r"(?:pub(?:\(crate\))? )?enum (\w+) \{", text)

@@ -6,15 +6,15 @@ ghost use Rattle.std.specs.Prelude.{◌≡◌};
 /// The number of this interface. A caller that declares another one has another number.
 #[unsafe(no_mangle)]
 pub extern "C" fn goblin_pe_interface() -> u32
-    ensures { result ≡ 3976888568 }
+    ensures { result ≡ 1839396298 }
 {
-    3_976_888_568
+    1_839_396_298
 }
 
 /// The same, by a name that no other interface has, with which programs in C are linked.
 #[unsafe(no_mangle)]
-pub extern "C" fn goblin_pe_interface_ed0a80f8() -> u32
-    ensures { result ≡ 3976888568 }
+pub extern "C" fn goblin_pe_interface_6da2f5ca() -> u32
+    ensures { result ≡ 1839396298 }
 {
-    3_976_888_568
+    1_839_396_298
 }
