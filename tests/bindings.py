@@ -110,11 +110,11 @@ def options(permissive=False, longest=0, mapping=0):
 def image_of(data, how=None, call="read_image"):
     """The image that a call reads from bytes, and the fault. The image keeps the bytes."""
     image = records().Image()
-    also = {"read_partial_image": [records().HeaderFaults()], "read_te": [records().TeHeader()]}.get(call, [])
+    also = {"read_image": [None], "read_with_faults": [records().HeaderFaults()], "read_te": [records().TeHeader()]}.get(call, [])
     buffer = c.create_string_buffer(bytes(data), len(data) or 1)
     image.kept = buffer
-    fault = getattr(calls(), f"goblin_pe_{call}")(
-        buffer, len(data), c.byref(how or options()), c.byref(image), *map(c.byref, also))
+    fault = getattr(calls(), f"goblin_pe_{call.replace('with_faults', 'image')}")(
+        buffer, len(data), c.byref(how or options()), c.byref(image), *(it and c.byref(it) for it in also))
     return image, fault
 
 

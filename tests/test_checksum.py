@@ -39,7 +39,7 @@ class Checksums(unittest.TestCase):
         """The words come after as many zeros as lie between the PE signature and the field."""
         for data, field, wanted in SUMS:
             with self.subTest(data=data, field=field):
-                (found, _), total = image_of(bytes(88) + data, None, "read_partial_image"), ctypes.c_uint32()
+                (found, _), total = image_of(bytes(88) + data, None, "read_with_faults"), ctypes.c_uint32()
                 found.has_optional_header, found.dos_header.pe_pointer = True, field
                 self.assertTrue(calls().goblin_pe_checksum(ctypes.byref(found), ctypes.byref(total)))
                 self.assertEqual(total.value, wanted + 88)

@@ -8,7 +8,7 @@ import unittest
 import uuid
 
 from tests import hostile
-from tests.bindings import Walk, calls, error_of, image_of, package, records, refusal, test
+from tests.bindings import Walk, calls, error_of, image_of, options, package, records, refusal, test
 from tests.images import DEFAULT_STUB, sample, with_parts
 from tests.programs import BY_NAME, CC, IMAGES, SAMPLES, need
 
@@ -220,12 +220,13 @@ REFUSED_TABLES = (
 ALL_PARTS = ("dos_header", "coff_header", "standard_fields", "windows_fields", "directories")
 CUT, PAST_END, ROM = ("TOO_BIG", None, 0, 0), ("BAD_OFFSET", None, 0, 0), ("BAD_MAGIC", None, 0x107, 0)
 NO_IMAGE, NO_NUMBER = ("MALFORMED", "DOS_MAGIC", 0x6F6E, 0), ("MALFORMED", "NAME_DECIMAL", 0, 0)
+SEVENTEEN, MOST = (("MALFORMED", "DIRECTORY_COUNT", count, 0) for count in (17, 0xFFFFFFFF))
 OF_SECTIONS = ("section_table", "section_names")
 PARTS = (
     ("a sound file", SAMPLE, None, {}, (0x14C, 0x10B, [0, 1], [b".rdata"], 0, 2, 2)),
-    ("seventeen data directories", with_parts(SAMPLE, (0xB4, b"\x11")), ("MALFORMED", "DIRECTORY_COUNT", 17, 0), {},
+    ("seventeen data directories", with_parts(SAMPLE, (0xB4, b"\x11")), SEVENTEEN, {"directories": SEVENTEEN},
      (0x14C, 0x10B, [0, 1], [b".rdata"], 0, 2, 2)),
-    ("as many as a number can say", with_parts(SAMPLE, (0xB4, b"\xFF" * 4)), ("MALFORMED", "DIRECTORY_COUNT", 0xFFFFFFFF, 0), {},
+    ("as many as a number can say", with_parts(SAMPLE, (0xB4, b"\xFF" * 4)), MOST, {"directories": MOST},
      (0x14C, 0x10B, [0, 1], [b".rdata"], 0, 2, 2)),
     ("the magic of a ROM image", with_parts(SAMPLE, (0x58, b"\x07\x01")), ROM, dict.fromkeys(ALL_PARTS[2:], ROM),
      (0x14C, None, [], [b".rdata"], 0, 0, 0)),
@@ -399,6 +400,13 @@ class Partial(unittest.TestCase):
                     self.assertEqual((found.coff_header.machine, magic, list(entries(found)), len(names), missing),
                                      (*wanted[:3], len(wanted[3]), wanted[4]))
                     self.assertEqual([it for it, own in zip(names, wanted[3]) if own], [own for own in wanted[3] if own])
+
+    def test_with_unknown_options_no_part_is_read(self):
+        unknown, image, faults = options(mapping=4), records().Image(kind=77), records().HeaderFaults()
+        for given, kind in (None, 77), (ctypes.byref(faults), 1):
+            fault = calls().goblin_pe_read_image(bytes(SAMPLE), len(SAMPLE), ctypes.byref(unknown), ctypes.byref(image), given)
+            self.assertEqual((fault.status, fault.first, image.kind, image.section_count), (6, 4, kind, 0))
+        self.assertEqual({(part.status, part.first) for part in (getattr(faults, it) for it, _ in faults._fields_)}, {(6, 4)})
 
     def test_the_tables_of_a_refused_file_are_walked(self):
         for name, file, _, _, wanted in PARTS:

@@ -11,7 +11,7 @@ from tests.bindings import COUNTED, OF_ROWS, WALKS, Walk, calls, image_of, libra
 from tests.programs import BY_NAME, CC, IMAGES, OBJECTS, TERSE, need
 
 STEPS = 7  # The status of a walk without steps.
-READS = ("read_image", "read_partial_image", "read_object", "read_te")
+READS = ("read_image", "read_with_faults", "read_object", "read_te")
 
 
 def setUpModule():
@@ -238,7 +238,7 @@ class Walks(unittest.TestCase):
         digits = random.Random(2)
         for data in (BY_NAME.read_bytes(), OBJECTS[0].read_bytes(), images.own_tables(30)):
             for _ in range(200):
-                image, _ = image_of(data, None, "read_partial_image")
+                image, _ = image_of(data, None, "read_with_faults")
                 forged = bytearray(image)
                 for _ in range(6):
                     at = digits.randrange(16, len(forged))

@@ -28,8 +28,9 @@ static bool read_file(const char *name)
 
 static bool is_read(bool is_object)
 {
-    return (is_object ? goblin_pe_read_object : goblin_pe_read_image)(bytes, length, NULL, &image).status ==
-           GOBLIN_PE_STATUS_OK;
+    struct goblin_pe_fault fault = is_object ? goblin_pe_read_object(bytes, length, NULL, &image)
+                                             : goblin_pe_read_image(bytes, length, NULL, &image, NULL);
+    return fault.status == GOBLIN_PE_STATUS_OK;
 }
 
 /* Walks over a table from a cursor on, or over the tables in its rows by `inner`. Returns whether it comes to the end. */

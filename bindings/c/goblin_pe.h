@@ -18,7 +18,7 @@
            char text[GOBLIN_PE_FAULT_ROOM];
            size_t steps = 10000, skipped = 0, length = fread(file, 1, sizeof file, stdin);
            if (length == sizeof file || ferror(stdin)) return puts("it can't be read whole"), 2;
-           struct goblin_pe_fault fault = goblin_pe_read_image(file, length, &options, &image);
+           struct goblin_pe_fault fault = goblin_pe_read_image(file, length, &options, &image, NULL);
            if (!fault.status) do {
                fault = goblin_pe_next_imports(&image, &cursor, rows, 4096, &steps, &batch);
                for (size_t i = 0; i < batch.count; i++) {
@@ -70,7 +70,7 @@
    pointer that you change has to point at as many bytes as its length says. Compare records field
    by field: what lies between their fields has no meaning.
 
-   goblin_pe_read_partial_image fills the record with what is there of a damaged header.
+   With `faults`, goblin_pe_read_image fills the record with what is there of a damaged header.
    goblin_pe_read_object and goblin_pe_read_te fill the same record from a COFF object and from a
    Terse Executable.
 
@@ -161,7 +161,7 @@
    allocates memory, keeps a state or takes a lock, so a signal handler may make calls, too.
 
    A call that returns a fault, or false, changes none of its outputs, with three exceptions: the
-   batch, the memory of section_data and memory_at, and what read_partial_image fills.
+   batch, the memory of section_data and memory_at, and what read_image fills with `faults`.
 
    Time
    ----
@@ -171,8 +171,7 @@
 
    call                       time at most
    kind_of                    constant
-   read_image                 n, and a name for each section
-   read_partial_image         n, and a name for each section
+   read_image                 n, and a name for each section; twice that with `faults`
    read_object                a name for each section
    read_te                    s
    next_sections              a name for each row
@@ -228,17 +227,17 @@ extern "C" {
    have different numbers. A program linked in C gets the matching library, or does not link.
    One that loads the library at run time defines GOBLIN_PE_LOADED_AT_RUN_TIME before it includes
    this header, and compares the two numbers first. */
-#define GOBLIN_PE_INTERFACE 0xf16cb43eu
+#define GOBLIN_PE_INTERFACE 0x431ad519u
 uint32_t goblin_pe_interface(void);
 
 /* What follows .so. in the name of the shared library. */
-#define GOBLIN_PE_SONAME "5.f16cb43e"
+#define GOBLIN_PE_SONAME "5.431ad519"
 
 /* Only a library of this interface has this call. */
-uint32_t goblin_pe_interface_f16cb43e(void);
+uint32_t goblin_pe_interface_431ad519(void);
 #if defined(__GNUC__) && !defined(GOBLIN_PE_LOADED_AT_RUN_TIME)
 __attribute__((used)) static uint32_t (*const goblin_pe_needs_interface)(void) =
-    goblin_pe_interface_f16cb43e;
+    goblin_pe_interface_431ad519;
 #endif
 
 /* Calls that return a fault are marked, so that a compiler warns if you drop it. */
@@ -783,9 +782,8 @@ struct goblin_pe_image {
     uint32_t kind;
 };
 
-/* Which parts of a header a partial read could not read. A part that is there, or that the file
-   does not have, has the status 0. A part whose place only another part tells has that part's
-   fault. */
+/* Which parts of a header can't be read. A part that is there, or that the file does not have, has
+   the status 0. If only another part tells where a part is, it has the fault of that part. */
 struct goblin_pe_header_faults {
     /* With the PE signature. */
     struct goblin_pe_fault dos_header;
@@ -799,32 +797,28 @@ struct goblin_pe_header_faults {
     struct goblin_pe_fault standard_fields;
     /* The Windows fields of the optional header. */
     struct goblin_pe_fault windows_fields;
-    /* The data directories. The first sixteen are given, if there are more. */
+    /* The data directories. If there are more than sixteen, the first sixteen are still read. */
     struct goblin_pe_fault directories;
-    /* The section table. The complete section headers are given. */
+    /* The section table. The complete section headers are read. */
     struct goblin_pe_fault section_table;
-    /* The section names. A section whose name is bad keeps its eight bytes. */
+    /* The section names. A section with a bad name keeps its eight bytes. */
     struct goblin_pe_fault section_names;
 };
 
 /* Returns what a file is, as a `goblin_pe_kind`. Whether it can be read is another question. */
 uint32_t goblin_pe_kind_of(const uint8_t *bytes, size_t length);
 
-/* Reads the header of an image: the DOS header and stub, the Rich header, the COFF and the optional
-   header, the data directories and the section table. The tables are not looked at.
+/* Reads the headers and the section table of an image. The other tables are not looked at.
 
-   Faults: a damaged header, section table or section name, as `options.is_permissive` says;
-   OPTIONS. */
+   If `faults` is null, and the call returns a fault, `image` is not filled. If `faults` is not
+   null, both are filled in any case: `image` with zeros for the parts that can't be read, and
+   `faults` with the reasons. The call returns the same fault as without. All other calls work on
+   what was read. It is an image at all if `faults.dos_header` and `faults.coff_header` have status
+   0, and there is an optional header. Permissive mode replaces a damaged DOS stub: only `faults`
+   says why. With unknown options no part is read, and each has the fault OPTIONS.
+
+   Faults: a damaged header, as the mode says; OPTIONS. */
 GOBLIN_PE_MUST_USE struct goblin_pe_fault goblin_pe_read_image(
-    const uint8_t *bytes, size_t length, const struct goblin_pe_options *options,
-    struct goblin_pe_image *image);
-
-/* Reads the header of an image as far as it goes. Fills `image` whatever the file holds, with zeros
-   where a part can't be read, and says in `faults` why. All walks and look-ups work on such an
-   image.
-
-   Returns what `goblin_pe_read_image` would return. If the status is OPTIONS, nothing is filled. */
-GOBLIN_PE_MUST_USE struct goblin_pe_fault goblin_pe_read_partial_image(
     const uint8_t *bytes, size_t length, const struct goblin_pe_options *options,
     struct goblin_pe_image *image, struct goblin_pe_header_faults *faults);
 

@@ -521,22 +521,17 @@ uint32_t goblin_pe_kind_of(const uint8_t *bytes, size_t length)
 struct goblin_pe_fault goblin_pe_raw_read_image(
     const uint8_t *bytes, size_t length, const struct goblin_pe_options *options,
     struct goblin_pe_image *image);
-struct goblin_pe_fault goblin_pe_read_image(
-    const uint8_t *bytes, size_t length, const struct goblin_pe_options *options,
-    struct goblin_pe_image *image)
-{
-    return goblin_pe_raw_read_image(
-        length ? bytes : &nowhere, length, options ? options : &defaults, image);
-}
-
-struct goblin_pe_fault goblin_pe_raw_read_partial_image(
+struct goblin_pe_fault goblin_pe_raw_read_image_with_faults(
     const uint8_t *bytes, size_t length, const struct goblin_pe_options *options,
     struct goblin_pe_image *image, struct goblin_pe_header_faults *faults);
-struct goblin_pe_fault goblin_pe_read_partial_image(
+struct goblin_pe_fault goblin_pe_read_image(
     const uint8_t *bytes, size_t length, const struct goblin_pe_options *options,
     struct goblin_pe_image *image, struct goblin_pe_header_faults *faults)
 {
-    return goblin_pe_raw_read_partial_image(
+    if (!faults)
+        return goblin_pe_raw_read_image(
+            length ? bytes : &nowhere, length, options ? options : &defaults, image);
+    return goblin_pe_raw_read_image_with_faults(
         length ? bytes : &nowhere, length, options ? options : &defaults, image, faults);
 }
 

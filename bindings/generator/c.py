@@ -12,7 +12,7 @@ PARTS = (
     ("Options", "Mapping limits Options"),
     ("Faults", "Status Cause Counted ReadFault Fault fault_string"),
     ("The image", "Kind DosHeader CoffHeader StandardFields WindowsFields OptionalHeader DataDirectory DirectoryType RichHeader Image"
-     " HeaderFaults kind_of read_image read_partial_image read_object TeHeader read_te"),
+     " HeaderFaults kind_of read_image read_object TeHeader read_te"),
     ("Sections", "SectionCursor CoffRelocationCursor Section next_sections Region Memory section_data write_section"),
     ("Addresses", "find_offset find_rva memory_at"),
     ("Rich header", "RichEntry RichCursor next_rich_entries"),
@@ -165,13 +165,21 @@ def shim(it: Interface, c: Declared) -> str:
             arguments.append("sound_%s(%s, &its_%s)" % (snake(p.type.name), p.name, p.name))
         else:
             arguments.append(p.name)
-    raw = c.name.replace("goblin_pe_", "goblin_pe_raw_", 1)
-    line = "    return %s(" % raw
-    row = line + ", ".join(arguments) + ");\n"
+    raw, declared = c.name.replace("goblin_pe_", "goblin_pe_raw_", 1), ""
+    if c.items[-1].name == "faults":
+        declared = prototype(c._replace(items=c.items[:-1]), raw, ";") + "\n"
+        before += "    if (!faults)\n" + textwrap.indent(returned(raw, arguments[:-1]), "    ")
+        raw += "_with_faults"
+    return declared + prototype(c, raw, ";") + "\n" + prototype(c, c.name, "") + "\n{\n" + before + returned(raw, arguments) + "}\n"
+
+
+def returned(raw: str, arguments: List[str]) -> str:
+    """The line that returns what a call answers."""
+    row = "    return %s(" % raw + ", ".join(arguments) + ");\n"
     if len(row) > 101:
         row = "    return %s(\n" % raw + textwrap.fill(", ".join(it.replace(" ", "\0") for it in arguments) + ");", 100, initial_indent="        ",
                                                        subsequent_indent="        ").replace("\0", " ") + "\n"
-    return prototype(c, raw, ";") + "\n" + prototype(c, c.name, "") + "\n{\n" + before + row + "}\n"
+    return row
 
 
 def is_tested(it: Interface, p: Item) -> bool:

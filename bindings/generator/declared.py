@@ -160,7 +160,7 @@ def call_of(doc: str, text: str) -> Declared:
     name, taken, answer = read(r'pub extern "C" fn (\w+)(?:<\'a>)?\((.*?),?\s*\) -> (\w+)\n', text)
     pairs = [it.split(": ") for it in re.split(r",\s+", taken.strip()) if it]
     return Declared(name.replace("goblin_pe_raw_", "goblin_pe_"), doc,
-                    [Item(it, type_of(kind), "") for it, kind in pairs if kind != "Global"], type_of(answer))
+                    [Item(it, type_of(kind), "") for it, kind in pairs], type_of(answer))
 
 
 def about(source: str) -> str:
@@ -214,6 +214,11 @@ class Interface:
         self.constants = [*map(constants_of, CONSTANTS), sizes_of(crates_of(LIBRARY))]
         self.enums = {named(name): self.enums[named(name)] for name in ENUMS}
         self.about = {it.stem: about(it.read_text("utf-8")) for it in (CRATES / LIBRARY / "src").glob("*.rt")}
+
+        # a call of the header may be two of the library's: one for a null pointer in place of `faults`
+        for name in [it for it in self.calls if it.endswith("_with_faults")]:
+            plain = name[: -len("_with_faults")]
+            self.calls[plain] = self.calls[plain]._replace(items=self.calls.pop(name).items)
 
     def _take(self, doc: str, marks: str, text: str) -> None:
         # takes a declaration up, if it is one of the interface

@@ -44,7 +44,8 @@ def rust_files(it: Interface, ordinals: Dict[str, str]) -> Dict[str, str]:
         if p.type.form in ("slice", "table"):
             how = ("mut", "room") if p.type.is_written else ("const", "length")
             return ["%s: *%s %s" % (p.name, how[0], what), "%s: usize" % how[1]]
-        return ["%s: %s%s" % (p.name, "&mut " if p.type.is_written else "&" * p.type.is_reference, what)]
+        may_be_null = "Option<%s>" if p.name == "faults" else "%s"
+        return ["%s: %s" % (p.name, may_be_null % (("&mut " if p.type.is_written else "&" * p.type.is_reference) + what))]
 
     def call(c: Declared) -> str:
         rows = [row for p in c.items for row in parameter(p)]

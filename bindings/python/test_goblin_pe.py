@@ -759,7 +759,7 @@ class Headers(unittest.TestCase):
         whole = Image(DATA)
         header = SIGNATURE + 24
         table = header + whole.coff_header.size_of_optional_header
-        for changed, faults, missing in ((DATA[:header + 108] + b"\x11" + DATA[header + 109:], set(), 0),
+        for changed, faults, missing in ((DATA[:header + 108] + b"\x11" + DATA[header + 109:], {"directories"}, 0),
                                          (DATA[:table] + b"/abc\0" + DATA[table + 5:], {"section_names"}, 0),
                                          (DATA[:header] + b"\x07\x01" + DATA[header + 2:], {"standard_fields", "windows_fields", "directories"}, 0),
                                          (DATA[:header + 120], {"directories", "section_table"}, 4), (DATA[:table + 100], {"section_table"}, 2)):
@@ -1170,7 +1170,7 @@ class Patched(unittest.TestCase):
     def test_a_partial_image_is_mended(self):
         seventeen, _ = self.with_small_header(240, 17)
         image = Image.partial(seventeen)
-        self.assertEqual((image.patched(), {*image.header_faults}), (seventeen, set()))
+        self.assertEqual((image.patched(), {*image.header_faults}), (seventeen, {"directories"}))
         fields = image.optional_header.windows_fields._replace(number_of_rva_and_sizes=16)
         self.assertEqual(image.patched(optional_header=image.optional_header._replace(windows_fields=fields)), DATA)
 

@@ -93,7 +93,7 @@ int main(int argc, char **argv)
     size_t length = from ? fread(file, 1, sizeof file, from) : 0;
     if (!from || ferror(from) || length == sizeof file)
         return fprintf(stderr, "usage: damage FILE (below 64 MiB)\n"), 2;
-    bool is_refused = tell("refused", goblin_pe_read_partial_image(file, length, &options, &image, &faults));
+    bool is_refused = tell("refused", goblin_pe_read_image(file, length, &options, &image, &faults));
     tell_header(&faults);
     tell_tables(image);
     count_imports("imports as Windows maps", &image);

@@ -106,7 +106,7 @@ static bool is_opened(struct module *m, const char *path)
     if (!bytes || fread(bytes, 1, (size_t)length, from) != (size_t)length)
         return fprintf(stderr, "%s: it can't be read\n", m->name), false;
     fclose(from);
-    if (fails(m, goblin_pe_read_image(bytes, (size_t)length, &options, &m->image)))
+    if (fails(m, goblin_pe_read_image(bytes, (size_t)length, &options, &m->image, NULL)))
         return free(bytes), false;
     bool is_stripped = m->image.coff_header.characteristics & GOBLIN_PE_IMAGE_FILE_RELOCS_STRIPPED;
     m->base = m->image.optional_header.windows_fields.image_base + (is_stripped ? 0 : 0x10000);

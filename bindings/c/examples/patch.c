@@ -56,7 +56,7 @@ int main(int argc, char **argv)
     size_t length = from ? fread(file, 1, sizeof file, from) : 0;
     if (!from || ferror(from) || length == sizeof file || strlen(argv[4]) > sizeof section.stored_name)
         return fprintf(stderr, "usage: patch FROM STAMP SECTION NAME TO (FROM below 64 MiB)\n"), 2;
-    struct goblin_pe_fault fault = goblin_pe_read_image(file, length, &options, &image);
+    struct goblin_pe_fault fault = goblin_pe_read_image(file, length, &options, &image, NULL);
     if (!fault.status) {
         if (!find(&image, argv[3], &section))
             return fprintf(stderr, "no section %s\n", argv[3]), 1;
@@ -67,7 +67,7 @@ int main(int argc, char **argv)
     }
     if (!fault.status) {
         update_checksum(&image);
-        fault = goblin_pe_read_image(file, length, &options, &image);
+        fault = goblin_pe_read_image(file, length, &options, &image, NULL);
     }
     if (fault.status)
         return fprintf(stderr, "%s\n", goblin_pe_fault_string(&fault, text)), 1;

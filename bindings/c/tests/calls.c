@@ -178,7 +178,7 @@ static void check_header(const struct goblin_pe_image *image)
     struct goblin_pe_header_faults faults;
     size_t size = 0, written;
     uint32_t sum;
-    EXPECT_OK(goblin_pe_read_partial_image(bytes, length, NULL, &partial, &faults));
+    EXPECT_OK(goblin_pe_read_image(bytes, length, NULL, &partial, &faults));
     EXPECT(partial.section_count == image->section_count && !faults.section_table.status);
     EXPECT_OK(goblin_pe_write_header(image, NULL, 0, &size));
     EXPECT_OK(goblin_pe_write_header(image, out, size, &written));
@@ -191,7 +191,7 @@ static void check_image(void)
     struct goblin_pe_image read;
     const struct goblin_pe_image *image = &read;
     struct goblin_pe_options permissive = { .is_permissive = true };
-    EXPECT_OK(goblin_pe_read_image(bytes, length, NULL, &read));
+    EXPECT_OK(goblin_pe_read_image(bytes, length, NULL, &read, NULL));
     check_header(image);
     read.options = permissive;
     check_sections(image);
@@ -227,12 +227,12 @@ static void check_no_bytes(void)
     struct goblin_pe_section section = { 0 };
     struct goblin_pe_te_header header;
     char text[GOBLIN_PE_FAULT_ROOM];
-    struct goblin_pe_fault fault = goblin_pe_read_image(NULL, 0, NULL, &image);
+    struct goblin_pe_fault fault = goblin_pe_read_image(NULL, 0, NULL, &image, NULL);
     EXPECT(fault.status == GOBLIN_PE_STATUS_MALFORMED && fault.cause == GOBLIN_PE_CAUSE_NO_DOS_SIGNATURE);
     EXPECT(goblin_pe_fault_string(&fault, text) == text && !strcmp(text, "the file is too short for the DOS signature"));
     EXPECT(goblin_pe_read_object(NULL, 0, NULL, &image).status == GOBLIN_PE_STATUS_READ);
     EXPECT(goblin_pe_read_te(NULL, 0, NULL, &image, &header).status == GOBLIN_PE_STATUS_READ && image.kind == 77);
-    EXPECT(goblin_pe_read_partial_image(NULL, 0, NULL, &image, &faults).cause == fault.cause);
+    EXPECT(goblin_pe_read_image(NULL, 0, NULL, &image, &faults).cause == fault.cause);
     EXPECT(image.kind == GOBLIN_PE_KIND_IMAGE && !image.section_count && faults.dos_header.cause == fault.cause);
     EXPECT(goblin_pe_kind_of(NULL, 0) == GOBLIN_PE_KIND_UNKNOWN);
     EXPECT(goblin_pe_interface() == GOBLIN_PE_INTERFACE && goblin_pe_needs_interface() == GOBLIN_PE_INTERFACE);

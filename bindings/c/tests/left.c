@@ -31,7 +31,7 @@ static uint64_t listed(void)
     struct goblin_pe_export export;
     struct goblin_pe_batch batch;
     size_t steps = 10000;
-    uint64_t sum = goblin_pe_read_image(file, length, &options, &image).status;
+    uint64_t sum = goblin_pe_read_image(file, length, &options, &image, NULL).status;
     do {
         sum = 31 * sum + goblin_pe_next_imports(&image, &at_import, &import, 1, &steps, &batch).status;
         sum = 31 * sum + (batch.count ? import.hint_or_ordinal + import.name.length : 7);

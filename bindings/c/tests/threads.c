@@ -57,7 +57,7 @@ static void *reads(void *imports_wanted)
     for (int i = 0; i < 25; i++) {
         struct goblin_pe_image image, other;
         struct goblin_pe_te_header header;
-        bool is_read = !goblin_pe_read_image(files[0].bytes, files[0].length, NULL, &image).status &&
+        bool is_read = !goblin_pe_read_image(files[0].bytes, files[0].length, NULL, &image, NULL).status &&
                        count_imports(&image) == *(const size_t *)imports_wanted && begins_walks(&image) &&
                        (i % 20 || count_imports(&shared) == *(const size_t *)imports_wanted) && begins_walks(&shared);
         is_read = is_read && !goblin_pe_read_object(files[1].bytes, files[1].length, NULL, &other).status &&
@@ -82,7 +82,7 @@ int main(int argc, char **argv)
         files[i].length = fread(files[i].bytes, 1, sizeof files[i].bytes, from);
         fclose(from);
     }
-    if (status || goblin_pe_read_image(files[0].bytes, files[0].length, NULL, &shared).status ||
+    if (status || goblin_pe_read_image(files[0].bytes, files[0].length, NULL, &shared, NULL).status ||
         pthread_attr_init(&attributes) ||
         pthread_attr_setstacksize(&attributes, strtoul(argv[1], NULL, 10) * 1024))
         return 3;

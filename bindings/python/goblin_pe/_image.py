@@ -58,7 +58,7 @@ class Image:
     def __init__(self, data: Data, options: Options = Options()) -> None:
         """Reads the header and the section table of an image. PeError is raised if they can't be
         read. Image.partial reads such a file."""
-        self._read(kept(data), options, LIB.goblin_pe_read_image)
+        self._read(kept(data), options, LIB.goblin_pe_read_image, None)
 
     @classmethod
     def open(cls, path: _Path, options: Options = Options()) -> Image:
@@ -72,7 +72,7 @@ class Image:
         and `header_faults` says why. All walks and look-ups work on what is there. It reads every
         file as an image: there is no partial read of an object or a Terse Executable."""
         faults = _records.HeaderFaults()
-        image = cls._made(data, options, LIB.goblin_pe_read_partial_image, faults)
+        image = cls._made(data, options, LIB.goblin_pe_read_image, faults)
         tables = {"rich_header": Table.RICH_HEADER}
         errors = {name: error_of(getattr(faults, name), tables.get(name, Table.HEADER)) for name, _ in faults._fields_}
         image._faults = types.MappingProxyType({name: error for name, error in errors.items() if error})
@@ -147,8 +147,8 @@ class Image:
         self._data = data
         self._options, self._record = _tested(options), _records.Image()
         with held(data) as (address, length):
-            fault = call(address, length, c.byref(options._record()), c.byref(self._record), *map(c.byref, also))
-        if call is LIB.goblin_pe_read_partial_image:
+            fault = call(address, length, c.byref(options._record()), c.byref(self._record), *(it and c.byref(it) for it in also))
+        if call is LIB.goblin_pe_read_image and also[0]:
             self._refusal = error_of(fault, Table.HEADER)
         else:
             test(fault, Table.HEADER)

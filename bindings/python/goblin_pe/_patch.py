@@ -117,7 +117,7 @@ def patched(image: Image, given: Headers, sections: tuple[Section, ...], checksu
         raise no_place("the optional header would overlap the section table")
     _put(file, 0, header[:table])
     if checksum:
-        found = image._made(bytes(file), image.options, LIB.goblin_pe_read_image).checksum()
+        found = image._made(bytes(file), image.options, LIB.goblin_pe_read_image, None).checksum()
         if found is None:
             raise no_place("there is no optional header")
         _put(file, given.dos_header.pe_pointer + _CHECK_SUM, found.to_bytes(4, "little"))

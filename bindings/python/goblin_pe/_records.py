@@ -3,7 +3,7 @@ import ctypes as c
 from typing import Any, Dict, List, Tuple
 
 # The number of this interface.
-INTERFACE = 0xf16cb43e
+INTERFACE = 0x431ad519
 
 
 class Slice(c.Structure):
@@ -495,8 +495,7 @@ CALLS: Dict[str, Tuple[Any, List[Any]]] = {
     "goblin_pe_memory_at": (c.c_bool, [c.POINTER(Image), c.c_size_t, c.c_size_t, c.POINTER(Memory)]),
     "goblin_pe_section_data": (c.c_bool, [c.POINTER(Image), c.POINTER(Section), c.POINTER(Memory)]),
     "goblin_pe_kind_of": (c.c_uint32, [c.c_void_p, c.c_size_t]),
-    "goblin_pe_read_image": (Fault, [c.c_void_p, c.c_size_t, c.POINTER(Options), c.POINTER(Image)]),
-    "goblin_pe_read_partial_image": (Fault, [c.c_void_p, c.c_size_t, c.POINTER(Options), c.POINTER(Image), c.POINTER(HeaderFaults)]),
+    "goblin_pe_read_image": (Fault, [c.c_void_p, c.c_size_t, c.POINTER(Options), c.POINTER(Image), c.POINTER(HeaderFaults)]),
     "goblin_pe_read_object": (Fault, [c.c_void_p, c.c_size_t, c.POINTER(Options), c.POINTER(Image)]),
     "goblin_pe_read_te": (Fault, [c.c_void_p, c.c_size_t, c.POINTER(Options), c.POINTER(Image), c.POINTER(TeHeader)]),
     "goblin_pe_next_relocation_blocks": (Fault, [c.POINTER(Image), c.POINTER(RelocationBlockCursor), c.c_void_p, c.c_size_t, c.POINTER(Batch)]),

@@ -10,11 +10,11 @@ use crate::headers::{
 };
 
 /// The number of this interface.
-pub const INTERFACE: u32 = 0xf16c_b43e;
+pub const INTERFACE: u32 = 0x431a_d519;
 
 // Programs link only with a library of this interface, as no other one has this call.
 #[used]
-static NEEDS_INTERFACE: extern "C" fn() -> u32 = goblin_pe_interface_f16cb43e;
+static NEEDS_INTERFACE: extern "C" fn() -> u32 = goblin_pe_interface_431ad519;
 
 /// Bytes of the file.
 #[repr(C)]
@@ -734,7 +734,7 @@ const _: () = {
 #[rustfmt::skip]
 unsafe extern "C" {
     pub safe fn goblin_pe_interface() -> u32;
-    safe fn goblin_pe_interface_f16cb43e() -> u32;
+    safe fn goblin_pe_interface_431ad519() -> u32;
     pub safe fn goblin_pe_fault_string(fault: &Fault, text: &mut [u8; 256]) -> *const u8;
     pub safe fn goblin_pe_checksum<'a>(image: &Image<'a>, sum: &mut u32) -> bool;
     pub fn goblin_pe_next_exports<'a>(image: &Image<'a>, cursor: &mut ExportCursor, exports: *mut Export<'a>, room: usize, steps: &mut usize, batch: &mut Batch) -> Fault;
@@ -748,8 +748,7 @@ unsafe extern "C" {
     pub safe fn goblin_pe_memory_at<'a>(image: &Image<'a>, rva: usize, size: usize, memory: &mut Memory<'a>) -> bool;
     pub safe fn goblin_pe_section_data<'a>(image: &Image<'a>, section: &Section<'a>, memory: &mut Memory<'a>) -> bool;
     pub fn goblin_pe_kind_of(bytes: *const u8, length: usize) -> u32;
-    pub fn goblin_pe_read_image<'a>(bytes: *const u8, length: usize, options: &Options, image: &mut Image<'a>) -> Fault;
-    pub fn goblin_pe_read_partial_image<'a>(bytes: *const u8, length: usize, options: &Options, image: &mut Image<'a>, faults: &mut HeaderFaults) -> Fault;
+    pub fn goblin_pe_read_image<'a>(bytes: *const u8, length: usize, options: &Options, image: &mut Image<'a>, faults: Option<&mut HeaderFaults>) -> Fault;
     pub fn goblin_pe_read_object<'a>(bytes: *const u8, length: usize, options: &Options, image: &mut Image<'a>) -> Fault;
     pub fn goblin_pe_read_te<'a>(bytes: *const u8, length: usize, options: &Options, image: &mut Image<'a>, header: &mut TeHeader) -> Fault;
     pub fn goblin_pe_next_relocation_blocks<'a>(image: &Image<'a>, cursor: &mut RelocationBlockCursor, blocks: *mut RelocationBlock, room: usize, batch: &mut Batch) -> Fault;

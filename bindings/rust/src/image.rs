@@ -87,7 +87,7 @@ impl<'a> Image<'a> {
         let (of, length) = (bytes.as_ptr(), bytes.len());
         // SAFETY: the slice has this length.
         Image::filled(|it| unsafe {
-            ffi::goblin_pe_read_image(of, length, &options.record(), it)
+            ffi::goblin_pe_read_image(of, length, &options.record(), it, None)
         })
     }
 
@@ -119,8 +119,8 @@ impl<'a> Image<'a> {
         let (mut record, mut faults) = (ffi::Image::default(), ffi::HeaderFaults::default());
         // SAFETY: the slice has this length.
         let refusal = unsafe {
-            let options = options.record();
-            ffi::goblin_pe_read_partial_image(of, length, &options, &mut record, &mut faults)
+            let (options, faults) = (options.record(), Some(&mut faults));
+            ffi::goblin_pe_read_image(of, length, &options, &mut record, faults)
         };
         (Image { record }, HeaderFaults::of(refusal, &faults))
     }

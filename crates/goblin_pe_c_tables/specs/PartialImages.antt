@@ -1,7 +1,7 @@
 -- The record of an image as far as its header goes.
 use Rattle.std.specs.Prelude.{◌≡◌, ◌&&◌, ℕ, Bool, if◌then◌else◌, List, [], length, map}
 use Rattle.std.specs.Prelude.{min, option_map, Option, Some, None, Result, Ok, Err, IsSome}
-use Rattle.std.specs.Prelude.{MatchResult, is_err, is_ok}
+use Rattle.std.specs.Prelude.{MatchResult, is_err, is_ok, nat_lt}
 use Rattle.std.specs.Option.{is_some, unwrap_or}
 use Rattle.goblin_base.specs.declared.error.ErrorOf.{ErrorOf}
 use Rattle.goblin_base.specs.Reading.{IsRefused, Reading, Reads}
@@ -12,6 +12,7 @@ use Rattle.goblin_pe_sect.specs.SectionTable.{Section, recorded_sections, unname
 use Rattle.goblin_pe_head.specs.declared.header.coff.CoffHeader.{CoffHeader}
 use Rattle.goblin_pe_head.specs.declared.added.parts.HeaderParts.{HeaderParts}
 use Rattle.goblin_pe_head.specs.declared.header.rich.RichHeader.{RichHeader}
+use Rattle.goblin_pe_head.specs.OptionalHeader.{WindowsFields64}
 use Rattle.goblin_pe_head.specs.{declared.header.stub.DosStub.DosStub, CoffHeader.symbols_end}
 use Rattle.goblin_pe_head.specs.{CoffReadings.sections_at, RichHeader.rich_value}
 use Rattle.goblin_pe_head.specs.DosStub.{default_stub, stub_bytes}
@@ -24,10 +25,12 @@ use Rattle.goblin_pe_c_headers.specs.declared.fault.PeFault.{PeFault}
 use Rattle.goblin_pe_c_headers.specs.declared.image.PeImage.{PeImage}
 use Rattle.goblin_pe_c_headers.specs.{declared.options.PeOptions.PeOptions, Headers.optional_record}
 use Rattle.goblin_pe_c_headers.specs.{Options.header_options, RichHeaders.rich_of}
-use Rattle.goblin_pe_c_headers.specs.Faults.{fault_of, status_of}
+use Rattle.goblin_pe_c_headers.specs.{Calls.ReadsWithout, Faults.fault, Faults.fault_of}
+use Rattle.goblin_pe_c_headers.specs.Faults.{status_of}
 use Rattle.goblin_pe_c_headers.specs.ImageRecords.{IsImage, zero_image}
 use Rattle.goblin_pe_c_headers.specs.Places.{image_places, placed_sections}
 use Rattle.goblin_pe_c_tables.specs.declared.partial.PeHeaderFaults.{PeHeaderFaults}
+use Rattle.goblin_pe_c_tables.specs.ReadImages.{image_of}
 
 -- ---- the parts
 
@@ -112,6 +115,14 @@ partial_image o parts stub rich image =
       rich_header = rich_of (option_map rich_value (given_or None rich));
     }
 
+-- why the data directories can't be read; there are at most sixteen
+abbrev pub directories_fault : Result (Option WindowsFields64) ErrorOf → PeFault → PeFault
+directories_fault (Ok (Some f)) found =
+    let count = f.number_of_rva_and_sizes in
+    if nat_lt 16 count then fault 1 14 count 0 else found
+directories_fault (Ok None) found = found
+directories_fault (Err e) found = found
+
 abbrev pub faults_of : HeaderParts → Result DosStub ErrorOf → Result (Option RichHeader) ErrorOf
     → PeFault × PeFault → PeHeaderFaults
 faults_of parts stub rich table = record {
@@ -121,13 +132,35 @@ faults_of parts stub rich table = record {
   coff_header = status_of parts.coff_header;
   standard_fields = status_of parts.standard_fields;
   windows_fields = status_of parts.windows_fields;
-  directories = status_of parts.data_directories;
+  directories = directories_fault parts.windows_fields (status_of parts.data_directories);
   section_table = table.0;
   section_names = table.1;
 }
 
--- The records hold the parts of the header of a file, and why others are refused. Walks by the
--- record's places are refused for no section. The answer is that of a read of the image.
+-- the faults if no part is read, each for this reason
+abbrev pub same_faults : PeFault → PeHeaderFaults
+same_faults fault = record {
+  dos_header = fault;
+  dos_stub = fault;
+  rich_header = fault;
+  coff_header = fault;
+  standard_fields = fault;
+  windows_fields = fault;
+  directories = fault;
+  section_table = fault;
+  section_names = fault;
+}
+
+-- The record of an image holds the parts of the header of a file. Walks by the record's places are
+-- refused for no section.
+abbrev pub HoldsParts : PeOptions → List ℕ → HeaderParts → Result DosStub ErrorOf
+    → Result (Option RichHeader) ErrorOf → PeImage → Type 0
+HoldsParts o bytes parts stub rich image =
+    IsImage bytes image (partial_image o parts stub rich)
+    × ((placed_sections (image_places image)).value bytes ≡ Some (given_sections parts))
+
+-- The faults say why parts of the header of a file are refused. The answer, and the record of the
+-- image if it is not refused, are those of a read of the image; else the record holds the parts.
 pub record SaysPartial (o : PeOptions) (bytes : List ℕ) (new : PeImage × PeHeaderFaults)
     (answer : Result Unit ErrorOf) : Type 0 where
   pub parts : HeaderParts
@@ -141,7 +174,6 @@ pub record SaysPartial (o : PeOptions) (bytes : List ℕ) (new : PeImage × PeHe
   pub rich_read : Reads (option_map rich_value) rich rich_header bytes
   pub table_read : AreTableFaults bytes parts.coff_header (unwrap_or parts.section_table 0)
       (given_count parts) (is_strict (header_options o).parse_mode) table
-  pub image : IsImage bytes new.0 (partial_image o parts stub rich)
   pub faults : new.1 ≡ faults_of parts stub rich table
-  pub led : (placed_sections (image_places new.0)).value bytes ≡ Some (given_sections parts)
-  pub answered : Tests (layout (header_options o)) bytes answer
+  pub image : ReadsWithout (layout (header_options o)) bytes
+      (λ l. IsImage bytes new.0 (image_of o l.0)) (HoldsParts o bytes parts stub rich new.0) answer

@@ -5,28 +5,29 @@ ghost use Rattle.goblin_base.specs.Reading.{Reads};
 ghost use Rattle.goblin_pe_sect.specs.{Options.is_strict, SectionTable.recorded_sections};
 ghost use Rattle.goblin_pe_head.specs.{CoffHeader.symbols_end, CoffReadings.sections_at};
 ghost use Rattle.goblin_pe_head.specs.{DosStub.stub_bytes, added.HeaderParts.unnamed_sections};
-ghost use Rattle.goblin_pe.specs.Whole.{layout as file_layout};
 ghost use Rattle.goblin_pe_c_headers.specs.{Faults.status_of, ImageRecords.IsImage};
+ghost use Rattle.goblin_pe_c_headers.specs.ImageRecords.{zero_image};
 ghost use Rattle.goblin_pe_c_tables.specs.PartialImages.{AreTableFaults, SaysPartial, Tests};
-ghost use Rattle.goblin_pe_c_tables.specs.PartialImages.{faults_of, file_stub, given_count};
-ghost use Rattle.goblin_pe_c_tables.specs.PartialImages.{given_or, has_fields, is_replaced};
-ghost use Rattle.goblin_pe_c_tables.specs.PartialImages.{partial_image, sections_of, stub_size};
+ghost use Rattle.goblin_pe_c_tables.specs.PartialImages.{directories_fault, faults_of, file_stub};
+ghost use Rattle.goblin_pe_c_tables.specs.PartialImages.{given_count, given_or, has_fields};
+ghost use Rattle.goblin_pe_c_tables.specs.PartialImages.{is_replaced, partial_image, same_faults};
+ghost use Rattle.goblin_pe_c_tables.specs.PartialImages.{sections_of, stub_size};
 
-use crate::read::rich_record;
-use goblin_pe::added::{HeaderParts, section_records_of, unnamed_records};
-use goblin_pe::header::{CoffHeader, DosHeader, DosStub, Header, RichHeader};
+use crate::read::{read, rich_record};
+use goblin_pe::added::{HeaderParts, unnamed_records};
+use goblin_pe::header::{CoffHeader, DosHeader, DosStub, RichHeader};
 use goblin_pe::options::ParseOptions;
 use goblin_pe::section_table::SectionRecords;
-use goblin_pe::{Places, Result};
+use goblin_pe::{Cause, Error, Places, Result};
 use goblin_pe_c_headers::fault::{PeFault, fault_of, no_fault};
 use goblin_pe_c_headers::headers::fill_optional;
 use goblin_pe_c_headers::image::{PeImage, zero_image};
 use goblin_pe_c_headers::kind::Kind;
 use goblin_pe_c_headers::options::{PeOptions, header_options};
+use goblin_pe_sect::data_directories::NUM_DATA_DIRECTORIES;
 
-/// Which parts of a header a partial read could not read. A part that is there, or that the file
-/// does not have, has the status 0. A part whose place only another part tells has that part's
-/// fault.
+/// Which parts of a header can't be read. A part that is there, or that the file does not have, has
+/// the status 0. If only another part tells where a part is, it has the fault of that part.
 #[repr(C)]
 #[derive(Copy, Clone)]
 pub struct PeHeaderFaults {
@@ -42,11 +43,11 @@ pub struct PeHeaderFaults {
     pub standard_fields: PeFault,
     /// The Windows fields of the optional header.
     pub windows_fields: PeFault,
-    /// The data directories. The first sixteen are given, if there are more.
+    /// The data directories. If there are more than sixteen, the first sixteen are still read.
     pub directories: PeFault,
-    /// The section table. The complete section headers are given.
+    /// The section table. The complete section headers are read.
     pub section_table: PeFault,
-    /// The section names. A section whose name is bad keeps its eight bytes.
+    /// The section names. A section with a bad name keeps its eight bytes.
     pub section_names: PeFault,
 }
 
@@ -68,16 +69,6 @@ fn given_or_zeros<T: Copy>(header: &Result<T>, zeros: T) -> T
         Ok(header) => *header,
         Err(_) => zeros,
     }
-}
-
-// Whether these options read the header and the sections.
-#[tactic(auto, unfolding(goblin_pe::specs::Whole::layout))]
-fn test_layout(bytes: &[u8], opts: &ParseOptions) -> Result<()>
-    ensures { Tests (file_layout opts.now) bytes.now result }
-{
-    let header = Header::parse_with_opts(bytes, opts)?;
-    section_records_of(bytes, &header, opts)?;
-    Ok(())
 }
 
 // The DOS stub of a file.
@@ -222,6 +213,22 @@ fn partial_image<'a>(
     }
 }
 
+// The fault of the data directories, of which there are at most sixteen.
+fn directories_fault(parts: &HeaderParts) -> PeFault
+    ensures { let found = status_of parts.now.data_directories in
+        result ≡ directories_fault parts.now.windows_fields found }
+{
+    let found = fault_in(&parts.data_directories);
+    let Ok(Some(fields)) = &parts.windows_fields else {
+        return found;
+    };
+    let count = fields.number_of_rva_and_sizes as usize;
+    if NUM_DATA_DIRECTORIES < count {
+        return fault_of(&Error::Malformed(Cause::DirectoryCount(count)));
+    }
+    found
+}
+
 // The faults of these parts.
 fn faults_of(
     parts: &HeaderParts,
@@ -238,18 +245,19 @@ fn faults_of(
         coff_header: fault_in(&parts.coff_header),
         standard_fields: fault_in(&parts.standard_fields),
         windows_fields: fault_in(&parts.windows_fields),
-        directories: fault_in(&parts.data_directories),
+        directories: directories_fault(parts),
         section_table: table.0,
         section_names: table.1,
     }
 }
 
 /// Reads the header of an image as far as it goes. Fills `image` whatever the file holds, with
-/// zeros where a part can't be read, and says in `faults` why.
+/// zeros where a part can't be read, and says in `faults` why. If a read of the image is not
+/// refused, `image` is what that read fills.
 ///
 /// # Errors
 /// What a read of the image refuses; both records are filled all the same.
-pub fn read<'a>(
+pub fn read_parts<'a>(
     bytes: &'a [u8],
     options: &PeOptions,
     image: &mut PeImage<'a>,
@@ -264,5 +272,30 @@ pub fn read<'a>(
     let table = table_faults(bytes, &parts, count_given(&parts), &opts);
     *image = partial_image(bytes, options, &parts, &stub, &rich);
     *faults = faults_of(&parts, &stub, &rich, table);
-    test_layout(bytes, &opts)
+    read(bytes, options, image)
+}
+
+/// Fills `image` with zeros, and gives each part the same fault, because none is read.
+pub fn read_nothing<'a>(
+    bytes: &'a [u8],
+    options: &PeOptions,
+    fault: PeFault,
+    image: &mut PeImage<'a>,
+    faults: &mut PeHeaderFaults,
+)
+    ensures image { IsImage bytes.now image.new (zero_image options.now 1) }
+    ensures faults { faults.new ≡ same_faults fault }
+{
+    *image = zero_image(bytes, options, Kind::Image as u32);
+    *faults = PeHeaderFaults {
+        dos_header: fault,
+        dos_stub: fault,
+        rich_header: fault,
+        coff_header: fault,
+        standard_fields: fault,
+        windows_fields: fault,
+        directories: fault,
+        section_table: fault,
+        section_names: fault,
+    };
 }

@@ -6,15 +6,15 @@ ghost use Rattle.std.specs.Prelude.{◌≡◌};
 /// The number of this interface. A caller that declares another one has another number.
 #[unsafe(no_mangle)]
 pub extern "C" fn goblin_pe_interface() -> u32
-    ensures { result ≡ 4050433086 }
+    ensures { result ≡ 1125831961 }
 {
-    4_050_433_086
+    1_125_831_961
 }
 
 /// The same, by a name that no other interface has, with which programs in C are linked.
 #[unsafe(no_mangle)]
-pub extern "C" fn goblin_pe_interface_f16cb43e() -> u32
-    ensures { result ≡ 4050433086 }
+pub extern "C" fn goblin_pe_interface_431ad519() -> u32
+    ensures { result ≡ 1125831961 }
 {
-    4_050_433_086
+    1_125_831_961
 }

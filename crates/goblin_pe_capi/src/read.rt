@@ -5,11 +5,12 @@ ghost use Rattle.goblin_pe_sect.specs.Options.{is_strict};
 ghost use Rattle.goblin_pe.specs.Whole.{layout};
 ghost use Rattle.goblin_pe_c_headers.specs.Calls.{ReadsWithout, ReportedAfter};
 ghost use Rattle.goblin_pe_c_headers.specs.{Faults.options_fault, ImageRecords.IsImage};
+ghost use Rattle.goblin_pe_c_headers.specs.ImageRecords.{zero_image};
 ghost use Rattle.goblin_pe_c_headers.specs.Options.{header_options};
 ghost use Rattle.goblin_pe_c_headers.specs.Kinds.{kind_number, kind_of};
 ghost use Rattle.goblin_pe_c_headers.specs.Objects.{ObjectRowsAreRead, object_file, object_image};
 ghost use Rattle.goblin_pe_c_headers.specs.TeImages.{SaysTe, TeRecords, TeRowsAreRead, te_file};
-ghost use Rattle.goblin_pe_c_tables.specs.PartialImages.{SaysPartial};
+ghost use Rattle.goblin_pe_c_tables.specs.PartialImages.{SaysPartial, same_faults};
 ghost use Rattle.goblin_pe_c_tables.specs.ReadImages.{ImageLeadsBack, ImageRowsAreRead, image_of};
 
 use goblin_pe::header::TeHeader;
@@ -17,7 +18,7 @@ use goblin_pe_c_headers::fault::{PeFault, refused_call, status_of};
 use goblin_pe_c_headers::image::PeImage;
 use goblin_pe_c_headers::options::PeOptions;
 use goblin_pe_c_headers::{kind, object, te};
-use goblin_pe_c_tables::partial::{self, PeHeaderFaults};
+use goblin_pe_c_tables::partial::{PeHeaderFaults, read_nothing, read_parts};
 use goblin_pe_c_tables::read;
 
 /// Returns what a file is, as a [`Kind`](goblin_pe_c_headers::kind::Kind). Whether it can be read
@@ -29,11 +30,16 @@ pub extern "C" fn goblin_pe_raw_kind_of(bytes: &[u8]) -> u32
     kind::kind_of(bytes) as u32
 }
 
-/// Reads the header of an image: the DOS header and stub, the Rich header, the COFF and the
-/// optional header, the data directories and the section table. The tables are not looked at.
+/// Reads the headers and the section table of an image. The other tables are not looked at.
 ///
-/// Faults: a damaged header, section table or section name, as `options.is_permissive` says;
-/// OPTIONS.
+/// If `faults` is null, and the call returns a fault, `image` is not filled. If `faults` is not
+/// null, both are filled in any case: `image` with zeros for the parts that can't be read, and
+/// `faults` with the reasons. The call returns the same fault as without. All other calls work on
+/// what was read. It is an image at all if `faults.dos_header` and `faults.coff_header` have status
+/// 0, and there is an optional header. Permissive mode replaces a damaged DOS stub: only `faults`
+/// says why. With unknown options no part is read, and each has the fault OPTIONS.
+///
+/// Faults: a damaged header, as the mode says; OPTIONS.
 #[unsafe(no_mangle)]
 #[tactic(auto, using(goblin_pe_c_tables::proofs::Placed::image_leads_back, goblin_pe_c_tables::proofs::Named::image_rows))]
 pub extern "C" fn goblin_pe_raw_read_image<'a>(
@@ -54,27 +60,25 @@ pub extern "C" fn goblin_pe_raw_read_image<'a>(
     status_of(read::read(bytes, options, image))
 }
 
-/// Reads the header of an image as far as it goes. Fills `image` whatever the file holds, with
-/// zeros where a part can't be read, and says in `faults` why. All walks and look-ups work on such
-/// an image.
-///
-/// Returns what [`goblin_pe_read_image`] would return. If the status is OPTIONS, nothing is filled.
+/// As [`goblin_pe_raw_read_image`], with faults.
 #[unsafe(no_mangle)]
-pub extern "C" fn goblin_pe_raw_read_partial_image<'a>(
+pub extern "C" fn goblin_pe_raw_read_image_with_faults<'a>(
     bytes: &'a [u8],
     options: &PeOptions,
     image: &mut PeImage<'a>,
     faults: &mut PeHeaderFaults,
 ) -> PeFault
     ensures { ReportedAfter (options_fault options.now) result
-        ((image.new ≡ image.old) × (faults.new ≡ faults.old))
+        (IsImage bytes.now image.new (zero_image options.now 1)
+        × (faults.new ≡ same_faults (options_fault options.now)))
         (SaysPartial options.now bytes.now (image.new, faults.new)) }
 {
     let refusal = refused_call(options);
     if refusal.status != 0 {
+        read_nothing(bytes, options, refusal, image, faults);
         return refusal;
     }
-    status_of(partial::read(bytes, options, image, faults))
+    status_of(read_parts(bytes, options, image, faults))
 }
 
 /// Reads the header of a COFF object. Walk its sections, symbols and relocations. It has no
