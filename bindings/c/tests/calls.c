@@ -224,7 +224,6 @@ static void check_no_bytes(void)
 {
     struct goblin_pe_image image = { .kind = 77 };
     struct goblin_pe_header_faults faults;
-    struct goblin_pe_section section = { 0 };
     struct goblin_pe_te_header header;
     char text[GOBLIN_PE_FAULT_ROOM];
     struct goblin_pe_fault fault = goblin_pe_read_image(NULL, 0, NULL, &image, NULL);
