@@ -54,7 +54,7 @@ def ours(data: bytes) -> Optional[Dict[str, Any]]:
     end, rich = max((it for it in ends if it <= len(data)), default=len(data)), image.rich_header
     return {
         "header": (image.coff_header.machine, image.coff_header.time_date_stamp, image.coff_header.characteristics, image.entry, image.image_base),
-        "sections": [(*s[3:], s.stored_name) for s in pe.sections],
+        "sections": [(*s[3:-1], s.stored_name) for s in pe.sections],
         "imports": [(x.dll, ordinal_name(x.dll, x.ordinal or 0) if x.name is None else x.name, x.ordinal if x.name is None else x.hint, x.iat_rva)
                     for x in pe.imports],
         "exports": collections.Counter([(x.ordinal, x.rva, x.name, forwarded(x.forwarder)) for x in pe.exports]
