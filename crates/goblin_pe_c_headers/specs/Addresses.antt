@@ -15,16 +15,18 @@ use Rattle.goblin_pe_c_headers.specs.{Images.PeImage, Places.PePlaces, Places.im
 use Rattle.goblin_pe_c_headers.specs.Places.{placed_sections}
 
 -- What maps the addresses of an image: its sections and, if it is mapped, the file's front after
--- them, the file alignment, and how they are mapped.
+-- them, the alignments in the file and in memory, and how they are mapped.
 pub record MappedImage : Type 0 where
   pub sections : List Section
   pub alignment : ℕ
+  pub section_alignment : ℕ
   pub mapping : Mapping
 
 abbrev pub mapped_model : Mapped → MappedImage
 mapped_model m = record {
   sections = mapped_sections m.records;
   alignment = m.file_alignment;
+  section_alignment = m.section_alignment;
   mapping = m.mapping;
 }
 
@@ -46,6 +48,7 @@ mapped_image i =
     then option_map (λ sections. record {
       sections = with_front (front_of (view_of o) p.size_of_headers) sections;
       alignment = p.file_alignment;
+      section_alignment = i.optional_header.windows_fields.section_alignment;
       mapping = mapping_in (view_of o) (options_at o p.file_alignment);
     }) (mapping_sections o p i.bytes.now)
     else None

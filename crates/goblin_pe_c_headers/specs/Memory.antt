@@ -115,9 +115,10 @@ window_size m s =
 abbrev pub is_among : ℕ → ℕ → Section → Bool
 is_among size rva s = nat_le s.virtual_address rva && nat_lt rva (s.virtual_address + size)
 
--- a loader maps sections in whole pages; with an alignment below 512 it maps one flat file
+-- a loader maps sections in whole pages; with alignments below 512 and 4,096 it maps one flat file
 abbrev pub maps_pages : MappedImage → Bool
-maps_pages m = is_loaders m.mapping.view && nat_le 512 m.alignment
+maps_pages m =
+    is_loaders m.mapping.view && nat_le 512 m.alignment && nat_le 4096 m.section_alignment
 
 -- how many bytes the section's memory has, in which its window lies: whole pages, or those of its
 -- size or of its window

@@ -23,6 +23,8 @@ pub(crate) struct Mapped<'a> {
     pub(crate) records: MappedRecords<'a>,
     // The file alignment of the raw data.
     pub(crate) file_alignment: u32,
+    // The alignment of the sections in memory.
+    pub(crate) section_alignment: u32,
     // How addresses are mapped by these.
     pub(crate) mapping: Mapping,
 }
@@ -50,6 +52,7 @@ pub(crate) fn mapped_by<'a>(image: &PeImage<'a>) -> Option<Mapped<'a>>
     Some(Mapped {
         records: MappedRecords { records, front },
         file_alignment: places.file_alignment,
+        section_alignment: image.optional_header.windows_fields.section_alignment,
         mapping: view.mapping(&options_at(options, places.file_alignment)),
     })
 }

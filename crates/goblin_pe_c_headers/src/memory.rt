@@ -180,7 +180,9 @@ fn maps_pages(mapped: &Mapped) -> bool
 {
     match mapped.mapping.view {
         View::Sections => false,
-        View::LoadedSections | View::Loader => 512 <= mapped.file_alignment,
+        View::LoadedSections | View::Loader => {
+            512 <= mapped.file_alignment && 4096 <= mapped.section_alignment
+        }
     }
 }
 
