@@ -23,7 +23,7 @@
                fault = goblin_pe_next_imports(&image, &cursor, rows, 4096, &steps, &batch);
                for (size_t i = 0; i < batch.count; i++) {
                    put(rows[i].dll), printf(" %u ", rows[i].hint_or_ordinal), put(rows[i].name);
-                   puts(rows[i].is_name_cut ? "..." : "");
+                   puts(rows[i].is_name_cut || rows[i].is_library_cut ? "..." : "");
                }
                skipped += batch.skipped + batch.unmapped;
            } while (!batch.is_done);
@@ -166,7 +166,7 @@
    Time
    ----
    n is the file's length, s the number of its section headers. A look at a section header costs 2
-   nanoseconds. "name" is the length of one name: at most n, and at most longest_name + 16. ASCII
+   to 10 nanoseconds. "name" is the length of one name: at most n, and at most longest_name + 16. ASCII
    costs 0.15 nanoseconds a byte, other text up to 3.
 
    call                       time at most
@@ -201,9 +201,9 @@
      of names is limited: to 4,096 bytes if you set no longest_name. A row says whether a name of it
      is cut.
    - Dead entries cost time and give no row: without a limit 1 MiB may cost a minute. Set steps:
-     100,000 need 10 to 200 milliseconds, depending on the length of the names.
+     100,000 need at most a quarter of a second if the names are ASCII, 3 seconds if not.
    - Of next_export_addresses each row may cost a look at each section header: with 65,535 of them
-     0.1 milliseconds. Stop it when you have enough. */
+     0.2 milliseconds. Stop it when you have enough. */
 #ifndef GOBLIN_PE_H
 #define GOBLIN_PE_H
 
@@ -311,10 +311,10 @@ struct goblin_pe_options {
        look at no address, and do not test it. */
     uint32_t mapping;
     /* Whether damaged parts are skipped, and not refused. Walks count what they skip. Neither mode
-       reads a file that has one of these; a partial read does: a header or a section table that is
-       cut off, an optional header of an unknown magic, more than sixteen data directories, a
-       section name of a slash and no number, or a marker Rich with no marker DanS before it or with
-       a broken word between them. */
+       reads a file that has one of these, but with `faults` the rest is filled: a header or a
+       section table that is cut off, an optional header of an unknown magic, more than sixteen data
+       directories, a section name of a slash and no number, or a marker Rich with no marker DanS
+       before it or with a broken word between them. */
     bool is_permissive;
     /* Zeros, because later versions may have options here. Other bytes count as an unknown
        mapping. */
@@ -754,14 +754,14 @@ struct goblin_pe_image {
     struct goblin_pe_options options;
     /* The file offset of the section table. */
     size_t section_table;
-    /* How many section headers the walks and the mapping use. In a partial image it may be less
-       than `coff_header.number_of_sections`: the file ends before the others. */
+    /* How many section headers the walks and the mapping use. After a fault it may be less than
+       `coff_header.number_of_sections`: the file ends before the others. */
     size_t section_count;
     /* The DOS header. */
     struct goblin_pe_dos_header dos_header;
     /* The COFF header. */
     struct goblin_pe_coff_header coff_header;
-    /* Whether there is an optional header; in a partial image, whether all its fields before the
+    /* Whether there is an optional header; after a fault, whether all its fields before the
        directories were read. If not, no address has an offset, except with
        `GOBLIN_PE_MAPPING_IDENTITY`. */
     bool has_optional_header;
@@ -938,7 +938,7 @@ struct goblin_pe_section {
 };
 
 /* Gives the next section headers. Never faults on a name: a read of the image has tested them, and
-   in a partial image a bad one is its eight bytes.
+   after a fault a bad one is its eight bytes.
 
    Faults: READ if the file has no room for `image.section_count` headers. */
 GOBLIN_PE_MUST_USE struct goblin_pe_fault goblin_pe_next_sections(
@@ -1022,7 +1022,8 @@ bool goblin_pe_find_rva(const struct goblin_pe_image *image, size_t offset, size
 
 /* Tells what a loader puts at an RVA: the region and section, and the first `size` bytes as far as
    they are known. Fills `*memory` in any case. With `size` 0 it only looks up the region and the
-   section; with `SIZE_MAX` it gives all bytes up to the section's end.
+   section; with `SIZE_MAX` it gives all bytes up to the end of the section's memory, which has
+   whole pages as a loader maps it.
 
        if (goblin_pe_memory_at(&image, rva, 16, &memory) && memory.bytes.length == 16)
            use(memory.bytes.bytes);

@@ -413,8 +413,8 @@ class Image:
         return None if found is None else int(found.value)
 
     def memory_at(self, rva: int, size: int) -> Memory:
-        """What a loader puts at an address: at most `size` bytes, up to the end of the section. If the
-        loader maps nothing there, all bytes are missing."""
+        """What a loader puts at an address: at most `size` bytes, up to the end of the section's
+        last page. If the loader maps nothing there, all bytes are missing."""
         return self._memory(LIB.goblin_pe_memory_at, in_range(rva), in_range(size))
 
     def text_at(self, rva: int) -> bytes | None:

@@ -141,8 +141,8 @@ pub struct Budget {
 }
 
 impl Budget {
-    /// A budget with this number of steps. If the length of names is limited, 100,000 steps need 10 to
-    /// 200 milliseconds, depending on that length.
+    /// A budget with this number of steps. With names of 4,096 bytes, 100,000 steps take at most a
+    /// quarter of a second if these are ASCII, 3 seconds if not.
     pub const fn steps(steps: usize) -> Budget {
         Budget {
             steps: Cell::new(steps),

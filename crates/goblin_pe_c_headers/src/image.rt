@@ -60,14 +60,14 @@ pub struct PeImage<'a> {
     pub options: PeOptions,
     /// The file offset of the section table.
     pub section_table: usize,
-    /// How many section headers the walks and the mapping use. In a partial image it may be less
-    /// than `coff_header.number_of_sections`: the file ends before the others.
+    /// How many section headers the walks and the mapping use. After a fault it may be less than
+    /// `coff_header.number_of_sections`: the file ends before the others.
     pub section_count: usize,
     /// The DOS header.
     pub dos_header: DosHeader,
     /// The COFF header.
     pub coff_header: CoffHeader,
-    /// Whether there is an optional header; in a partial image, whether all its fields before the
+    /// Whether there is an optional header; after a fault, whether all its fields before the
     /// directories were read. If not, no address has an offset, except with
     /// [`PeMapping::Identity`](crate::options::PeMapping).
     pub has_optional_header: bool,

@@ -36,10 +36,10 @@ pub struct PeOptions {
     /// other walks look at no address, and do not test it.
     pub mapping: u32,
     /// Whether damaged parts are skipped, and not refused. Walks count what they skip. Neither
-    /// mode reads a file that has one of these; a partial read does: a header or a section table
-    /// that is cut off, an optional header of an unknown magic, more than sixteen data directories,
-    /// a section name of a slash and no number, or a marker Rich with no marker DanS before it or
-    /// with a broken word between them.
+    /// mode reads a file that has one of these, but with `faults` the rest is filled: a header or a
+    /// section table that is cut off, an optional header of an unknown magic, more than sixteen
+    /// data directories, a section name of a slash and no number, or a marker Rich with no marker
+    /// DanS before it or with a broken word between them.
     pub is_permissive: bool,
     /// Zeros, because later versions may have options here. Other bytes count as an unknown
     /// mapping.

@@ -231,7 +231,7 @@ fn fill_sections<'a>(
 }
 
 /// Gives the next section headers. Never faults on a name: a read of an image has tested them, and
-/// in a partial image a bad one is its eight bytes.
+/// after a fault a bad one is its eight bytes.
 ///
 /// # Errors
 /// Read if the file has no room for `section_count` headers; nothing but `batch` is then changed.

@@ -44,7 +44,8 @@ pub extern "C" fn goblin_pe_raw_find_rva(image: &PeImage, offset: usize, rva: &m
 
 /// Tells what a loader puts at an RVA: the region and section, and the first `size` bytes as far as
 /// they are known. Fills `*memory` in any case. With `size` 0 it only looks up the region and the
-/// section; with `SIZE_MAX` it gives all bytes up to the section's end.
+/// section; with `SIZE_MAX` it gives all bytes up to the end of the section's memory, which has whole
+/// pages as a loader maps it.
 ///
 ///     if (goblin_pe_memory_at(&image, rva, 16, &memory) && memory.bytes.length == 16)
 ///         use(memory.bytes.bytes);

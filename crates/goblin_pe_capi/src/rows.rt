@@ -25,7 +25,7 @@ use goblin_pe_c_headers::symbol::{PeSymbol, next_symbols};
 use goblin_pe_c_headers::word::{PeBaseRelocation, next_words};
 
 /// Gives the next section headers. Never faults on a name: a read of the image has tested them, and
-/// in a partial image a bad one is its eight bytes.
+/// after a fault a bad one is its eight bytes.
 ///
 /// Faults: READ if the file has no room for `image.section_count` headers.
 #[unsafe(no_mangle)]
