@@ -459,6 +459,14 @@ class Tables(unittest.TestCase):
         memory = package().Image(last).memory_at(0xFFFFFFF8, 24)
         self.assertEqual((memory.data, memory.zeros, memory.missing), (bytes(8), 0, 16))
 
+    def test_a_flat_image_has_no_pages(self):
+        """If sections are not aligned to pages, the file's next bytes follow a section in memory, and no zeros."""
+        data = with_sections([(0x200, 0x200, 0x200, 0x200), (0x400, 0x200, 0x200, 0x400)]).ljust(0x200, b"\0") + b"A" * 0x200 + b"B" * 0x200
+        for alignment, zeros in (0x200, 0), (0x1000, 0x200):
+            struct.pack_into("<I", data, 0x78, alignment)
+            memory = image(data, "AS_LOADED").memory_at(0x200, 0x400)
+            self.assertEqual((bytes(memory.data), memory.zeros, memory.missing), (b"A" * 0x200, zeros, 0x200 - zeros))
+
     def test_where_an_address_lies(self):
         headers = with_sections(IN_MEMORY)
         struct.pack_into("<I", headers, 0x94, 0x200)  # (size_of_headers)
