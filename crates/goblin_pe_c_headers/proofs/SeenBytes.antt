@@ -8,7 +8,7 @@ use Rattle.goblin_pe_sect.specs.SectionTable.{Section}
 use Rattle.goblin_pe_sect.proofs.Mapped.{found_in_window}
 use Rattle.goblin_pe_c_headers.specs.{Images.PeImage, Addresses.MappedImage, Addresses.mapped_image}
 use Rattle.goblin_pe_c_headers.proofs.Holders.{window_within}
-use Rattle.goblin_pe_c_headers.specs.Memory.{Memory, SeesFile, addressed, front_at, holder, holder_index, is_unstored, memory_at, memory_by, memory_in_file, memory_length, memory_mapped, stored_in_memory, stored_size, window_size}
+use Rattle.goblin_pe_c_headers.specs.Memory.{Memory, SeesFile, addressed, front_at, holder, holder_index, is_unstored, maps_pages, memory_at, memory_by, memory_in_file, memory_length, memory_mapped, stored_in_memory, stored_size, window_size}
 
 module _ (file : List ℕ) (p : ℕ) (inside : p < length file) where
   -- the byte at the offset, and nothing else, is known
@@ -74,6 +74,7 @@ module _ (file : List ℕ) (p : ℕ) (inside : p < length file) where
       → cond b (cond even (option_map (λ s. offset_in m.mapping s rva) (find (is_in_window m.mapping.view m.alignment rva) m.sections)) None) (Some rva) ≡ Some p
       → ((s : Section) → holder m rva ≡ Some s → is_unstored s ≡ false)
       → Sees (memory_mapped file outside rva 1 (Some m))
+  unfolding maps_pages
   by_map m outside rva small true true on even at stored = rw on (by_section m outside rva small even _ refl at stored)
   by_map m outside rva small true false on even at stored = absurd cc
   by_map m outside rva small false even on is at stored =

@@ -116,7 +116,7 @@ abbrev pub is_among : ℕ → ℕ → Section → Bool
 is_among size rva s = nat_le s.virtual_address rva && nat_lt rva (s.virtual_address + size)
 
 -- a loader maps sections in whole pages; with alignments below 512 and 4,096 it maps one flat file
-abbrev pub maps_pages : MappedImage → Bool
+unfoldable pub maps_pages : MappedImage → Bool
 maps_pages m =
     is_loaders m.mapping.view && nat_le 512 m.alignment && nat_le 4096 m.section_alignment
 

@@ -175,6 +175,7 @@ fn window_size(mapped: &Mapped, section: &SectionTable) -> usize
 }
 
 // Whether sections are mapped in whole pages.
+#[tactic(auto, unfolding(crate::specs::Memory::maps_pages))]
 fn maps_pages(mapped: &Mapped) -> bool
     ensures { result ≡ maps_pages (mapped_model mapped.now) }
 {
