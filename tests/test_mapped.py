@@ -104,7 +104,7 @@ class Ends(unittest.TestCase):
                     self.assertEqual((why, walk.counts), ((0, 0), (skipped, unmapped)) if permissive or not skipped else (UNMAPPED, (0, 0)))
 
     def test_memory_at_knows_the_same_end(self):
-        """Twenty bytes, of which the last twelve of the raw data are the first."""
+        """Twenty bytes: the last twelve of the raw data, and eight more."""
         for index, zeros in (0, 8), (10, 0), (11, 8):
             what, data, *_ = IMAGES[index]
             with self.subTest(what):
