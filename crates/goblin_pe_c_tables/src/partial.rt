@@ -213,7 +213,7 @@ fn partial_image<'a>(
     }
 }
 
-// The fault of the data directories, of which there are at most sixteen.
+// The fault of the data directories. There may be at most sixteen.
 fn directories_fault(parts: &HeaderParts) -> PeFault
     ensures { let found = status_of parts.now.data_directories in
         result ≡ directories_fault parts.now.windows_fields found }
