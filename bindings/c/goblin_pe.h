@@ -166,8 +166,8 @@
    Time
    ----
    n is the file's length, s the number of its section headers. A look at a section header costs 2
-   to 10 nanoseconds. "name" is the length of one name: at most n, and at most longest_name + 16. ASCII
-   costs 0.15 nanoseconds a byte, other text up to 3.
+   to 10 nanoseconds. "name" is the length of one name: at most n, and at most longest_name + 16.
+   ASCII costs 0.15 nanoseconds a byte, other text up to 3.
 
    call                       time at most
    kind_of                    constant

@@ -348,6 +348,9 @@ impl<'a> Image<'a> {
     }
 
     /// A walk over the export address table: all ordinals, also those without a name.
+    ///
+    /// Each row looks the sections up. With 65,535 of them it takes 0.2 milliseconds, and is one step
+    /// all the same: give such an image a small budget.
     pub fn export_addresses<'b>(&self, budget: &'b Budget) -> Walk<'a, 'b, ExportAddress> {
         Walk::of(self, budget)
     }
